@@ -1,0 +1,107 @@
+-- The laws of codes: a byte and its code give each other, and a class of bytes is a range of codes. Assumes nothing.
+use mathlib.Core.Path.{_≡_, refl, sym, ap₂, _∙_}
+use mathlib.Core.Bool.{Bool, true, false, cond, _&&_, _||_, Bool·beq}
+use mathlib.Core.List.{List, [], _∷_, map}
+use Prim.Native.Nat.{ℕ, _≤_, _<_}
+use native.Mathlib.Omega.{arith}
+use lib.Dec.{leb, eqb, lit≤}
+use borrow.Author.Tests.{le-ltb, le-leb, lt-leb, ne-eqb, leb-true, leb-false, eqb-true}
+use Rattle.text.specs.Class.{all, isDigit, isLetter, isAlnum, isTextByte}
+use Rattle.text.specs.Code.{codeOf, byteOf}
+use Rattle.text.specs.Place.{allIn}
+use Rattle.text.specs.Number.{isDigitTo}
+use Rattle.text.proofs.Logic.{and-left, and-right, or-second, beq-eq, below, below-at}
+
+pub code-high : (b : ℕ) → 90 < b → codeOf b ≡ 0
+unfolding codeOf
+code-high b h = simp (le-ltb b 48 (omega arith), lt-leb b 57 (omega arith), le-ltb b 65 (omega arith), lt-leb b 90 (omega arith))
+
+back : ℕ → Bool
+back b = eqb (codeOf b) 0 || eqb (byteOf (codeOf b)) b
+
+back-all : below back 91 ≡ true
+unfolding back codeOf byteOf
+back-all = refl
+
+small : ℕ → Bool
+small b = leb (codeOf b) 37
+
+small-all : below small 91 ≡ true
+unfolding small codeOf
+small-all = refl
+
+forth : ℕ → Bool
+forth d = eqb d 0 || eqb (codeOf (byteOf d)) d
+
+forth-all : below forth 38 ≡ true
+unfolding forth codeOf byteOf
+forth-all = refl
+
+pub code-le : (b : ℕ) → codeOf b ≤ 37
+unfolding small
+code-le b = go (leb b 90) refl
+  where
+    go : (t : Bool) → leb b 90 ≡ t → codeOf b ≤ 37
+    go true q = leb-true (codeOf b) 37 (below-at small 91 small-all b (omega (arith, leb-true b 90 q)))
+    go false q = omega (arith, code-high b (leb-false b 90 q))
+
+pub byte-code : (b : ℕ) → 1 ≤ codeOf b → byteOf (codeOf b) ≡ b
+unfolding back
+byte-code b h = go (leb b 90) refl
+  where
+    go : (t : Bool) → leb b 90 ≡ t → byteOf (codeOf b) ≡ b
+    go true q =
+        eqb-true (byteOf (codeOf b)) b
+        (or-second (eqb (codeOf b) 0) (eqb (byteOf (codeOf b)) b)
+        (below-at back 91 back-all b (omega (arith, leb-true b 90 q)))
+        (ne-eqb (codeOf b) 0 (λ e. omega arith)))
+    go false q = absurd (omega (arith, code-high b (leb-false b 90 q)))
+
+pub code-byte : (d : ℕ) → 1 ≤ d → d ≤ 37 → codeOf (byteOf d) ≡ d
+unfolding forth
+code-byte d h k =
+    eqb-true (codeOf (byteOf d)) d
+    (or-second (eqb d 0) (eqb (codeOf (byteOf d)) d) (below-at forth 38 forth-all d (omega arith)) (ne-eqb d 0 (λ e. omega arith)))
+
+-- ---- a class of bytes is a range of codes
+
+abbrev pub inRange : ℕ → ℕ → ℕ → Bool
+inRange lo hi d = leb lo d && leb d hi
+
+-- where it is so of each byte, it is so of a list
+pub class-all : (f : ℕ → Bool) (lo hi : ℕ) → ((b : ℕ) → f b ≡ inRange lo hi (codeOf b)) → (s : List ℕ) → all f s ≡ allIn lo hi (map codeOf s)
+unfolding all allIn
+class-all f lo hi one [] = refl
+class-all f lo hi one (b ∷ s) = ap₂ (λ (x y : Bool). x && y) (one b) (class-all f lo hi one s)
+
+-- it is so of each byte by a test that antt computes up to Z; above Z no byte is in the class
+by-test : (f : ℕ → Bool) (lo hi : ℕ) → 1 ≤ lo → below (λ b. Bool·beq (f b) (inRange lo hi (codeOf b))) 91 ≡ true → ((b : ℕ) → 90 < b → f b ≡ false) → (b : ℕ) → f b ≡ inRange lo hi (codeOf b)
+by-test f lo hi pos low high b = go (leb b 90) refl
+  where
+    go : (t : Bool) → leb b 90 ≡ t → f b ≡ inRange lo hi (codeOf b)
+    go true q = beq-eq (f b) (inRange lo hi (codeOf b)) (below-at (λ b. Bool·beq (f b) (inRange lo hi (codeOf b))) 91 low b (omega (arith, leb-true b 90 q)))
+    go false q = high b (leb-false b 90 q) ∙ rw (code-high b (leb-false b 90 q), lt-leb lo 0 pos)
+
+pub digit-is : (b : ℕ) → isDigit b ≡ inRange 1 10 (codeOf b)
+unfolding isDigit codeOf
+digit-is = by-test isDigit 1 10 (lit≤ tt) refl (λ b h. rw (lt-leb b 57 (omega arith), le-leb 48 b (omega arith)))
+
+pub alnum-is : (b : ℕ) → isAlnum b ≡ inRange 1 36 (codeOf b)
+unfolding isAlnum isDigit isLetter codeOf
+alnum-is = by-test isAlnum 1 36 (lit≤ tt) refl (λ b h. rw (lt-leb b 57 (omega arith), lt-leb b 90 h, le-leb 48 b (omega arith), le-leb 65 b (omega arith)))
+
+pub text-byte-is : (b : ℕ) → isTextByte b ≡ inRange 1 37 (codeOf b)
+unfolding isTextByte isAlnum isDigit isLetter codeOf
+text-byte-is =
+    by-test isTextByte 1 37 (lit≤ tt) refl
+    (λ b h. rw (lt-leb b 57 (omega arith), lt-leb b 90 h, le-leb 48 b (omega arith), le-leb 65 b (omega arith), ne-eqb b 47 (λ e. omega arith)))
+
+pub alnum-all : (s : List ℕ) → all isAlnum s ≡ allIn 1 36 (map codeOf s)
+alnum-all = class-all isAlnum 1 36 alnum-is
+
+pub text-all : (s : List ℕ) → all isTextByte s ≡ allIn 1 37 (map codeOf s)
+text-all = class-all isTextByte 1 37 text-byte-is
+
+pub digits-all : (B : ℕ) (s : List ℕ) → all (isDigitTo B) s ≡ allIn 1 B (map codeOf s)
+unfolding isDigitTo
+digits-all B = class-all (isDigitTo B) 1 B (λ b. refl)

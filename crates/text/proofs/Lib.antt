@@ -1,0 +1,8 @@
+pub mod Logic
+pub mod Codes
+pub mod Places
+pub mod Laws
+pub mod Numbers
+pub mod Order
+pub mod Unique
+mod Turn

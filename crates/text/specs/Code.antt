@@ -1,0 +1,16 @@
+-- A byte's code and a code's byte. Assumes nothing.
+use Prim.Native.Nat.{ℕ, _+_, _-_}
+use mathlib.Core.Bool.{Bool, true, false, cond}
+use lib.Dec.{ltb, leb, eqb}
+
+-- '0'..'9' 1..10, 'A'..'Z' 11..36, '/' 37, any other byte 0
+unfoldable pub codeOf : ℕ → ℕ
+codeOf b =
+    cond (ltb b 48) (cond (eqb b 47) 37 0)
+    (cond (leb b 57) (b - 47)
+    (cond (ltb b 65) 0
+    (cond (leb b 90) (b - 54) 0)))
+
+-- the byte with that code
+unfoldable pub byteOf : ℕ → ℕ
+byteOf d = cond (leb d 10) (d + 47) (cond (leb d 36) (d + 54) 47)

@@ -1,0 +1,179 @@
+// Short texts of capitals, digits and '/', at most 12 bytes, each held as one u64: 12 places of base 38, left-justified,
+// 0 for no byte, '0'..'9' 1 to 10, 'A'..'Z' 11 to 36, '/' 37. Digits to any base. Nothing here knows of lines or fields.
+ghost use mathlib.Core.Path.{_≡_};
+ghost use mathlib.Core.Bool.{true};
+ghost use Prim.Native.Nat.{_+_, _≤_};
+ghost use lib.ListN.{length};
+ghost use Rattle.text.specs.Code.{codeOf, byteOf};
+ghost use Rattle.text.specs.Number.{readNumber};
+ghost use Rattle.text.specs.Text.{packOf, sizeOf, isPacked, textOf, spliced, writtenNext, writtenBytes};
+
+pub enum Packed {
+    Text(u64),
+    Nothing,
+}
+
+pub enum Sized {
+    Bytes(usize),
+    NotOne,
+}
+
+// What a writer answers: the place after what it wrote; no room from the given place; or nothing that can be written.
+pub enum Written {
+    Next(usize),
+    NoRoom,
+    NoText,
+}
+
+pub enum Numeral {
+    Value(u64),
+    Nothing,
+}
+
+// 38 to the 12th: one more than the largest packed text could be.
+const TOP: u64 = 9065737908494995456;
+
+// A byte's code, or 0 where it has none.
+pub fn code(b: u8) -> u64
+    ensures { λ r. ⌜ r ≡ codeOf b ⌝ }
+{
+    if b < 48 {
+        if b == 47 {
+            return 37;
+        }
+        return 0;
+    }
+    if b <= 57 {
+        return (b as u64) - 47;
+    }
+    if b < 65 {
+        return 0;
+    }
+    if b <= 90 {
+        return (b as u64) - 54;
+    }
+    0
+}
+
+// The byte of a code.
+fn byte(d: u64) -> u8
+    requires { ⌜ d ≤ 37 ⌝ }
+    ensures { λ r. ⌜ r ≡ byteOf d ⌝ }
+{
+    if d <= 10 {
+        return (d + 47) as u8;
+    }
+    if d <= 36 {
+        return (d + 54) as u8;
+    }
+    47
+}
+
+// The number of the text s, where s is one.
+pub fn pack(s: &[u8]) -> Packed
+    ensures { λ r. ⌜ r ≡ packOf (now (s .entry)) ⌝ }
+{
+    if s.len() > 12 {
+        return Packed::Nothing;
+    }
+    let mut n: u64 = 0;
+    let mut w: u64 = TOP;
+    let mut i = 0;
+    while i < s.len() {
+        let c = code(s[i]);
+        if c == 0 {
+            return Packed::Nothing;
+        }
+        w = w / 38;
+        n += c * w;
+        i += 1;
+    }
+    Packed::Text(n)
+}
+
+// How many bytes the text of t has, where t is the number of one.
+pub fn size(t: u64) -> Sized
+    ensures { λ r. ⌜ r ≡ sizeOf t ⌝ }
+{
+    if t >= TOP {
+        return Sized::NotOne;
+    }
+    let mut r = t;
+    let mut w: u64 = TOP;
+    let mut k: usize = 0;
+    while r > 0 {
+        w = w / 38;
+        if r < w {
+            return Sized::NotOne;
+        }
+        r = r % w;
+        k += 1;
+    }
+    Sized::Bytes(k)
+}
+
+// Writes the text of t from place `at`, where it fits.
+fn write(t: u64, out: &mut [u8], at: usize) -> usize
+    requires { ⌜ isPacked t ≡ true ⌝ }
+    requires { ⌜ at + length (textOf t) ≤ length (now out) ⌝ }
+    ensures { λ r. ⌜ r ≡ at + length (textOf t) ⌝ }
+    ensures { λ _. ⌜ now (out .exit) ≡ spliced (now (out .entry)) at (textOf t) ⌝ }
+{
+    let mut r = t;
+    let mut w: u64 = TOP;
+    let mut j: usize = 0;
+    while r > 0 {
+        w = w / 38;
+        out[at + j] = byte(r / w);
+        r = r % w;
+        j += 1;
+    }
+    at + j
+}
+
+// Writes the text of t from place `at`, and leaves every other byte as it is; where it refuses it writes nothing.
+pub fn put(t: u64, out: &mut [u8], at: usize) -> Written
+    ensures { λ r. ⌜ r ≡ writtenNext (isPacked t) (textOf t) (now (out .entry)) at ⌝ }
+    ensures { λ _. ⌜ now (out .exit) ≡ writtenBytes (isPacked t) (textOf t) (now (out .entry)) at ⌝ }
+{
+    let found = size(t);
+    match found {
+        Sized::NotOne => Written::NoText,
+        Sized::Bytes(n) => {
+            if at > out.len() {
+                return Written::NoRoom;
+            }
+            if n > out.len() - at {
+                return Written::NoRoom;
+            }
+            let next = write(t, out, at);
+            Written::Next(next)
+        }
+    }
+}
+
+// The number that at most 12 digits are, to a base of at most 36.
+pub fn number(s: &[u8], base: u64) -> Numeral
+    ensures { λ r. ⌜ r ≡ readNumber base (now (s .entry)) ⌝ }
+{
+    if base > 36 {
+        return Numeral::Nothing;
+    }
+    if s.len() > 12 {
+        return Numeral::Nothing;
+    }
+    let mut n: u64 = 0;
+    let mut i = 0;
+    while i < s.len() {
+        let c = code(s[i]);
+        if c == 0 {
+            return Numeral::Nothing;
+        }
+        if c > base {
+            return Numeral::Nothing;
+        }
+        n = n * base + (c - 1);
+        i += 1;
+    }
+    Numeral::Value(n)
+}
