@@ -10,7 +10,8 @@ use lib.ListN.{length, length-map}
 use Rattle.text.specs.Class.{all}
 use Rattle.text.specs.Code.{codeOf, byteOf}
 use Rattle.text.specs.Place.{value, places, allIn}
-use Rattle.text.specs.Number.{isDigitTo, digitOf, numberOf, padded}
+use Rattle.text.specs.Number.{isDigitTo, digitOf, numberOf, padded, isNumeral, readNumber}
+use Rattle.text.specs.declared.Numeral.the-variants.{Value, Nothing}
 use Rattle.text.proofs.Codes.{byte-code, code-byte, digits-all}
 use Rattle.text.proofs.Places.{allIn-cons, allIn-more, value-lt, places-value, value-places, places-in, length-places}
 
@@ -76,3 +77,21 @@ module _ (hi : ℕ) (few : suc hi ≤ 36) (w n : ℕ) (h : n < suc hi ^ w) where
   pub padded-digits : all (isDigitTo (suc hi)) (padded (suc hi) w n) ≡ true
   unfolding padded
   padded-digits = digits-all (suc hi) (map (λ d. byteOf (suc d)) (places (suc hi) w n)) ∙ are-digits hi few (places (suc hi) w n) (places-in (suc hi) hi (omega arith) w n (omega arith) h)
+
+-- ---- what `number` finds
+
+pub number-known : (B : ℕ) (s : List ℕ) {n : ℕ} → readNumber B s ≡ Value n → (isNumeral B s ≡ true) × (n ≡ numberOf B s)
+unfolding readNumber
+number-known B s {n} e = go (isNumeral B s) refl
+  where
+    go : (b : Bool) → isNumeral B s ≡ b → (isNumeral B s ≡ true) × (n ≡ numberOf B s)
+    go true q = (q, (cc))
+    go false q = ((cc), (cc))
+
+pub number-none : (B : ℕ) (s : List ℕ) → readNumber B s ≡ Nothing → isNumeral B s ≡ false
+unfolding readNumber
+number-none B s e = go (isNumeral B s) refl
+  where
+    go : (b : Bool) → isNumeral B s ≡ b → isNumeral B s ≡ false
+    go true q = cc
+    go false q = q

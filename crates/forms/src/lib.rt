@@ -1,0 +1,157 @@
+// The forms of document 01's fields, as tests on bytes.
+use shapes::find;
+use shapes::fits;
+use shapes::is_of;
+use shapes::one_of;
+use shapes::run;
+use shapes::within;
+ghost use mathlib.Core.Path.{_≡_};
+ghost use Rattle.forms.specs.Form.{isStamp, isFacility, isKey, isFix, isClock, isTime, isArrival, isPosition, isRoute};
+ghost use Rattle.forms.specs.Kind.{isForm};
+
+// The kinds of fields that are held as their text. (I, J, R and Z are left for what is no such field.)
+pub const SEQUENCE: u8 = b'Q';
+
+pub const STAMP: u8 = b'D';
+
+pub const SITE: u8 = b'Y';
+
+pub const KEY: u8 = b'K';
+
+pub const NUMBER: u8 = b'N';
+
+pub const PREFIX: u8 = b'X';
+
+pub const MODEL: u8 = b'V';
+
+pub const SUFFIX: u8 = b'E';
+
+pub const FILED_SPEED: u8 = b'S';
+
+pub const GROUND_SPEED: u8 = b'G';
+
+pub const POINT: u8 = b'P';
+
+pub const FIX: u8 = b'F';
+
+pub const TIME: u8 = b'T';
+
+pub const CLOCK: u8 = b'C';
+
+pub const ARRIVAL: u8 = b'A';
+
+pub const LEVEL: u8 = b'L';
+
+pub const TRACK_LEVEL: u8 = b'M';
+
+pub const POSITION: u8 = b'O';
+
+pub const AMENDMENT: u8 = b'B';
+
+// Eight digits DDHHMMSS, each pair in its range.
+pub fn is_stamp(s: &[u8]) -> bool
+    ensures { λ r. ⌜ r ≡ isStamp (now (s .entry)) ⌝ }
+{
+    fits(b"dddddddd", s)
+        && within(1, 31, &s[0..2])
+        && within(0, 23, &s[2..4])
+        && within(0, 59, &s[4..6])
+        && within(0, 59, &s[6..8])
+}
+
+// Four characters, right justified.
+pub fn is_facility(s: &[u8]) -> bool
+    ensures { λ r. ⌜ r ≡ isFacility (now (s .entry)) ⌝ }
+{
+    one_of(b"aaaa| aaa|  aa|   a", s)
+}
+
+// A letter and one to six alnum.
+pub fn is_key(s: &[u8]) -> bool
+    ensures { λ r. ⌜ r ≡ isKey (now (s .entry)) ⌝ }
+{
+    run(b'a', 2, 7, s) && is_of(b'l', s[0])
+}
+
+// 2 to 11 alnum, or 2 to 5, a slash, 1 to 6.
+pub fn is_fix(s: &[u8]) -> bool
+    ensures { λ r. ⌜ r ≡ isFix (now (s .entry)) ⌝ }
+{
+    if run(b'a', 2, 11, s) {
+        return true;
+    }
+    let i = find(b'/', s);
+    if i >= s.len() {
+        return false;
+    }
+    let j = i + 1;
+    run(b'a', 2, 5, &s[..i]) && run(b'a', 1, 6, &s[j..])
+}
+
+// Four digits, 0000 to 2359, minutes to 59.
+pub fn is_clock(s: &[u8]) -> bool
+    ensures { λ r. ⌜ r ≡ isClock (now (s .entry)) ⌝ }
+{
+    fits(b"dddd", s) && within(0, 2359, s) && within(0, 59, &s[2..4])
+}
+
+// D, E or P and a clock.
+pub fn is_time(s: &[u8]) -> bool
+    ensures { λ r. ⌜ r ≡ isTime (now (s .entry)) ⌝ }
+{
+    fits(b"tdddd", s) && is_clock(&s[1..5])
+}
+
+// A clock, and optionally A or E before it.
+pub fn is_arrival(s: &[u8]) -> bool
+    ensures { λ r. ⌜ r ≡ isArrival (now (s .entry)) ⌝ }
+{
+    is_clock(s) || (fits(b"mdddd", s) && is_clock(&s[1..5]))
+}
+
+// ddmm, N or S, slash, dddmm, E or W, in range.
+pub fn is_position(s: &[u8]) -> bool
+    ensures { λ r. ⌜ r ≡ isPosition (now (s .entry)) ⌝ }
+{
+    fits(b"ddddn/ddddde", s)
+        && within(0, 59, &s[2..4])
+        && within(0, 59, &s[9..11])
+        && within(0, 9000, &s[0..4])
+        && within(0, 18000, &s[6..11])
+}
+
+// One or more bytes 33 to 126. A route is no short text, so it has no kind here.
+pub fn is_route(s: &[u8]) -> bool
+    ensures { λ r. ⌜ r ≡ isRoute (now (s .entry)) ⌝ }
+{
+    let n = s.len();
+    run(b'v', 1, n, s)
+}
+
+// Whether s has the form of the kind.
+pub fn is_form(kind: u8, s: &[u8]) -> bool
+    ensures { λ r. ⌜ r ≡ isForm kind (now (s .entry)) ⌝ }
+{
+    match kind {
+        SEQUENCE => fits(b"hhhh", s),
+        STAMP => is_stamp(s),
+        SITE => run(b'a', 1, 4, s),
+        KEY => is_key(s),
+        NUMBER => fits(b"dda", s),
+        PREFIX => one_of(b"a|da", s),
+        MODEL => run(b'a', 2, 4, s),
+        SUFFIX => fits(b"l", s),
+        FILED_SPEED => one_of(b"dd|ddd|dddd|lddd|SC", s),
+        GROUND_SPEED => fits(b"ddd", s),
+        POINT => run(b'a', 2, 12, s),
+        FIX => is_fix(s),
+        TIME => is_time(s),
+        CLOCK => is_clock(s),
+        ARRIVAL => is_arrival(s),
+        LEVEL => one_of(b"dd|ddd|ddBdd|ddBddd|dddBdd|dddBddd", s),
+        TRACK_LEVEL => one_of(b"ddd|dddl", s),
+        POSITION => is_position(s),
+        AMENDMENT => one_of(b"02|03|05|06|07|08|09|10", s),
+        _ => false,
+    }
+}

@@ -1,0 +1,102 @@
+-- The laws of pictures, runs and cuts. Assumes nothing.
+use mathlib.Core.Path.{_≡_, refl, sym, ap, _∙_, subst}
+use mathlib.Core.Bool.{Bool, true, false, cond, _&&_, _||_, or-false}
+use mathlib.Core.List.{List, [], _∷_, _++_}
+use Prim.Native.Char.{code}
+use Prim.Native.Nat.{ℕ, suc, _+_, _-_, _≤_, _<_}
+use native.Mathlib.Nat.{not-suc-le-zero, suc-add}
+use native.Mathlib.Numerals.{add-one}
+use native.Mathlib.Omega.{arith}
+use lib.Dec.{eqb, ltb}
+use lib.ListN.{length, take, drop, getD, length-drop}
+use lib.Seq.{take-all, drop-cons}
+use borrow.Author.Tests.{eq-eqb, ne-eqb, eqb-true, ltb-true, ltb-false}
+use Rattle.text.specs.Class.{all}
+use Rattle.text.proofs.Logic.{and-right, true-false, not-holds}
+use Rattle.shapes.specs.Picture.{isOf, fits, longer, pictures, fitsAny, oneOf}
+use Rattle.shapes.specs.Cut.{upTo}
+
+-- the part `&s[a..]` is what is left
+pub rest-all : (s : List ℕ) (a : ℕ) → take (length s - a) (drop a s) ≡ drop a s
+rest-all s a = take-all (length s - a) (drop a s) (omega (arith, length-drop a s))
+
+-- what is left from i on, one byte and the rest
+pub next-byte : (s : List ℕ) (i : ℕ) → i < length s → drop i s ≡ getD s i 0 ∷ drop (i + 1) s
+next-byte s i h = rw (add-one, drop-cons s i 0)
+
+-- ---- the place of a byte
+
+pub upTo-none : (b : ℕ) → upTo b [] ≡ 0
+unfolding upTo
+upTo-none b = refl
+
+pub upTo-here : (b x : ℕ) (s : List ℕ) → x ≡ b → upTo b (x ∷ s) ≡ 0
+unfolding upTo
+upTo-here b x s e = simp (eq-eqb x b e)
+
+pub upTo-next : (b x : ℕ) (s : List ℕ) → (x ≡ b → ⊥) → upTo b (x ∷ s) ≡ suc (upTo b s)
+unfolding upTo
+upTo-next b x s e = simp (ne-eqb x b e)
+
+pub upTo-le : (b : ℕ) (s : List ℕ) → upTo b s ≤ length s
+unfolding upTo
+upTo-le b [] = omega arith
+upTo-le b (x ∷ s) = go (eqb x b) refl (upTo-le b s)
+  where
+    go : (t : Bool) → eqb x b ≡ t → upTo b s ≤ length s → upTo b (x ∷ s) ≤ suc (length s)
+    go true q r = rw q (omega arith)
+    go false q r = rw q (omega arith)
+
+pub upTo-at : (b : ℕ) (s : List ℕ) → upTo b s < length s → getD s (upTo b s) 0 ≡ b
+unfolding upTo
+upTo-at b [] h = absurd (not-suc-le-zero h)
+upTo-at b (x ∷ s) h = go (eqb x b) refl (upTo-at b s)
+  where
+    go : (t : Bool) → eqb x b ≡ t → (upTo b s < length s → getD s (upTo b s) 0 ≡ b) → getD (x ∷ s) (upTo b (x ∷ s)) 0 ≡ b
+    go true q r = rw q (eqb-true x b q)
+    go false q r = let k : suc (upTo b s) < suc (length s) = rw q at h in rw q (r (omega arith))
+
+-- ---- pictures
+
+pub fits-length : (p s : List ℕ) → fits p s ≡ true → length s ≡ length p
+unfolding fits
+fits-length [] [] e = refl
+fits-length [] (b ∷ s) e = true-false e refl
+fits-length (k ∷ p) [] e = true-false e refl
+fits-length (k ∷ p) (b ∷ s) e = ap suc (fits-length p s (and-right (isOf k b) (fits p s) e))
+
+pub fits-apart : (p s : List ℕ) → (length p ≡ length s → ⊥) → fits p s ≡ false
+fits-apart p s h = not-holds (fits p s) (λ e. h (sym (fits-length p s e)))
+
+-- the first picture, and those after its bar
+abbrev pub bar : ℕ
+bar = code "|"
+
+more-pictures : (p : List ℕ) → upTo bar p < length p → pictures p ≡ take (upTo bar p) p ∷ pictures (drop (upTo bar p + 1) p)
+unfolding pictures upTo longer
+more-pictures [] h = absurd (not-suc-le-zero h)
+more-pictures (k ∷ p) h = go (eqb k bar) refl (more-pictures p)
+  where
+    go : (t : Bool) → eqb k bar ≡ t → (upTo bar p < length p → pictures p ≡ take (upTo bar p) p ∷ pictures (drop (upTo bar p + 1) p)) → pictures (k ∷ p) ≡ take (upTo bar (k ∷ p)) (k ∷ p) ∷ pictures (drop (upTo bar (k ∷ p) + 1) (k ∷ p))
+    go true q r = rw q
+    go false q r =
+        let l : suc (upTo bar p) < suc (length p) = rw q at h in
+        rw (q, r (omega arith), suc-add)
+
+last-picture : (p : List ℕ) → length p ≤ upTo bar p → pictures p ≡ p ∷ []
+unfolding pictures upTo longer
+last-picture [] h = refl
+last-picture (k ∷ p) h = go (eqb k bar) refl (last-picture p)
+  where
+    go : (t : Bool) → eqb k bar ≡ t → (length p ≤ upTo bar p → pictures p ≡ p ∷ []) → pictures (k ∷ p) ≡ (k ∷ p) ∷ []
+    go true q r = let l : suc (length p) ≤ 0 = rw q at h in absurd (not-suc-le-zero l)
+    go false q r = let l : suc (length p) ≤ suc (upTo bar p) = rw q at h in rw (q, r (omega arith))
+
+module _ (p s : List ℕ) where
+  pub one-more : upTo bar p < length p → oneOf p s ≡ (fits (take (upTo bar p) p) s || oneOf (drop (upTo bar p + 1) p) s)
+  unfolding oneOf fitsAny
+  one-more h = rw (more-pictures p h)
+
+  pub one-last : length p ≤ upTo bar p → oneOf p s ≡ fits (take (upTo bar p) p) s
+  unfolding oneOf fitsAny
+  one-last h = rw (last-picture p h, take-all (upTo bar p) p h) (or-false (fits p s))

@@ -1,0 +1,91 @@
+-- `shapes::fits` meets its contract: what is left of the picture fits what is left of the bytes as the whole fits the whole.
+-- Assumes nothing.
+use mathlib.Core.Path.{_≡_, refl, sym, ap, _∙_}
+use mathlib.Core.Bool.{true, false}
+use mathlib.Core.List.{List, _∷_}
+use Prim.Native.Nat.{ℕ, _+_, _-_, _≤_, _<_}
+use native.Mathlib.Omega.{arith}
+use lib.ListN.{length, getD, drop, drop-of-length-le}
+use borrow.Author.Tests.{not-true, not-false}
+use Rattle.shapes.specs.Picture.{isOf, fits as fitting}
+use Rattle.shapes.proofs.Laws.{next-byte, fits-apart}
+use Rattle.shapes.proofs.fits.Statement.{statement}
+use Rattle.shapes.proofs.fits.Tie as tie
+
+record Inv (p s : List ℕ) (i : ℕ) : Type 0 where
+  same : length p ≡ length s
+  at : i ≤ length s
+  rest : fitting (drop i p) (drop i s) ≡ fitting p s
+
+module _ {p s : List ℕ} {i : ℕ} (v : Inv p s i) where
+  done : length s ≤ i → true ≡ fitting p s
+  unfolding fitting
+  done h = let k : length p ≤ i = omega (arith, v .same) in rw (drop-of-length-le p k, drop-of-length-le s h) at (v .rest)
+
+  module _ (more : i < length s) where
+    more-p : i < length p
+    more-p = omega (arith, v .same)
+
+    turn : fitting (drop i p) (drop i s) ≡ fitting (getD p i 0 ∷ drop (i + 1) p) (getD s i 0 ∷ drop (i + 1) s)
+    turn = rw (next-byte p i more-p, next-byte s i more)
+
+    again : isOf (getD p i 0) (getD s i 0) ≡ true → Inv p s (i + 1)
+    unfolding fitting
+    again e = record { same = v .same; at = omega arith; rest = (rw e at (sym turn)) ∙ v .rest }
+
+    bad : isOf (getD p i 0) (getD s i 0) ≡ false → false ≡ fitting p s
+    unfolding fitting
+    bad e = (rw e at (sym turn)) ∙ v .rest
+
+abbrev Inv-loop : tie.InvT-loop
+Inv-loop picture s i₀ i = Inv picture s i
+
+abbrev μ-loop : tie.MeasureT-loop
+μ-loop picture s i₀ i = length s - i
+
+returns : tie.Need-returns Inv-loop μ-loop
+returns c = sym (fits-apart _ _ (c .if1 .taken))
+
+loop-holds : tie.Need-loop-holds Inv-loop μ-loop
+loop-holds c = record { same = c .if1 .left; at = omega arith; rest = refl }
+
+shared-slice-read-is-of : tie.Need-shared-slice-read-is-of Inv-loop μ-loop
+shared-slice-read-is-of c = omega (arith, c .before .before .loop .inv .same)
+
+shared-slice-read-is-of-2 : tie.Need-shared-slice-read-is-of-2 Inv-loop μ-loop
+shared-slice-read-is-of-2 c = omega arith
+
+is-of-requires : tie.Need-is-of-requires Inv-loop μ-loop
+is-of-requires c κs = tt
+
+returns-2 : tie.Need-returns-2 Inv-loop μ-loop
+returns-2 c = bad (c .before .before .before .before .before .loop .inv) (c .before .before .before .before .loop-test .taken) (sym (c .before .is-of .ensures) ∙ not-true _ (c .if2 .taken))
+
+add-i : tie.Need-add-i Inv-loop μ-loop
+add-i c = omega arith
+
+loop-less : tie.Need-loop-less Inv-loop μ-loop
+loop-less c = omega arith
+
+loop-again : tie.Need-loop-again Inv-loop μ-loop
+loop-again c = again (c .before .before .before .before .before .loop .inv) (c .before .before .before .before .loop-test .taken) (sym (c .before .is-of .ensures) ∙ not-false _ (c .if2 .left))
+
+returns-3 : tie.Need-returns-3 Inv-loop μ-loop
+returns-3 c = done (c .before .loop .inv) (c .loop-test .left)
+
+pub fits-spec : {M : Type 1} → statement M
+fits-spec =
+    tie.close
+    (tie.spec
+    Inv-loop
+    μ-loop
+    returns
+    loop-holds
+    shared-slice-read-is-of
+    shared-slice-read-is-of-2
+    is-of-requires
+    returns-2
+    add-i
+    loop-less
+    loop-again
+    returns-3)

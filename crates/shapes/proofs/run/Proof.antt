@@ -1,0 +1,91 @@
+-- `shapes::run` meets its contract: the bytes that are left are of the class as all of them are. Assumes nothing.
+use mathlib.Core.Path.{_≡_, refl, sym, _∙_}
+use mathlib.Core.Bool.{true, false, _&&_}
+use mathlib.Core.List.{List, _∷_}
+use Prim.Native.Nat.{ℕ, _+_, _-_, _≤_, _<_}
+use native.Mathlib.Omega.{arith}
+use lib.ListN.{length, getD, drop, drop-of-length-le}
+use borrow.Author.Tests.{le-leb, lt-leb, not-true, not-false}
+use Rattle.text.specs.Class.{all}
+use Rattle.shapes.specs.Picture.{isOf, run as running}
+use Rattle.shapes.proofs.Laws.{next-byte}
+use Rattle.shapes.proofs.run.Statement.{statement}
+use Rattle.shapes.proofs.run.Tie as tie
+
+record Inv (k least most : ℕ) (s : List ℕ) (i : ℕ) : Type 0 where
+  long : least ≤ length s
+  short : length s ≤ most
+  at : i ≤ length s
+  rest : all (isOf k) (drop i s) ≡ all (isOf k) s
+
+module _ {k least most : ℕ} {s : List ℕ} {i : ℕ} (v : Inv k least most s i) where
+  done : length s ≤ i → true ≡ running k least most s
+  unfolding running all
+  done h = rw (le-leb least (length s) (v .long), le-leb (length s) most (v .short)) (rw (drop-of-length-le s h) at (v .rest))
+
+  module _ (more : i < length s) where
+    turn : all (isOf k) (getD s i 0 ∷ drop (i + 1) s) ≡ all (isOf k) s
+    turn = rw (← (next-byte s i more)) (v .rest)
+
+    again : isOf k (getD s i 0) ≡ true → Inv k least most s (i + 1)
+    unfolding all
+    again e = record { long = v .long; short = v .short; at = omega arith; rest = rw e at turn }
+
+    bad : isOf k (getD s i 0) ≡ false → false ≡ running k least most s
+    unfolding running all
+    bad e = rw (le-leb least (length s) (v .long), le-leb (length s) most (v .short)) (rw e at turn)
+
+abbrev Inv-loop : tie.InvT-loop
+Inv-loop k least most s i₀ i = Inv k least most s i
+
+abbrev μ-loop : tie.MeasureT-loop
+μ-loop k least most s i₀ i = length s - i
+
+returns : tie.Need-returns Inv-loop μ-loop
+unfolding running
+returns c = rw (lt-leb _ _ (c .if1 .taken))
+
+returns-2 : tie.Need-returns-2 Inv-loop μ-loop
+unfolding running
+returns-2 c = rw (le-leb _ _ (c .before .if1 .left), lt-leb _ _ (c .if2 .taken))
+
+loop-holds : tie.Need-loop-holds Inv-loop μ-loop
+loop-holds c = record { long = c .before .if1 .left; short = c .if2 .left; at = omega arith; rest = refl }
+
+shared-slice-read-is-of : tie.Need-shared-slice-read-is-of Inv-loop μ-loop
+shared-slice-read-is-of c = omega arith
+
+is-of-requires : tie.Need-is-of-requires Inv-loop μ-loop
+is-of-requires c κs = tt
+
+returns-3 : tie.Need-returns-3 Inv-loop μ-loop
+returns-3 c = bad (c .before .before .before .before .loop .inv) (c .before .before .before .loop-test .taken) (sym (c .before .is-of .ensures) ∙ not-true _ (c .if3 .taken))
+
+add-i : tie.Need-add-i Inv-loop μ-loop
+add-i c = omega arith
+
+loop-less : tie.Need-loop-less Inv-loop μ-loop
+loop-less c = omega arith
+
+loop-again : tie.Need-loop-again Inv-loop μ-loop
+loop-again c = again (c .before .before .before .before .loop .inv) (c .before .before .before .loop-test .taken) (sym (c .before .is-of .ensures) ∙ not-false _ (c .if3 .left))
+
+returns-4 : tie.Need-returns-4 Inv-loop μ-loop
+returns-4 c = done (c .before .loop .inv) (c .loop-test .left)
+
+pub run-spec : {M : Type 1} → statement M
+run-spec =
+    tie.close
+    (tie.spec
+    Inv-loop
+    μ-loop
+    returns
+    returns-2
+    loop-holds
+    shared-slice-read-is-of
+    is-of-requires
+    returns-3
+    add-i
+    loop-less
+    loop-again
+    returns-4)
