@@ -52,11 +52,19 @@ pub const AMENDMENT: u8 = b'B';
 pub fn is_stamp(s: &[u8]) -> bool
     ensures { λ r. ⌜ r ≡ isStamp (now (s .entry)) ⌝ }
 {
-    fits(b"dddddddd", s)
-        && within(1, 31, &s[0..2])
-        && within(0, 23, &s[2..4])
-        && within(0, 59, &s[4..6])
-        && within(0, 59, &s[6..8])
+    if !fits(b"dddddddd", s) {
+        return false;
+    }
+    if !within(1, 31, &s[0..2]) {
+        return false;
+    }
+    if !within(0, 23, &s[2..4]) {
+        return false;
+    }
+    if !within(0, 59, &s[4..6]) {
+        return false;
+    }
+    within(0, 59, &s[6..8])
 }
 
 // Four characters, right justified.
@@ -92,7 +100,13 @@ pub fn is_fix(s: &[u8]) -> bool
 pub fn is_clock(s: &[u8]) -> bool
     ensures { λ r. ⌜ r ≡ isClock (now (s .entry)) ⌝ }
 {
-    fits(b"dddd", s) && within(0, 2359, s) && within(0, 59, &s[2..4])
+    if !fits(b"dddd", s) {
+        return false;
+    }
+    if !within(0, 2359, s) {
+        return false;
+    }
+    within(0, 59, &s[2..4])
 }
 
 // D, E or P and a clock.
@@ -113,11 +127,19 @@ pub fn is_arrival(s: &[u8]) -> bool
 pub fn is_position(s: &[u8]) -> bool
     ensures { λ r. ⌜ r ≡ isPosition (now (s .entry)) ⌝ }
 {
-    fits(b"ddddn/ddddde", s)
-        && within(0, 59, &s[2..4])
-        && within(0, 59, &s[9..11])
-        && within(0, 9000, &s[0..4])
-        && within(0, 18000, &s[6..11])
+    if !fits(b"ddddn/ddddde", s) {
+        return false;
+    }
+    if !within(0, 59, &s[2..4]) {
+        return false;
+    }
+    if !within(0, 59, &s[9..11]) {
+        return false;
+    }
+    if !within(0, 9000, &s[0..4]) {
+        return false;
+    }
+    within(0, 18000, &s[6..11])
 }
 
 // One or more bytes 33 to 126. A route is no short text, so it has no kind here.

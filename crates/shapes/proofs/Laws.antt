@@ -7,14 +7,14 @@ use Prim.Native.Nat.{ℕ, suc, _+_, _-_, _≤_, _<_}
 use native.Mathlib.Nat.{not-suc-le-zero, suc-add}
 use native.Mathlib.Numerals.{add-one}
 use native.Mathlib.Omega.{arith}
-use lib.Dec.{eqb, ltb}
+use lib.Dec.{eqb, leb, ltb}
 use lib.ListN.{length, take, drop, getD, length-drop}
 use lib.Seq.{take-all, drop-cons}
-use borrow.Author.Tests.{eq-eqb, ne-eqb, eqb-true, ltb-true, ltb-false}
+use borrow.Author.Tests.{lt-ltb, le-ltb, eq-eqb, ne-eqb, eqb-true, leb-true, ltb-true, ltb-false}
 use Rattle.text.specs.Class.{all}
-use Rattle.text.proofs.Logic.{and-right, true-false, not-holds}
-use Rattle.shapes.specs.Picture.{isOf, fits, longer, pictures, fitsAny, oneOf}
-use Rattle.shapes.specs.Cut.{upTo}
+use Rattle.text.proofs.Logic.{and-left, and-right, true-false, not-holds}
+use Rattle.shapes.specs.Picture.{isOf, fits, longer, pictures, fitsAny, oneOf, run}
+use Rattle.shapes.specs.Cut.{upTo, has, before, after, joins}
 
 -- the part `&s[a..]` is what is left
 pub rest-all : (s : List ℕ) (a : ℕ) → take (length s - a) (drop a s) ≡ drop a s
@@ -100,3 +100,46 @@ module _ (p s : List ℕ) where
   pub one-last : length p ≤ upTo bar p → oneOf p s ≡ fits (take (upTo bar p) p) s
   unfolding oneOf fitsAny
   one-last h = rw (last-picture p h, take-all (upTo bar p) p h) (or-false (fits p s))
+
+-- ---- runs
+
+module _ (k least most : ℕ) (s : List ℕ) (e : run k least most s ≡ true) where
+  pub run-least : least ≤ length s
+  unfolding run
+  run-least = leb-true least (length s) (and-left (leb least (length s)) (leb (length s) most) (and-left (leb least (length s) && leb (length s) most) (all (isOf k) s) e))
+
+  pub run-most : length s ≤ most
+  unfolding run
+  run-most = leb-true (length s) most (and-right (leb least (length s)) (leb (length s) most) (and-left (leb least (length s) && leb (length s) most) (all (isOf k) s) e))
+
+  pub run-class : all (isOf k) s ≡ true
+  unfolding run
+  run-class = and-right (leb least (length s) && leb (length s) most) (all (isOf k) s) e
+
+-- ---- cuts: what a function that found the first b at i knows
+
+module _ (b : ℕ) (s : List ℕ) (i : ℕ) (at : i ≡ upTo b s) where
+  pub not-cut : length s ≤ i → has b s ≡ false
+  unfolding has
+  not-cut h = le-ltb (upTo b s) (length s) (omega arith)
+
+  module _ (h : i < length s) where
+    pub is-cut : has b s ≡ true
+    unfolding has
+    is-cut = lt-ltb (upTo b s) (length s) (omega arith)
+
+    pub cut-before : before b s ≡ take i s
+    unfolding before
+    cut-before = rw at
+
+    pub cut-after : after b s ≡ take (length s - (i + 1)) (drop (i + 1) s)
+    unfolding after
+    cut-after = rw (rest-all, at)
+
+  pub joins-not : (p q : List ℕ → Bool) → length s ≤ i → joins b p q s ≡ false
+  unfolding joins
+  joins-not p q h = rw (not-cut h)
+
+  pub joins-is : (p q : List ℕ → Bool) → i < length s → joins b p q s ≡ (p (take i s) && q (take (length s - (i + 1)) (drop (i + 1) s)))
+  unfolding joins
+  joins-is p q h = rw (is-cut h, cut-before h, cut-after h)
