@@ -4,27 +4,84 @@ use Prim.Native.Char.{code}
 use mathlib.Core.Bool.{Bool, true, false, cond}
 use mathlib.Core.List.{List}
 use lib.Dec.{eqb}
-use Rattle.forms.specs.Form.{isSequence, isStamp, isSite, isKey, isNumber, isPrefix, isModel, isSuffix, isFiledSpeed, isGroundSpeed, isPoint, isFix, isClock, isTime, isArrival, isLevel, isTrackLevel, isPosition, isAmendment}
+use Rattle.forms.specs.Form.{isSequence, isStamp, isSite, isKey, isNumber, isPrefix, isModel, isSuffix, isFiledSpeed, isGroundSpeed, isPoint, isFix, isTime, isClock, isArrival, isLevel, isTrackLevel, isPosition, isAmendment}
+
+abbrev pub SEQUENCE : ℕ
+SEQUENCE = code "Q"
+
+abbrev pub STAMP : ℕ
+STAMP = code "D"
+
+abbrev pub SITE : ℕ
+SITE = code "Y"
+
+abbrev pub KEY : ℕ
+KEY = code "K"
+
+abbrev pub NUMBER : ℕ
+NUMBER = code "N"
+
+abbrev pub PREFIX : ℕ
+PREFIX = code "X"
+
+abbrev pub MODEL : ℕ
+MODEL = code "V"
+
+abbrev pub SUFFIX : ℕ
+SUFFIX = code "E"
+
+abbrev pub FILED-SPEED : ℕ
+FILED-SPEED = code "S"
+
+abbrev pub GROUND-SPEED : ℕ
+GROUND-SPEED = code "G"
+
+abbrev pub POINT : ℕ
+POINT = code "P"
+
+abbrev pub FIX : ℕ
+FIX = code "F"
+
+abbrev pub TIME : ℕ
+TIME = code "T"
+
+abbrev pub CLOCK : ℕ
+CLOCK = code "C"
+
+abbrev pub ARRIVAL : ℕ
+ARRIVAL = code "A"
+
+abbrev pub LEVEL : ℕ
+LEVEL = code "L"
+
+abbrev pub TRACK-LEVEL : ℕ
+TRACK-LEVEL = code "M"
+
+abbrev pub POSITION : ℕ
+POSITION = code "O"
+
+abbrev pub AMENDMENT : ℕ
+AMENDMENT = code "B"
 
 -- the form of the kind k; a letter that names no kind has none
 unfoldable pub isForm : ℕ → List ℕ → Bool
 isForm k s =
-    cond (eqb k (code "Q")) (isSequence s)
-    (cond (eqb k (code "D")) (isStamp s)
-    (cond (eqb k (code "Y")) (isSite s)
-    (cond (eqb k (code "K")) (isKey s)
-    (cond (eqb k (code "N")) (isNumber s)
-    (cond (eqb k (code "X")) (isPrefix s)
-    (cond (eqb k (code "V")) (isModel s)
-    (cond (eqb k (code "E")) (isSuffix s)
-    (cond (eqb k (code "S")) (isFiledSpeed s)
-    (cond (eqb k (code "G")) (isGroundSpeed s)
-    (cond (eqb k (code "P")) (isPoint s)
-    (cond (eqb k (code "F")) (isFix s)
-    (cond (eqb k (code "T")) (isTime s)
-    (cond (eqb k (code "C")) (isClock s)
-    (cond (eqb k (code "A")) (isArrival s)
-    (cond (eqb k (code "L")) (isLevel s)
-    (cond (eqb k (code "M")) (isTrackLevel s)
-    (cond (eqb k (code "O")) (isPosition s)
-    (cond (eqb k (code "B")) (isAmendment s) false))))))))))))))))))
+    cond (eqb k SEQUENCE) (isSequence s)
+    (cond (eqb k STAMP) (isStamp s)
+    (cond (eqb k SITE) (isSite s)
+    (cond (eqb k KEY) (isKey s)
+    (cond (eqb k NUMBER) (isNumber s)
+    (cond (eqb k PREFIX) (isPrefix s)
+    (cond (eqb k MODEL) (isModel s)
+    (cond (eqb k SUFFIX) (isSuffix s)
+    (cond (eqb k FILED-SPEED) (isFiledSpeed s)
+    (cond (eqb k GROUND-SPEED) (isGroundSpeed s)
+    (cond (eqb k POINT) (isPoint s)
+    (cond (eqb k FIX) (isFix s)
+    (cond (eqb k TIME) (isTime s)
+    (cond (eqb k CLOCK) (isClock s)
+    (cond (eqb k ARRIVAL) (isArrival s)
+    (cond (eqb k LEVEL) (isLevel s)
+    (cond (eqb k TRACK-LEVEL) (isTrackLevel s)
+    (cond (eqb k POSITION) (isPosition s)
+    (cond (eqb k AMENDMENT) (isAmendment s) false))))))))))))))))))

@@ -5,8 +5,9 @@ use mathlib.Core.List.{List, [], _∷_, _++_, map}
 use Prim.Native.Nat.{ℕ, _+_, _^_, _≤_, _<_}
 use native.Mathlib.Omega.{arith}
 use lib.Dec.{leb, ltb, lit≤}
-use lib.ListN.{length, length-map}
-use borrow.Author.Tests.{lt-ltb, le-leb, lt-leb, leb-true, ltb-true}
+use lib.ListN.{length, take, drop, length-map}
+use lib.Seq.{take-at}
+use borrow.Author.Tests.{lt-ltb, le-leb, lt-leb, leb-true, leb-false, ltb-true}
 use Rattle.text.specs.Class.{all, isTextByte}
 use Rattle.text.specs.Code.{codeOf, byteOf}
 use Rattle.text.specs.Place.{value, digits, tight, allIn}
@@ -126,3 +127,52 @@ module _ (vs out : List ℕ) (at : ℕ) where
   pub has-room : {ok : Bool} → ok ≡ true → at + length vs ≤ length out → (Next (at + length vs) ≡ writtenNext ok vs out at) × (spliced out at vs ≡ writtenBytes ok vs out at)
   unfolding writtenNext writtenBytes hasRoom
   has-room e h = let f = le-leb (at + length vs) (length out) h in (rw (e, f), rw (e, f))
+
+  pub next-known : {ok : Bool} {n : ℕ} → writtenNext ok vs out at ≡ Next n → (ok ≡ true) × (n ≡ at + length vs) × (at + length vs ≤ length out)
+  unfolding writtenNext hasRoom
+  next-known {ok} {n} e = go ok refl (leb (at + length vs) (length out)) refl
+    where
+      go : (b : Bool) → ok ≡ b → (d : Bool) → leb (at + length vs) (length out) ≡ d → (ok ≡ true) × (n ≡ at + length vs) × (at + length vs ≤ length out)
+      go true q true z = (q, (cc), leb-true (at + length vs) (length out) z)
+      go true q false z = let f : NoRoom ≡ Next n = rw (q, z) at e in ((cc), (cc), absurd (let z : _≡_ {A = ℕ} 0 1 = cc in omega arith))
+      go false q d z = let f : NoText ≡ Next n = rw q at e in ((cc), (cc), absurd (let z : _≡_ {A = ℕ} 0 1 = cc in omega arith))
+
+  pub no-room-known : {ok : Bool} → writtenNext ok vs out at ≡ NoRoom → (ok ≡ true) × (length out < at + length vs)
+  unfolding writtenNext hasRoom
+  no-room-known {ok} e = go ok refl (leb (at + length vs) (length out)) refl
+    where
+      go : (b : Bool) → ok ≡ b → (d : Bool) → leb (at + length vs) (length out) ≡ d → (ok ≡ true) × (length out < at + length vs)
+      go true q true z = let f : Next (at + length vs) ≡ NoRoom = rw (q, z) at e in ((cc), absurd (let z : _≡_ {A = ℕ} 0 1 = cc in omega arith))
+      go true q false z = (q, leb-false (at + length vs) (length out) z)
+      go false q d z = let f : NoText ≡ NoRoom = rw q at e in ((cc), absurd (let z : _≡_ {A = ℕ} 0 1 = cc in omega arith))
+
+  pub no-text-known : {ok : Bool} → writtenNext ok vs out at ≡ NoText → ok ≡ false
+  unfolding writtenNext hasRoom
+  no-text-known {ok} e = go ok refl (leb (at + length vs) (length out)) refl
+    where
+      go : (b : Bool) → ok ≡ b → (d : Bool) → leb (at + length vs) (length out) ≡ d → ok ≡ false
+      go true q true z = let f : Next (at + length vs) ≡ NoText = rw (q, z) at e in cc
+      go true q false z = let f : NoRoom ≡ NoText = rw (q, z) at e in cc
+      go false q d z = q
+
+-- a text written at the start of twelve bytes stands there, and has room
+module _ (t n : ℕ) (room last : List ℕ) (twelve : length room ≡ 12) (told : writtenNext (isPacked t) (textOf t) room 0 ≡ Next n) (is : last ≡ writtenBytes (isPacked t) (textOf t) room 0) where
+  pub shown-packed : isPacked t ≡ true
+  shown-packed = next-known (textOf t) room 0 told .0
+
+  pub shown-size : n ≡ length (textOf t)
+  shown-size = omega (arith, next-known (textOf t) room 0 told .1)
+
+  pub shown-text : take n last ≡ textOf t
+  unfolding spliced
+  shown-text =
+      let k = next-known (textOf t) room 0 told in
+      let w = has-room (textOf t) room 0 (k .0) (k .2) .1 in
+      rw (is, ← w) (take-at (textOf t) (drop (0 + length (textOf t)) room) n (sym shown-size))
+
+pub text-short : (t : ℕ) → isPacked t ≡ true → length (textOf t) ≤ 12
+text-short t e = text-length (textOf t) (text-is t e)
+
+-- twelve bytes have room for every text
+pub twelve-room : (t : ℕ) (room : List ℕ) → length room ≡ 12 → writtenNext (isPacked t) (textOf t) room 0 ≡ NoRoom → ⊥
+twelve-room t room h e = let k = no-room-known (textOf t) room 0 e in omega (arith, text-short t (k .0), k .1)

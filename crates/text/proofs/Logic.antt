@@ -51,6 +51,11 @@ pub pick : {X : Type 0} (b a r : Bool) → (a ≡ true → X) → (r ≡ true �
 pick true a r f g e = f e
 pick false a r f g e = g e
 
+-- the same, where each case knows which it is
+pub pick-with : {X : Type 0} (b a r : Bool) → (b ≡ true → a ≡ true → X) → (b ≡ false → r ≡ true → X) → cond b a r ≡ true → X
+pick-with true a r f g e = f refl e
+pick-with false a r f g e = g refl e
+
 -- a test at every number below n, which antt computes
 abbrev pub below : (ℕ → Bool) → ℕ → Bool
 below f zero = true

@@ -1,0 +1,72 @@
+-- A text cut at the first b and the two parts with b between them are the same thing, where the first part has no b.
+-- Assumes nothing.
+use mathlib.Core.Path.{_≡_, refl, sym, ap, _∙_, subst}
+use mathlib.Core.Bool.{Bool, true, false, cond, _&&_}
+use mathlib.Core.List.{List, [], _∷_, _++_}
+use Prim.Native.Nat.{ℕ, suc, _+_, _<_}
+use native.Mathlib.Nat.{suc-add}
+use native.Mathlib.Numerals.{add-one}
+use native.Mathlib.Omega.{arith}
+use lib.Dec.{eqb, ltb}
+use lib.ListN.{length, take, drop, getD, length-append}
+use lib.Seq.{split-at, take-at, drop-at, append-snoc}
+use borrow.Author.Tests.{lt-ltb, le-ltb, eq-eqb, eqb-true, ltb-true, ltb-false}
+use Rattle.text.specs.Class.{all}
+use Rattle.text.proofs.Logic.{and-left, and-right, true-false}
+use Rattle.shapes.specs.Cut.{upTo, has, before, after, joins}
+use Rattle.shapes.proofs.Laws.{upTo-at, upTo-here, upTo-next}
+
+-- what is cut is the two parts with b between them
+pub cut-whole : (b : ℕ) (s : List ℕ) → has b s ≡ true → before b s ++ b ∷ after b s ≡ s
+unfolding has before after
+cut-whole b s e =
+    let h : upTo b s < length s = ltb-true (upTo b s) (length s) e in
+    rw add-one (sym (subst (λ (x : ℕ). s ≡ take (upTo b s) s ++ x ∷ drop (suc (upTo b s)) s) (upTo-at b s h) (split-at s (upTo b s) 0 h)))
+
+-- a text of a class that b is not of has no b
+pub has-no : (b : ℕ) (f : ℕ → Bool) → f b ≡ false → (s : List ℕ) → all f s ≡ true → upTo b s ≡ length s
+unfolding all upTo
+has-no b f h [] e = refl
+has-no b f h (x ∷ s) e = go (eqb x b) refl (has-no b f h s (and-right (f x) (all f s) e))
+  where
+    go : (t : Bool) → eqb x b ≡ t → upTo b s ≡ length s → upTo b (x ∷ s) ≡ suc (length s)
+    go true q r = true-false (and-left (f x) (all f s) e) (ap f (eqb-true x b q) ∙ h)
+    go false q r = rw (q, r)
+
+module _ (b : ℕ) where
+  joined-at : (x y : List ℕ) → upTo b x ≡ length x → upTo b (x ++ b ∷ y) ≡ length x
+  unfolding upTo
+  joined-at [] y e = rw (eq-eqb b b refl)
+  joined-at (c ∷ x) y e = go (eqb c b) refl (joined-at x y)
+    where
+      go : (t : Bool) → eqb c b ≡ t → (upTo b x ≡ length x → upTo b (x ++ b ∷ y) ≡ length x) → upTo b (c ∷ (x ++ b ∷ y)) ≡ suc (length x)
+      go true q r = let z : 0 ≡ suc (length x) = rw q at e in absurd (omega arith)
+      go false q r = let z : suc (upTo b x) ≡ suc (length x) = rw q at e in rw (q, r (omega arith))
+
+module _ (b : ℕ) (x y : List ℕ) (none : upTo b x ≡ length x) where
+  pub joined-has : has b (x ++ b ∷ y) ≡ true
+  unfolding has
+  joined-has = lt-ltb (upTo b (x ++ b ∷ y)) (length (x ++ b ∷ y)) (omega (arith, joined-at b x y none, length-append x (b ∷ y)))
+
+  pub joined-before : before b (x ++ b ∷ y) ≡ x
+  unfolding before
+  joined-before = take-at x (b ∷ y) (upTo b (x ++ b ∷ y)) (sym (joined-at b x y none))
+
+  pub joined-after : after b (x ++ b ∷ y) ≡ y
+  unfolding after
+  joined-after =
+      let n = upTo b (x ++ b ∷ y) + 1 in
+      let l : length (x ++ b ∷ []) ≡ n = omega (arith, joined-at b x y none, length-append x (b ∷ [])) in
+      ap (drop n) (sym (append-snoc x b y)) ∙ drop-at (x ++ b ∷ []) y n l
+
+-- a text joins p and q exactly if it is x, b and y, where x has p and y has q
+module _ (b : ℕ) (p q : List ℕ → Bool) where
+  pub joins-parts : (s : List ℕ) → joins b p q s ≡ true → (before b s ++ b ∷ after b s ≡ s) × (p (before b s) ≡ true) × (q (after b s) ≡ true)
+  unfolding joins
+  joins-parts s e =
+      let l = and-left (has b s && p (before b s)) (q (after b s)) e in
+      (cut-whole b s (and-left (has b s) (p (before b s)) l), and-right (has b s) (p (before b s)) l, and-right (has b s && p (before b s)) (q (after b s)) e)
+
+  pub parts-join : (x y : List ℕ) → upTo b x ≡ length x → p x ≡ true → q y ≡ true → joins b p q (x ++ b ∷ y) ≡ true
+  unfolding joins
+  parts-join x y none h k = rw (joined-has b x y none, joined-before b x y none, joined-after b x y none, h, k)

@@ -1,0 +1,23 @@
+-- `words::put` meets its contract. Assumes nothing.
+use mathlib.Core.Path.{_≡_, sym, ap, _∙_}
+use Rattle.text.proofs.Laws.{no-text}
+use Rattle.words.proofs.Laws.{writes-word}
+use borrow.Author.Needs.{needs}
+use Rattle.words.proofs.put.Statement.{statement}
+use Rattle.words.proofs.put.Tie as tie
+
+returns : tie.Need-returns
+returns c = rw (← (writes-word _ _ (sym (c .before .before .before .before .before .holds .ensures) ∙ c .before .before .before .before .if1 .taken))) (c .before .before .put .ensures)
+
+returns-2 : tie.Need-returns-2
+returns-2 c = no-text _ _ _ (sym (c .before .holds .ensures) ∙ c .if1 .left)
+
+pub put-spec : {M : Type 1} → statement M
+put-spec =
+    tie.close
+    (tie.spec
+    (λ c κs. search needs)
+    (λ c κs. search needs)
+    (λ c. search needs)
+    returns
+    returns-2)

@@ -1,0 +1,43 @@
+// A field of a kind that is held as its text: read from bytes as a word, tested, and written back. Every such field goes
+// through these three functions; `fields` gives each kind a type of its own.
+use text::Packed;
+use text::Written;
+ghost use mathlib.Core.Path.{_≡_};
+ghost use Rattle.text.specs.Text.{textOf, writtenNext, writtenBytes};
+ghost use Rattle.words.specs.Word.{wordOf, isWord};
+
+// The word of s, where s has the form of the kind.
+pub fn read(kind: u8, s: &[u8]) -> Packed
+    ensures { λ r. ⌜ r ≡ wordOf kind (now (s .entry)) ⌝ }
+{
+    if forms::is_form(kind, s) {
+        text::pack(s)
+    } else {
+        Packed::Nothing
+    }
+}
+
+// Whether t is the word of some text of the kind.
+pub fn holds(kind: u8, t: u64) -> bool
+    ensures { λ r. ⌜ r ≡ isWord kind t ⌝ }
+{
+    let mut room = [0u8; 12];
+    let written = text::put(t, &mut room, 0);
+    match written {
+        Written::Next(n) => forms::is_form(kind, &room[..n]),
+        Written::NoRoom => false,
+        Written::NoText => false,
+    }
+}
+
+// Writes the text of a word of the kind from place `at`.
+pub fn put(kind: u8, t: u64, out: &mut [u8], at: usize) -> Written
+    ensures { λ r. ⌜ r ≡ writtenNext (isWord kind t) (textOf t) (now (out .entry)) at ⌝ }
+    ensures { λ _. ⌜ now (out .exit) ≡ writtenBytes (isWord kind t) (textOf t) (now (out .entry)) at ⌝ }
+{
+    if holds(kind, t) {
+        text::put(t, out, at)
+    } else {
+        Written::NoText
+    }
+}
