@@ -12,13 +12,14 @@ use borrow.Author.Tests.{le-leb, leb-true, eqb-true}
 use Rattle.text.specs.Bytes.{bytes}
 use Rattle.text.specs.Class.{all, isDigit, isLetter, isAlnum, isTextByte}
 use Rattle.text.specs.Text.{isText}
-use Rattle.text.proofs.Logic.{and-left, and-right, true-false, not-fails, or-second, pick, pick-with}
+use Rattle.text.proofs.Logic.{and-left, and-right, true-false, not-fails, pick, pick-with}
+use Rattle.text.proofs.Codes.{all-between}
 use Rattle.shapes.specs.Picture.{either, isOf, fits, longer, pictures, fitsAny, oneOf, run, part}
 use Rattle.shapes.specs.Cut.{before, after, joins}
 use Rattle.shapes.proofs.Laws.{fits-length, run-least, run-most, run-class}
 use Rattle.shapes.proofs.Joins.{joins-parts}
-use Rattle.forms.specs.Form.{isSequence, isStamp, isSite, isKey, isNumber, isPrefix, isModel, isSuffix, isFiledSpeed, isGroundSpeed, isPoint, isFix, isClock, isTime, isArrival, isLevel, isTrackLevel, isPosition, isAmendment}
-use Rattle.forms.specs.Kind.{SEQUENCE, STAMP, SITE, KEY, NUMBER, PREFIX, MODEL, SUFFIX, FILED-SPEED, GROUND-SPEED, POINT, FIX, TIME, CLOCK, ARRIVAL, LEVEL, TRACK-LEVEL, POSITION, AMENDMENT, isForm}
+use Rattle.forms.specs.Form.{isSequence, isStamp, isSite, isKey, isNumber, isPrefix, isModel, isOneLetter, isFiledSpeed, isGroundSpeed, isPoint, isFix, isClock, isTime, isArrival, isLevel, isTrackLevel, isPosition, isAmendment}
+use Rattle.forms.specs.Kind.{SEQUENCE, STAMP, SITE, KEY, NUMBER, PREFIX, MODEL, LETTER, FILED-SPEED, GROUND-SPEED, POINT, FIX, TIME, CLOCK, ARRIVAL, LEVEL, TRACK-LEVEL, POSITION, AMENDMENT, isForm}
 
 pub record Held (s : List ℕ) : Type 0 where
   pub text : isText s ≡ true
@@ -137,11 +138,6 @@ run-held : (k least most : ℕ) (s : List ℕ) → textual k ≡ true → 1 ≤ 
 run-held k least most s h a b e =
     held s (omega (arith, run-least k least most s e)) (omega (arith, run-most k least most s e)) (all-text s (isOf k) (λ x. of-text k x h) (run-class k least most s e))
 
-joined-text : (x : List ℕ) (b : ℕ) (y : List ℕ) → isTextByte b ≡ true → all isTextByte x ≡ true → all isTextByte y ≡ true → all isTextByte (x ++ b ∷ y) ≡ true
-unfolding all
-joined-text [] b y h c d = rw (h, d)
-joined-text (a ∷ x) b y h c d = rw (and-left (isTextByte a) (all isTextByte x) c, joined-text x b y h (and-right (isTextByte a) (all isTextByte x) c) d)
-
 -- two runs of texts with a byte of texts between them
 joins-held : (b k : ℕ) (l₁ m₁ l₂ m₂ : ℕ) (s : List ℕ) → isTextByte b ≡ true → textual k ≡ true → m₁ + 1 + m₂ ≤ 12 → joins b (run k l₁ m₁) (run k l₂ m₂) s ≡ true → Held s
 joins-held b k l₁ m₁ l₂ m₂ s h t few e =
@@ -149,7 +145,7 @@ joins-held b k l₁ m₁ l₂ m₂ s h t few e =
     let whole = length-append (before b s) (b ∷ after b s) in
     let size = ap length (j .0) in
     held s (omega (arith, whole, size)) (omega (arith, whole, size, run-most k l₁ m₁ (before b s) (j .1), run-most k l₂ m₂ (after b s) (j .2)))
-    (rw (← (j .0)) (joined-text (before b s) b (after b s) h (bytes-of (before b s) l₁ m₁ (j .1)) (bytes-of (after b s) l₂ m₂ (j .2))))
+    (rw (← (j .0)) (all-between isTextByte (before b s) b (after b s) h (bytes-of (before b s) l₁ m₁ (j .1)) (bytes-of (after b s) l₂ m₂ (j .2))))
   where
     bytes-of : (x : List ℕ) (l m : ℕ) → run k l m x ≡ true → all isTextByte x ≡ true
     bytes-of x l m d = all-text x (isOf k) (λ y. of-text k y t) (run-class k l m x d)
@@ -200,7 +196,7 @@ form-held k s =
     (pick (eqb k NUMBER) (isNumber s) _ (fits-held (bytes "dda") s refl)
     (pick (eqb k PREFIX) (isPrefix s) _ (one-held (bytes "a|da") s refl)
     (pick (eqb k MODEL) (isModel s) _ (run-held (code "a") 2 4 s refl (lit≤ tt) (lit≤ tt))
-    (pick (eqb k SUFFIX) (isSuffix s) _ (fits-held (bytes "l") s refl)
+    (pick (eqb k LETTER) (isOneLetter s) _ (fits-held (bytes "l") s refl)
     (pick (eqb k FILED-SPEED) (isFiledSpeed s) _ (one-held (bytes "dd|ddd|dddd|lddd|SC") s refl)
     (pick (eqb k GROUND-SPEED) (isGroundSpeed s) _ (fits-held (bytes "ddd") s refl)
     (pick (eqb k POINT) (isPoint s) _ (run-held (code "a") 2 12 s refl (lit≤ tt) (lit≤ tt))

@@ -52,8 +52,8 @@ isPrefix s = oneOf (bytes "a|da") s
 abbrev pub isModel : List ℕ → Bool
 isModel s = run (code "a") 2 4 s
 
-abbrev pub isSuffix : List ℕ → Bool
-isSuffix s = fits (bytes "l") s
+abbrev pub isOneLetter : List ℕ → Bool
+isOneLetter s = fits (bytes "l") s
 
 -- filed speed: "2 to 4 digits, or a letter and 3 digits (Mach), or SC"
 abbrev pub isFiledSpeed : List ℕ → Bool

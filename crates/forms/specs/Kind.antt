@@ -4,7 +4,7 @@ use Prim.Native.Char.{code}
 use mathlib.Core.Bool.{Bool, true, false, cond}
 use mathlib.Core.List.{List}
 use lib.Dec.{eqb}
-use Rattle.forms.specs.Form.{isSequence, isStamp, isSite, isKey, isNumber, isPrefix, isModel, isSuffix, isFiledSpeed, isGroundSpeed, isPoint, isFix, isTime, isClock, isArrival, isLevel, isTrackLevel, isPosition, isAmendment}
+use Rattle.forms.specs.Form.{isSequence, isStamp, isSite, isKey, isNumber, isPrefix, isModel, isOneLetter, isFiledSpeed, isGroundSpeed, isPoint, isFix, isTime, isClock, isArrival, isLevel, isTrackLevel, isPosition, isAmendment}
 
 abbrev pub SEQUENCE : ℕ
 SEQUENCE = code "Q"
@@ -27,8 +27,8 @@ PREFIX = code "X"
 abbrev pub MODEL : ℕ
 MODEL = code "V"
 
-abbrev pub SUFFIX : ℕ
-SUFFIX = code "E"
+abbrev pub LETTER : ℕ
+LETTER = code "E"
 
 abbrev pub FILED-SPEED : ℕ
 FILED-SPEED = code "S"
@@ -73,7 +73,7 @@ isForm k s =
     (cond (eqb k NUMBER) (isNumber s)
     (cond (eqb k PREFIX) (isPrefix s)
     (cond (eqb k MODEL) (isModel s)
-    (cond (eqb k SUFFIX) (isSuffix s)
+    (cond (eqb k LETTER) (isOneLetter s)
     (cond (eqb k FILED-SPEED) (isFiledSpeed s)
     (cond (eqb k GROUND-SPEED) (isGroundSpeed s)
     (cond (eqb k POINT) (isPoint s)

@@ -24,7 +24,7 @@ pub const PREFIX: u8 = b'X';
 
 pub const MODEL: u8 = b'V';
 
-pub const SUFFIX: u8 = b'E';
+pub const LETTER: u8 = b'E';
 
 pub const FILED_SPEED: u8 = b'S';
 
@@ -162,7 +162,7 @@ pub fn is_form(kind: u8, s: &[u8]) -> bool
         NUMBER => fits(b"dda", s),
         PREFIX => one_of(b"a|da", s),
         MODEL => run(b'a', 2, 4, s),
-        SUFFIX => fits(b"l", s),
+        LETTER => fits(b"l", s),
         FILED_SPEED => one_of(b"dd|ddd|dddd|lddd|SC", s),
         GROUND_SPEED => fits(b"ddd", s),
         POINT => run(b'a', 2, 12, s),

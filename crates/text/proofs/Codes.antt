@@ -1,7 +1,7 @@
 -- The laws of codes: a byte and its code give each other, and a class of bytes is a range of codes. Assumes nothing.
 use mathlib.Core.Path.{_≡_, refl, sym, ap₂, _∙_}
 use mathlib.Core.Bool.{Bool, true, false, cond, _&&_, _||_, Bool·beq}
-use mathlib.Core.List.{List, [], _∷_, map}
+use mathlib.Core.List.{List, [], _∷_, _++_, map}
 use Prim.Native.Nat.{ℕ, _≤_, _<_}
 use native.Mathlib.Omega.{arith}
 use lib.Dec.{leb, eqb, lit≤}
@@ -67,6 +67,12 @@ code-byte d h k =
 
 abbrev pub inRange : ℕ → ℕ → ℕ → Bool
 inRange lo hi d = leb lo d && leb d hi
+
+-- a class of two lists is a class of both with a byte of it between them
+pub all-between : (f : ℕ → Bool) (x : List ℕ) (b : ℕ) (y : List ℕ) → f b ≡ true → all f x ≡ true → all f y ≡ true → all f (x ++ b ∷ y) ≡ true
+unfolding all
+all-between f [] b y h c d = rw (h, d)
+all-between f (a ∷ x) b y h c d = rw (and-left (f a) (all f x) c, all-between f x b y h (and-right (f a) (all f x) c) d)
 
 -- where it is so of each byte, it is so of a list
 pub class-all : (f : ℕ → Bool) (lo hi : ℕ) → ((b : ℕ) → f b ≡ inRange lo hi (codeOf b)) → (s : List ℕ) → all f s ≡ allIn lo hi (map codeOf s)

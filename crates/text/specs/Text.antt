@@ -36,6 +36,13 @@ packOf s = cond (isText s) (Text (packed s)) Nothing
 unfoldable pub sizeOf : ℕ → Sized
 sizeOf t = cond (isPacked t) (Bytes (length (textOf t))) NotOne
 
+-- two texts with a slash between them
+unfoldable pub slashed : List ℕ → List ℕ → List ℕ
+slashed x y = x ++ 47 ∷ y
+
+unfoldable pub joinOf : ℕ → ℕ → Packed
+joinOf a b = cond (isPacked a && isPacked b && leb (length (slashed (textOf a) (textOf b))) 12) (Text (packed (slashed (textOf a) (textOf b)))) Nothing
+
 -- vs in the place of as many bytes of l from index i; every other byte as it was
 unfoldable pub spliced : List ℕ → ℕ → List ℕ → List ℕ
 spliced l i vs = take i l ++ vs ++ drop (i + length vs) l

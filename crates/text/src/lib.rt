@@ -6,7 +6,7 @@ ghost use Prim.Native.Nat.{_+_, _≤_};
 ghost use lib.ListN.{length};
 ghost use Rattle.text.specs.Code.{codeOf, byteOf};
 ghost use Rattle.text.specs.Number.{readNumber};
-ghost use Rattle.text.specs.Text.{packOf, sizeOf, isPacked, textOf, spliced, writtenNext, writtenBytes};
+ghost use Rattle.text.specs.Text.{packOf, sizeOf, joinOf, isPacked, textOf, spliced, writtenNext, writtenBytes};
 
 pub enum Packed {
     Text(u64),
@@ -148,6 +148,31 @@ pub fn put(t: u64, out: &mut [u8], at: usize) -> Written
             }
             let next = write(t, out, at);
             Written::Next(next)
+        }
+    }
+}
+
+// The number of the text of a, a slash and the text of b, where these are texts and 12 bytes hold them.
+pub fn join(a: u64, b: u64) -> Packed
+    ensures { λ r. ⌜ r ≡ joinOf a b ⌝ }
+{
+    let mut room = [0u8; 12];
+    let first = put(a, &mut room, 0);
+    match first {
+        Written::NoText => Packed::Nothing,
+        Written::NoRoom => Packed::Nothing,
+        Written::Next(n) => {
+            if n >= 12 {
+                return Packed::Nothing;
+            }
+            room[n] = b'/';
+            let m = n + 1;
+            let second = put(b, &mut room, m);
+            match second {
+                Written::NoText => Packed::Nothing,
+                Written::NoRoom => Packed::Nothing,
+                Written::Next(end) => pack(&room[..end]),
+            }
         }
     }
 }
