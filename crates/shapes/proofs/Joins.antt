@@ -3,18 +3,18 @@
 use mathlib.Core.Path.{_≡_, refl, sym, ap, _∙_, subst}
 use mathlib.Core.Bool.{Bool, true, false, cond, _&&_}
 use mathlib.Core.List.{List, [], _∷_, _++_}
-use Prim.Native.Nat.{ℕ, suc, _+_, _<_}
+use Prim.Native.Nat.{ℕ, suc, _+_, _≤_, _<_}
 use native.Mathlib.Nat.{suc-add}
 use native.Mathlib.Numerals.{add-one}
 use native.Mathlib.Omega.{arith}
 use lib.Dec.{eqb, ltb}
-use lib.ListN.{length, take, drop, getD, length-append}
-use lib.Seq.{split-at, take-at, drop-at, append-snoc}
+use lib.ListN.{length, take, drop, getD, length-append, drop-of-length-le}
+use lib.Seq.{split-at, take-at, take-all, drop-at, append-snoc}
 use borrow.Author.Tests.{lt-ltb, le-ltb, eq-eqb, eqb-true, ltb-true, ltb-false}
 use Rattle.text.specs.Class.{all}
 use Rattle.text.proofs.Logic.{and-left, and-right, true-false}
 use Rattle.shapes.specs.Cut.{upTo, has, before, after, joins}
-use Rattle.shapes.proofs.Laws.{upTo-at, upTo-here, upTo-next}
+use Rattle.shapes.proofs.Laws.{upTo-le, upTo-at}
 
 -- what is cut is the two parts with b between them
 pub cut-whole : (b : ℕ) (s : List ℕ) → has b s ≡ true → before b s ++ b ∷ after b s ≡ s
@@ -70,3 +70,21 @@ module _ (b : ℕ) (p q : List ℕ → Bool) where
   pub parts-join : (x y : List ℕ) → upTo b x ≡ length x → p x ≡ true → q y ≡ true → joins b p q (x ++ b ∷ y) ≡ true
   unfolding joins
   parts-join x y none h k = rw (joined-has b x y none, joined-before b x y none, joined-after b x y none, h, k)
+
+-- a text with no b is not cut
+module _ (b : ℕ) (s : List ℕ) (none : upTo b s ≡ length s) where
+  pub whole-has : has b s ≡ false
+  unfolding has
+  whole-has = le-ltb (upTo b s) (length s) (omega arith)
+
+  pub whole-before : before b s ≡ s
+  unfolding before
+  whole-before = take-all (upTo b s) s (omega arith)
+
+  pub whole-after : after b s ≡ []
+  unfolding after
+  whole-after = let h : length s ≤ upTo b s + 1 = omega arith in drop-of-length-le s h
+
+pub no-cut : (b : ℕ) (s : List ℕ) → has b s ≡ false → upTo b s ≡ length s
+unfolding has
+no-cut b s e = omega (arith, ltb-false (upTo b s) (length s) e, upTo-le b s)

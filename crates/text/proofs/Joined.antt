@@ -8,12 +8,12 @@ use native.Mathlib.Omega.{arith}
 use lib.Dec.{leb}
 use lib.ListN.{length, take, set, length-append}
 use lib.Seq.{append-snoc}
-use borrow.Author.Tests.{le-leb, lt-leb}
+use borrow.Author.Tests.{le-leb, lt-leb, leb-false}
 use Rattle.text.specs.Class.{all, isDigit, isLetter, isAlnum, isTextByte}
 use Rattle.text.specs.Text.{packed, textOf, isText, isPacked, packOf, slashed, joinOf, spliced, writtenNext, writtenBytes}
 use Rattle.text.specs.declared.Packed.the-variants.{Text, Nothing}
 use Rattle.text.specs.declared.Written.the-variants.{Next, NoRoom, NoText}
-use Rattle.text.proofs.Logic.{and-right}
+use Rattle.text.proofs.Logic.{and-left, and-right}
 use Rattle.text.proofs.Codes.{all-between}
 use Rattle.text.proofs.Laws.{text-is, next-known, no-room-known, no-text-known, has-room}
 use Rattle.text.proofs.Splice.{length-spliced, spliced-next, set-spliced, take-spliced}
@@ -98,3 +98,25 @@ module _ (a b n : ℕ) (room once : List ℕ) (twelve : length room ≡ 12) (tol
 
       pub join-both : packOf (take end twice) ≡ joinOf a b
       join-both = ap packOf stands ∙ join-done a b (known .0) (known₂ .0) (omega (arith, known .1, known₂ .1, join-end))
+
+-- ---- what `join` answers
+
+pub join-known : (a b : ℕ) {t : ℕ} → joinOf a b ≡ Text t → (t ≡ packed (slashed (textOf a) (textOf b))) × (isText (slashed (textOf a) (textOf b)) ≡ true)
+unfolding joinOf isText
+join-known a b {t} e = go (isPacked a && isPacked b) refl (leb (length (slashed (textOf a) (textOf b))) 12) refl
+  where
+    go : (p : Bool) → (isPacked a && isPacked b) ≡ p → (q : Bool) → leb (length (slashed (textOf a) (textOf b))) 12 ≡ q → (t ≡ packed (slashed (textOf a) (textOf b))) × (isText (slashed (textOf a) (textOf b)) ≡ true)
+    go true p true q =
+        let x = text-bytes a (and-left (isPacked a) (isPacked b) p) in
+        let y = text-bytes b (and-right (isPacked a) (isPacked b) p) in
+        ((cc), rw (q, slashed-bytes (textOf a) (textOf b) x y))
+    go true p false q = let z : Nothing ≡ Text t = rw (p, q) at e in ((cc), (cc))
+    go false p q r = let z : Nothing ≡ Text t = rw p at e in ((cc), (cc))
+
+pub join-none : (a b : ℕ) → isPacked a ≡ true → isPacked b ≡ true → joinOf a b ≡ Nothing → 12 < length (slashed (textOf a) (textOf b))
+unfolding joinOf
+join-none a b p q e = go (leb (length (slashed (textOf a) (textOf b))) 12) refl
+  where
+    go : (r : Bool) → leb (length (slashed (textOf a) (textOf b))) 12 ≡ r → 12 < length (slashed (textOf a) (textOf b))
+    go true r = let z : Text (packed (slashed (textOf a) (textOf b))) ≡ Nothing = rw (p, q, r) at e in absurd (let y : _≡_ {A = ℕ} 0 1 = cc in omega arith)
+    go false r = leb-false (length (slashed (textOf a) (textOf b))) 12 r

@@ -64,3 +64,11 @@ read-none k s e = rw e
 -- a word of the kind is written exactly where a text is
 pub writes-word : (k t : ℕ) → isWord k t ≡ true → isPacked t ≡ isWord k t
 writes-word k t e = word-packed k t e ∙ sym e
+
+pub word-known : (k : ℕ) (s : List ℕ) {t : ℕ} → wordOf k s ≡ Text t → (isForm k s ≡ true) × (t ≡ packed s)
+unfolding wordOf
+word-known k s {t} e = go (isForm k s) refl
+  where
+    go : (b : Bool) → isForm k s ≡ b → (isForm k s ≡ true) × (t ≡ packed s)
+    go true q = (q, (cc))
+    go false q = let z : Nothing ≡ Text t = rw q at e in ((cc), (cc))

@@ -1,2 +1,4 @@
 pub mod Laws
+pub mod Pairs
+pub mod Digits
 pub mod Unique

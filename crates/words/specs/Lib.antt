@@ -1,1 +1,3 @@
 pub mod Word
+pub mod Pair
+pub mod Digits

@@ -1,10 +1,14 @@
 // A field of a kind that is held as its text: read from bytes as a word, tested, and written back. Every such field goes
 // through these three functions; `fields` gives each kind a type of its own.
+use text::Numeral;
 use text::Packed;
 use text::Written;
 ghost use mathlib.Core.Path.{_≡_};
 ghost use Rattle.text.specs.Text.{textOf, writtenNext, writtenBytes};
 ghost use Rattle.words.specs.Word.{wordOf, isWord};
+ghost use Rattle.words.specs.Pair.{pairOf, pairText, isPair, pairWord, isPairText};
+ghost use Rattle.words.specs.Digits.{orNone, numberAt};
+ghost use Rattle.text.specs.Number.{readNumber};
 
 // The word of s, where s has the form of the kind.
 pub fn read(kind: u8, s: &[u8]) -> Packed
@@ -39,5 +43,103 @@ pub fn put(kind: u8, t: u64, out: &mut [u8], at: usize) -> Written
         text::put(t, out, at)
     } else {
         Written::NoText
+    }
+}
+
+// What is read of two words in one field; the second is 0 where there is none.
+pub enum Pair {
+    Both(u64, u64),
+    Nothing,
+}
+
+// A field of the first kind, then optionally a slash and one of the second.
+pub fn read_pair(first: u8, second: u8, s: &[u8]) -> Pair
+    ensures { λ r. ⌜ r ≡ pairOf first second (now (s .entry)) ⌝ }
+{
+    let i = shapes::find(b'/', s);
+    if i >= s.len() {
+        let Packed::Text(a) = read(first, s) else {
+            return Pair::Nothing;
+        };
+        return Pair::Both(a, 0);
+    }
+    let Packed::Text(a) = read(first, &s[..i]) else {
+        return Pair::Nothing;
+    };
+    let j = i + 1;
+    let Packed::Text(b) = read(second, &s[j..]) else {
+        return Pair::Nothing;
+    };
+    Pair::Both(a, b)
+}
+
+// Whether a and b are words that some text of the two kinds gives.
+pub fn holds_pair(first: u8, second: u8, a: u64, b: u64) -> bool
+    ensures { λ r. ⌜ r ≡ isPair first second a b ⌝ }
+{
+    if !holds(first, a) {
+        return false;
+    }
+    if b == 0 {
+        return true;
+    }
+    holds(second, b)
+}
+
+// The word of the whole text.
+pub fn pair_word(a: u64, b: u64) -> Packed
+    ensures { λ r. ⌜ r ≡ pairWord a b ⌝ }
+{
+    if b == 0 {
+        return Packed::Text(a);
+    }
+    text::join(a, b)
+}
+
+// Writes the text of two words of the kinds from place `at`.
+pub fn put_pair(first: u8, second: u8, a: u64, b: u64, out: &mut [u8], at: usize) -> Written
+    ensures { λ r. ⌜ r ≡ writtenNext (isPairText first second a b) (pairText a b) (now (out .entry)) at ⌝ }
+    ensures { λ _. ⌜ now (out .exit) ≡ writtenBytes (isPairText first second a b) (pairText a b) (now (out .entry)) at ⌝ }
+{
+    if !holds_pair(first, second, a, b) {
+        return Written::NoText;
+    }
+    let word = pair_word(a, b);
+    match word {
+        Packed::Text(t) => text::put(t, out, at),
+        Packed::Nothing => Written::NoText,
+    }
+}
+
+// The decimal number that s is; 0 where it is none.
+fn decimal(s: &[u8]) -> u64
+    ensures { λ r. ⌜ r ≡ orNone (readNumber 10 (now (s .entry))) ⌝ }
+{
+    let number = text::number(s, 10);
+    match number {
+        Numeral::Value(n) => n,
+        Numeral::Nothing => 0,
+    }
+}
+
+// The decimal number of n bytes from index i of the text of t; 0 where they are none.
+pub fn number_at(t: u64, i: usize, n: usize) -> u64
+    ensures { λ r. ⌜ r ≡ numberAt t i n ⌝ }
+{
+    let mut room = [0u8; 12];
+    let written = text::put(t, &mut room, 0);
+    match written {
+        Written::NoText => 0,
+        Written::NoRoom => 0,
+        Written::Next(end) => {
+            if i > end {
+                return 0;
+            }
+            if n > end - i {
+                return 0;
+            }
+            let j = i + n;
+            decimal(&room[i..j])
+        }
     }
 }
