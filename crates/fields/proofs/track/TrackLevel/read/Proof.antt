@@ -1,0 +1,16 @@
+-- `fields::track::TrackLevel::read` meets its contract: it hands on what was read. Assumes nothing.
+use mathlib.Core.Path.{sym, ap, _∙_}
+use borrow.Author.Needs.{needs}
+use Rattle.fields.specs.Typed.{asTrackLevel}
+use Rattle.fields.proofs.track.TrackLevel.read.Statement.{statement}
+use Rattle.fields.proofs.track.TrackLevel.read.Tie as tie
+
+pub read-spec : {M : Type 1} → statement M
+read-spec =
+    tie.close
+    (tie.spec
+    (λ c κs. search needs)
+    (λ c. search needs)
+    (λ c. search needs)
+    (λ c. ap asTrackLevel (sym (c .enum-told .given .1) ∙ c .before .before .read .ensures))
+    (λ c. ap asTrackLevel (sym (c .before .t .given .1) ∙ c .before .before .before .read .ensures)))
