@@ -12,7 +12,7 @@ use borrow.Author.Tests.{le-leb, leb-true, eqb-true}
 use Rattle.text.specs.Bytes.{bytes}
 use Rattle.text.specs.Class.{all, isDigit, isLetter, isAlnum, isTextByte}
 use Rattle.text.specs.Text.{isText}
-use Rattle.text.proofs.Logic.{and-left, and-right, true-false, not-fails, pick, pick-with}
+use Rattle.text.proofs.Logic.{and-left, and-right, true-false, not-fails, either-of, pick, pick-with}
 use Rattle.text.proofs.Codes.{all-between}
 use Rattle.shapes.specs.Picture.{either, isOf, fits, longer, pictures, fitsAny, oneOf, run, part}
 use Rattle.shapes.specs.Cut.{before, after, joins}
@@ -48,11 +48,6 @@ alnum-text b e = rw e
 
 this-text : (x b : ℕ) → isTextByte x ≡ true → eqb b x ≡ true → isTextByte b ≡ true
 this-text x b h e = rw (eqb-true b x e) h
-
--- a test that holds of either of two holds where one of the two does
-either-of : {X : Type 0} (a b : Bool) → (a ≡ true → X) → (b ≡ true → X) → (a || b) ≡ true → X
-either-of true b f g e = f refl
-either-of false b f g e = g e
 
 two-text : (x y b : ℕ) → isTextByte x ≡ true → isTextByte y ≡ true → either x y b ≡ true → isTextByte b ≡ true
 two-text x y b h k = either-of (eqb b x) (eqb b y) (this-text x b h) (this-text y b k)

@@ -1,7 +1,7 @@
 -- A text cut at the first b and the two parts with b between them are the same thing, where the first part has no b.
 -- Assumes nothing.
 use mathlib.Core.Path.{_≡_, refl, sym, ap, _∙_, subst}
-use mathlib.Core.Bool.{Bool, true, false, cond, _&&_}
+use mathlib.Core.Bool.{Bool, true, false, cond, not, _&&_}
 use mathlib.Core.List.{List, [], _∷_, _++_}
 use Prim.Native.Nat.{ℕ, suc, _+_, _≤_, _<_}
 use native.Mathlib.Nat.{suc-add}
@@ -10,9 +10,10 @@ use native.Mathlib.Omega.{arith}
 use lib.Dec.{eqb, ltb}
 use lib.ListN.{length, take, drop, getD, length-append, drop-of-length-le}
 use lib.Seq.{split-at, take-at, take-all, drop-at, append-snoc}
-use borrow.Author.Tests.{lt-ltb, le-ltb, eq-eqb, eqb-true, ltb-true, ltb-false}
+use borrow.Author.Tests.{lt-ltb, le-ltb, eq-eqb, eqb-true, ltb-true, ltb-false, not-true}
 use Rattle.text.specs.Class.{all}
 use Rattle.text.proofs.Logic.{and-left, and-right, true-false}
+use Rattle.shapes.specs.Picture.{isOf, fits}
 use Rattle.shapes.specs.Cut.{upTo, has, before, after, joins}
 use Rattle.shapes.proofs.Laws.{upTo-le, upTo-at}
 
@@ -31,6 +32,21 @@ has-no b f h (x ∷ s) e = go (eqb x b) refl (has-no b f h s (and-right (f x) (a
   where
     go : (t : Bool) → eqb x b ≡ t → upTo b s ≡ length s → upTo b (x ∷ s) ≡ suc (length s)
     go true q r = true-false (and-left (f x) (all f s) e) (ap f (eqb-true x b q) ∙ h)
+    go false q r = rw (q, r)
+
+-- nor has one that fits a picture in which nothing stands for b
+pub fits-no : (b : ℕ) (p s : List ℕ) → all (λ k. not (isOf k b)) p ≡ true → fits p s ≡ true → upTo b s ≡ length s
+unfolding all fits upTo
+fits-no b [] [] h e = refl
+fits-no b [] (x ∷ s) h e = true-false e refl
+fits-no b (k ∷ p) [] h e = true-false e refl
+fits-no b (k ∷ p) (x ∷ s) h e =
+    go (eqb x b) refl (fits-no b p s (and-right (not (isOf k b)) (all (λ k. not (isOf k b)) p) h) (and-right (isOf k x) (fits p s) e))
+  where
+    go : (t : Bool) → eqb x b ≡ t → upTo b s ≡ length s → upTo b (x ∷ s) ≡ suc (length s)
+    go true q r =
+        let y : isOf k b ≡ true = sym (ap (isOf k) (eqb-true x b q)) ∙ and-left (isOf k x) (fits p s) e in
+        true-false y (not-true (isOf k b) (and-left (not (isOf k b)) (all (λ k. not (isOf k b)) p) h))
     go false q r = rw (q, r)
 
 module _ (b : ℕ) where

@@ -36,6 +36,11 @@ pub or-second : (a b : Bool) → (a || b) ≡ true → a ≡ false → b ≡ tru
 or-second true b e q = true-false refl q
 or-second false b e q = e
 
+-- what follows from either of two tests follows where one of the two holds
+pub either-of : {X : Type 0} (a b : Bool) → (a ≡ true → X) → (b ≡ true → X) → (a || b) ≡ true → X
+either-of true b f g e = f refl
+either-of false b f g e = g e
+
 pub implied : (a b : Bool) → (not a || b) ≡ true → a ≡ true → b ≡ true
 implied true b e h = e
 implied false b e h = true-false h refl

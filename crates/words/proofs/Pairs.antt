@@ -24,7 +24,7 @@ use Rattle.words.specs.Pair.{slash, isPairForm, pairOf, pairText, isPair
 use Rattle.words.specs.declared.Pair.the-variants.{Both, Nothing}
 use Rattle.words.proofs.Laws.{word-known, read-refused, word-packed, word-form, word-some, form-word}
 
-packed-none : packed [] ≡ 0
+pub packed-none : packed [] ≡ 0
 unfolding packed value
 packed-none = refl
 
@@ -62,12 +62,12 @@ module _ (k l : ℕ) (s : List ℕ) (i : ℕ) (at : i ≡ upTo slash s) where
 
 -- ---- sound and complete
 
-text-none : textOf 0 ≡ []
+pub text-none : textOf 0 ≡ []
 unfolding textOf digits
 text-none = refl
 
 -- a text with a byte has a number above 0
-packed-some : (s : List ℕ) → isText s ≡ true → 0 < length s → packed s ≡ 0 → ⊥
+pub packed-some : (s : List ℕ) → isText s ≡ true → 0 < length s → packed s ≡ 0 → ⊥
 packed-some s e h z = omega (arith, ap length (sym (text-packed s e) ∙ ap textOf z ∙ text-none))
 
 -- the words of a text that has the form

@@ -1,0 +1,3 @@
+pub mod Slashes
+pub mod Idents
+pub mod Aircrafts

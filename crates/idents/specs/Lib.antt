@@ -1,0 +1,2 @@
+pub mod Ident
+pub mod Aircraft

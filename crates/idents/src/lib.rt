@@ -1,0 +1,3 @@
+// The fields that are more than one text: the ident and the aircraft.
+pub mod aircraft;
+pub mod ident;
