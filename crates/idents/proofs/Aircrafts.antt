@@ -51,11 +51,11 @@ module _ (s : List ℕ) (i : ℕ) (at : i ≡ upTo slash s) where
 -- ---- writing
 
 module _ (a : Aircraft) (e : isAircraftValue a ≡ true) where
-  tail-value : isPair MODEL LETTER (a .model) (a .letter) ≡ true
+  pub tail-value : isPair MODEL LETTER (a .model) (a .letter) ≡ true
   unfolding isAircraftValue
   tail-value = and-left (isPair MODEL LETTER (a .model) (a .letter)) (eqb (a .prefix) 0 || isWord PREFIX (a .prefix)) e
 
-  prefix-value : eqb (a .prefix) 0 ≡ false → isWord PREFIX (a .prefix) ≡ true
+  pub prefix-value : eqb (a .prefix) 0 ≡ false → isWord PREFIX (a .prefix) ≡ true
   unfolding isAircraftValue
   prefix-value q = rw q at (and-right (isPair MODEL LETTER (a .model) (a .letter)) (eqb (a .prefix) 0 || isWord PREFIX (a .prefix)) e)
 

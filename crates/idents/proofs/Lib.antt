@@ -1,3 +1,4 @@
 pub mod Slashes
 pub mod Idents
 pub mod Aircrafts
+pub mod Readings
