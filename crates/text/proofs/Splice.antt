@@ -33,6 +33,12 @@ pub set-spliced : (l : List ℕ) (i b : ℕ) → i < length l → set l i b ≡ 
 unfolding spliced
 set-spliced l i b h = set-split l i b h ∙ rw add-one (sym (append-snoc (take i l) b (drop (suc i) l)))
 
+-- one store more, after what was written
+pub next-store : (l vs : List ℕ) (i b : ℕ) → i + length vs < length l → set (spliced l i vs) (i + length vs) b ≡ spliced l i (vs ++ b ∷ [])
+next-store l vs i b h =
+    let k : i + length vs ≤ length l = omega arith in
+    set-spliced (spliced l i vs) (i + length vs) b (omega (arith, length-spliced l vs i k)) ∙ spliced-next l vs (b ∷ []) i k
+
 -- what was written at the start stands at the start
 pub take-spliced : (l vs : List ℕ) (n : ℕ) → n ≡ length vs → take n (spliced l 0 vs) ≡ vs
 unfolding spliced

@@ -1,0 +1,44 @@
+-- `heads::Facility::read` meets its contract. Assumes nothing.
+use mathlib.Core.Path.{sym, _∙_}
+use native.Mathlib.Omega.{arith}
+use borrow.Author.Tests.{not-true, not-false}
+use Rattle.heads.specs.Facility.{facilityOf}
+use Rattle.heads.proofs.Facilities.{facility-length, value-four}
+use borrow.Author.Needs.{needs}
+use Rattle.heads.proofs.Facility.read.Statement.{statement}
+use Rattle.heads.proofs.Facility.read.Tie as tie
+
+returns : tie.Need-returns
+unfolding facilityOf
+returns c = rw (sym (c .before .is-facility .ensures) ∙ not-true _ (c .if1 .taken))
+
+shared-slice-read-joined : tie.Need-shared-slice-read-joined
+shared-slice-read-joined c = omega (arith, facility-length _ (sym (c .before .before .is-facility .ensures) ∙ not-false _ (c .before .if1 .left)))
+
+shared-slice-read-joined-2 : tie.Need-shared-slice-read-joined-2
+shared-slice-read-joined-2 c = omega (arith, facility-length _ (sym (c .before .before .before .is-facility .ensures) ∙ not-false _ (c .before .before .if1 .left)))
+
+shared-slice-read-joined-3 : tie.Need-shared-slice-read-joined-3
+shared-slice-read-joined-3 c = omega (arith, facility-length _ (sym (c .before .before .before .before .is-facility .ensures) ∙ not-false _ (c .before .before .before .if1 .left)))
+
+shared-slice-read-joined-4 : tie.Need-shared-slice-read-joined-4
+shared-slice-read-joined-4 c = omega (arith, facility-length _ (sym (c .before .before .before .before .before .is-facility .ensures) ∙ not-false _ (c .before .before .before .before .if1 .left)))
+
+returns-2 : tie.Need-returns-2
+unfolding facilityOf
+returns-2 c =
+    let e = sym (c .before .before .before .before .before .before .is-facility .ensures) ∙ not-false _ (c .before .before .before .before .before .if1 .left) in
+    rw (e, value-four _ (facility-length _ e), c .joined .ensures)
+
+pub read-spec : {M : Type 1} → statement M
+read-spec =
+    tie.close
+    (tie.spec
+    (λ c κs. search needs)
+    returns
+    shared-slice-read-joined
+    shared-slice-read-joined-2
+    shared-slice-read-joined-3
+    shared-slice-read-joined-4
+    (λ c κs. search needs)
+    returns-2)

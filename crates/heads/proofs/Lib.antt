@@ -1,0 +1,2 @@
+pub mod Facilities
+pub mod Messages

@@ -1,0 +1,20 @@
+-- The facility (document 01, "The line"): what its reader answers, its text, and which values some text gives.
+-- Assumes nothing.
+use Prim.Native.Nat.{ℕ, _^_}
+use mathlib.Core.Bool.{Bool, cond, _&&_}
+use mathlib.Core.List.{List}
+use lib.Dec.{ltb}
+use Rattle.text.specs.Place.{value, places}
+use Rattle.forms.specs.Form.{isFacility}
+use Rattle.heads.specs.declared.FacilityRead.{FacilityRead}
+use Rattle.heads.specs.declared.FacilityRead.the-variants.{Read, Nothing}
+
+unfoldable pub facilityOf : List ℕ → FacilityRead
+facilityOf s = cond (isFacility s) (Read (record { 0 = value 256 4 s })) Nothing
+
+-- its four bytes
+unfoldable pub facilityText : ℕ → List ℕ
+facilityText n = places 256 4 n
+
+unfoldable pub isFacilityValue : ℕ → Bool
+isFacilityValue n = ltb n (256 ^ 4) && isFacility (facilityText n)
