@@ -1,4 +1,3 @@
 pub mod Laws
 pub mod Pairs
-pub mod Digits
 pub mod Unique

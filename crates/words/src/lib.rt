@@ -1,14 +1,11 @@
 // A field of a kind that is held as its text: read from bytes as a word, tested, and written back. Every such field goes
 // through these three functions; `fields` gives each kind a type of its own.
-use text::Numeral;
 use text::Packed;
 use text::Written;
 ghost use mathlib.Core.Path.{_≡_};
 ghost use Rattle.text.specs.Text.{textOf, writtenNext, writtenBytes};
 ghost use Rattle.words.specs.Word.{wordOf, isWord};
 ghost use Rattle.words.specs.Pair.{pairOf, pairText, isPair, pairWord, isPairText};
-ghost use Rattle.words.specs.Digits.{orNone, numberAt};
-ghost use Rattle.text.specs.Number.{readNumber};
 
 // The word of s, where s has the form of the kind.
 pub fn read(kind: u8, s: &[u8]) -> Packed
@@ -108,38 +105,5 @@ pub fn put_pair(first: u8, second: u8, a: u64, b: u64, out: &mut [u8], at: usize
     match word {
         Packed::Text(t) => text::put(t, out, at),
         Packed::Nothing => Written::NoText,
-    }
-}
-
-// The decimal number that s is; 0 where it is none.
-fn decimal(s: &[u8]) -> u64
-    ensures { λ r. ⌜ r ≡ orNone (readNumber 10 (now (s .entry))) ⌝ }
-{
-    let number = text::number(s, 10);
-    match number {
-        Numeral::Value(n) => n,
-        Numeral::Nothing => 0,
-    }
-}
-
-// The decimal number of n bytes from index i of the text of t; 0 where they are none.
-pub fn number_at(t: u64, i: usize, n: usize) -> u64
-    ensures { λ r. ⌜ r ≡ numberAt t i n ⌝ }
-{
-    let mut room = [0u8; 12];
-    let written = text::put(t, &mut room, 0);
-    match written {
-        Written::NoText => 0,
-        Written::NoRoom => 0,
-        Written::Next(end) => {
-            if i > end {
-                return 0;
-            }
-            if n > end - i {
-                return 0;
-            }
-            let j = i + n;
-            decimal(&room[i..j])
-        }
     }
 }

@@ -1,0 +1,45 @@
+-- `meanings::levels_of` meets its contract. Assumes nothing.
+use mathlib.Core.Path.{_≡_, sym, ap, ap₂, _∙_}
+use native.Mathlib.Nat.{le-of-lt}
+use lib.Seq.{length-take-le}
+use borrow.Author.Tests.{not-true, not-false}
+use Rattle.forms.specs.Kind.{isForm}
+use Rattle.meanings.specs.Meaning.{levelsOf}
+use Rattle.meanings.specs.declared.Levels.the-variants.{One, Block}
+use Rattle.meanings.proofs.Laws.{one-level, two-levels}
+use borrow.Author.Needs.{needs}
+use Rattle.meanings.proofs.levels_of.Statement.{statement}
+use Rattle.meanings.proofs.levels_of.Tie as tie
+
+returns : tie.Need-returns
+unfolding levelsOf isForm
+returns c = rw (sym (c .before .is-form .ensures) ∙ not-true _ (c .if1 .taken))
+
+returns-2 : tie.Need-returns-2
+unfolding isForm
+returns-2 c = ap One (c .decimal .ensures) ∙ one-level _ _ (c .before .before .find .ensures) (sym (c .before .before .before .before .is-form .ensures) ∙ not-false _ (c .before .before .before .if1 .left)) (c .before .if2 .taken)
+
+slice-aggregate-decimal : tie.Need-slice-aggregate-decimal
+slice-aggregate-decimal c = sym (length-take-le _ _ (le-of-lt (c .before .if2 .left)))
+
+returns-3 : tie.Need-returns-3
+unfolding isForm
+returns-3 c = ap₂ Block (c .before .before .decimal2 .ensures) (c .decimal3 .ensures) ∙ two-levels _ _ (c .before .before .before .before .before .find .ensures) (sym (c .before .before .before .before .before .before .before .is-form .ensures) ∙ not-false _ (c .before .before .before .before .before .before .if1 .left)) (c .before .before .before .before .if2 .left)
+
+pub levels-of-spec : {M : Type 1} → statement M
+levels-of-spec =
+    tie.close
+    (tie.spec
+    (λ c κs. search needs)
+    returns
+    (λ c κs. search needs)
+    (λ c κs. search needs)
+    returns-2
+    (λ c. search needs)
+    slice-aggregate-decimal
+    (λ c κs. search needs)
+    (λ c. search needs)
+    (λ c. search needs)
+    (λ c. search needs)
+    (λ c κs. search needs)
+    returns-3)

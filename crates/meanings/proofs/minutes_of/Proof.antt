@@ -1,0 +1,64 @@
+-- `meanings::minutes_of` meets its contract. Assumes nothing.
+use mathlib.Core.Path.{_≡_, sym, _∙_}
+use native.Mathlib.Omega.{arith}
+use lib.Dec.{eqb}
+use lib.ListN.{getD}
+use borrow.Author.Tests.{not-true, not-false}
+use denote.Ref.{now}
+use Rattle.meanings.specs.Meaning.{minutesOf}
+use Rattle.meanings.proofs.Laws.{placed, read-back}
+use borrow.Author.Needs.{needs}
+use Rattle.meanings.proofs.minutes_of.Statement.{statement}
+use Rattle.meanings.proofs.minutes_of.Tie as tie
+
+returns : tie.Need-returns
+unfolding minutesOf
+returns c = rw (sym (c .before .is-position .ensures) ∙ not-true _ (c .if1 .taken))
+
+part-decimal-end : tie.Need-part-decimal-end
+part-decimal-end c = omega (arith, placed _ (sym (c .before .is-position .ensures) ∙ not-false _ (c .if1 .left)) .size)
+
+in-minutes-requires : tie.Need-in-minutes-requires
+in-minutes-requires c κs = omega (arith, c .decimal .ensures, placed _ (sym (c .before .before .before .is-position .ensures) ∙ not-false _ (c .before .before .if1 .left)) .latitude)
+
+part-decimal-end-2 : tie.Need-part-decimal-end-2
+part-decimal-end-2 c = omega (arith, placed _ (sym (c .before .before .before .before .is-position .ensures) ∙ not-false _ (c .before .before .before .if1 .left)) .size)
+
+in-minutes-requires-2 : tie.Need-in-minutes-requires-2
+in-minutes-requires-2 c κs = omega (arith, c .decimal2 .ensures, placed _ (sym (c .before .before .before .before .before .before .is-position .ensures) ∙ not-false _ (c .before .before .before .before .before .if1 .left)) .longitude)
+
+shared-slice-read-north : tie.Need-shared-slice-read-north
+shared-slice-read-north c = omega (arith, placed _ (sym (c .before .before .before .before .before .before .before .before .is-position .ensures) ∙ not-false _ (c .before .before .before .before .before .before .before .if1 .left)) .size)
+
+shared-slice-read-east : tie.Need-shared-slice-read-east
+shared-slice-read-east c = omega (arith, placed _ (sym (c .before .before .before .before .before .before .before .before .before .is-position .ensures) ∙ not-false _ (c .before .before .before .before .before .before .before .before .if1 .left)) .size)
+
+returns-2 : tie.Need-returns-2
+unfolding minutesOf
+returns-2 c =
+    let y = c .before .before .before .before .before .before .before .in-minutes .ensures in
+    let x = c .before .before .before .before .in-minutes2 .ensures in
+    let s = now (c .before .before .before .before .before .before .before .before .before .before .before .before .before .args .s) in
+    rw (read-back _ (eqb (getD s 4 0) 78) (c .before .before .before .before .before .before .before .in-minutes .result) (c .before .signed .ensures) (y .1), read-back _ (eqb (getD s 11 0) 69) (c .before .before .before .before .in-minutes2 .result) (c .signed2 .ensures) (x .1), (sym (c .before .before .before .before .before .before .before .before .before .before .before .is-position .ensures) ∙ not-false _ (c .before .before .before .before .before .before .before .before .before .before .if1 .left)), y .0, x .0, c .before .before .before .before .before .before .before .before .decimal .ensures, c .before .before .before .before .before .decimal2 .ensures)
+
+pub minutes-of-spec : {M : Type 1} → statement M
+minutes-of-spec =
+    tie.close
+    (tie.spec
+    (λ c κs. search needs)
+    returns
+    (λ c. search needs)
+    (λ c. search needs)
+    part-decimal-end
+    (λ c κs. search needs)
+    in-minutes-requires
+    (λ c. search needs)
+    (λ c. search needs)
+    part-decimal-end-2
+    (λ c κs. search needs)
+    in-minutes-requires-2
+    shared-slice-read-north
+    shared-slice-read-east
+    (λ c κs. search needs)
+    (λ c κs. search needs)
+    returns-2)

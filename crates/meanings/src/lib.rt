@@ -1,0 +1,154 @@
+// What fields mean, for whoever asks: a stamp's moment, a position's minutes, a level's numbers. What is held of a field is
+// its text; nothing here changes it.
+use fields::frame::Stamp;
+use fields::plan::Level;
+use fields::track::Position;
+use text::Numeral;
+use text::Written;
+ghost use mathlib.Core.Path.{_≡_};
+ghost use mathlib.Core.Bool.{Bool};
+ghost use Prim.Native.Nat.{_≤_};
+ghost use Rattle.meanings.specs.Meaning.{decimalOf, inMinutes, signedBy, momentOf, momentIn, minutesOf, minutesIn, levelsOf, levelsIn};
+
+// Day, hour, minute, second, and the seconds since the day began.
+pub struct Moment {
+    pub day: u64,
+    pub hour: u64,
+    pub minute: u64,
+    pub second: u64,
+    pub seconds: u64,
+}
+
+pub enum When {
+    At(Moment),
+    NotOne,
+}
+
+// Latitude and longitude in minutes; north and east are positive.
+pub enum Minutes {
+    At(i64, i64),
+    NotOne,
+}
+
+pub enum Levels {
+    One(u64),
+    Block(u64, u64),
+    NotOne,
+}
+
+// The decimal number that s is; 0 where it is none.
+fn decimal(s: &[u8]) -> u64
+    ensures { λ r. ⌜ r ≡ decimalOf (now (s .entry)) ⌝ }
+{
+    let number = text::number(s, 10);
+    match number {
+        Numeral::Value(n) => n,
+        Numeral::Nothing => 0,
+    }
+}
+
+fn moment_of(s: &[u8]) -> When
+    ensures { λ r. ⌜ r ≡ momentOf (now (s .entry)) ⌝ }
+{
+    if !forms::is_stamp(s) {
+        return When::NotOne;
+    }
+    let day = decimal(&s[0..2]);
+    let hour = decimal(&s[2..4]);
+    let minute = decimal(&s[4..6]);
+    let second = decimal(&s[6..8]);
+    let seconds = hour * 3600 + minute * 60 + second;
+    When::At(Moment {
+        day,
+        hour,
+        minute,
+        second,
+        seconds,
+    })
+}
+
+pub fn stamp_moment(stamp: Stamp) -> When
+    ensures { λ r. ⌜ r ≡ momentIn (stamp .0) ⌝ }
+{
+    let mut room = [0u8; 12];
+    let written = text::put(stamp.0, &mut room, 0);
+    match written {
+        Written::Next(n) => moment_of(&room[..n]),
+        Written::NoRoom => When::NotOne,
+        Written::NoText => When::NotOne,
+    }
+}
+
+// Degrees and minutes, written together, as minutes.
+fn in_minutes(n: u64) -> u64
+    requires { ⌜ n ≤ 18000 ⌝ }
+    ensures { λ r. ⌜ r ≡ inMinutes n ⌝ }
+    ensures { λ r. ⌜ r ≤ 10899 ⌝ }
+{
+    n / 100 * 60 + n % 100
+}
+
+fn signed(positive: bool, n: u64) -> i64
+    requires { ⌜ n ≤ 10899 ⌝ }
+    ensures { λ r. ⌜ r ≡ signedBy positive n ⌝ }
+{
+    if positive {
+        return n as i64;
+    }
+    0 - (n as i64)
+}
+
+fn minutes_of(s: &[u8]) -> Minutes
+    ensures { λ r. ⌜ r ≡ minutesOf (now (s .entry)) ⌝ }
+{
+    if !forms::is_position(s) {
+        return Minutes::NotOne;
+    }
+    let latitude = in_minutes(decimal(&s[0..4]));
+    let longitude = in_minutes(decimal(&s[6..11]));
+    let north = s[4] == b'N';
+    let east = s[11] == b'E';
+    let y = signed(north, latitude);
+    let x = signed(east, longitude);
+    Minutes::At(y, x)
+}
+
+pub fn position_minutes(position: Position) -> Minutes
+    ensures { λ r. ⌜ r ≡ minutesIn (position .0) ⌝ }
+{
+    let mut room = [0u8; 12];
+    let written = text::put(position.0, &mut room, 0);
+    match written {
+        Written::Next(n) => minutes_of(&room[..n]),
+        Written::NoRoom => Minutes::NotOne,
+        Written::NoText => Minutes::NotOne,
+    }
+}
+
+fn levels_of(s: &[u8]) -> Levels
+    ensures { λ r. ⌜ r ≡ levelsOf (now (s .entry)) ⌝ }
+{
+    if !forms::is_form(forms::LEVEL, s) {
+        return Levels::NotOne;
+    }
+    let i = shapes::find(b'B', s);
+    if i >= s.len() {
+        return Levels::One(decimal(s));
+    }
+    let j = i + 1;
+    let low = decimal(&s[..i]);
+    let high = decimal(&s[j..]);
+    Levels::Block(low, high)
+}
+
+pub fn level_numbers(level: Level) -> Levels
+    ensures { λ r. ⌜ r ≡ levelsIn (level .0) ⌝ }
+{
+    let mut room = [0u8; 12];
+    let written = text::put(level.0, &mut room, 0);
+    match written {
+        Written::Next(n) => levels_of(&room[..n]),
+        Written::NoRoom => Levels::NotOne,
+        Written::NoText => Levels::NotOne,
+    }
+}
