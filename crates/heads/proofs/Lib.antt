@@ -1,2 +1,3 @@
 pub mod Facilities
 pub mod Messages
+pub mod Unique

@@ -2,3 +2,4 @@ pub mod Slashes
 pub mod Idents
 pub mod Aircrafts
 pub mod Readings
+pub mod Unique

@@ -1,0 +1,87 @@
+-- The starred readings of document 01 ("Known readings") that concern fields, as one table: what is asked, and the answer that
+-- document 01 gives. Assumes nothing.
+use Prim.Native.Nat.{ℕ}
+use Prim.Native.String.{String}
+use mathlib.Core.List.{List, [], _∷_, map}
+use lib.IntN.{ℤ, pos, negsuc}
+use Rattle.text.specs.Bytes.{bytes}
+use Rattle.text.specs.Text.{textOf}
+use Rattle.forms.specs.Kind.{CLOCK, POSITION}
+use Rattle.words.specs.Word.{wordOf}
+use Rattle.text.specs.declared.Packed.{Packed}
+use Rattle.text.specs.declared.Packed.the-variants as word
+use Rattle.idents.specs.Ident.{identOf}
+use Rattle.idents.specs.declared.ident.IdentRead.{IdentRead}
+use Rattle.idents.specs.declared.ident.IdentRead.the-variants as ident
+use Rattle.idents.specs.Aircraft.{aircraftOf}
+use Rattle.idents.specs.declared.aircraft.AircraftRead.{AircraftRead}
+use Rattle.idents.specs.declared.aircraft.AircraftRead.the-variants as aircraft
+use Rattle.meanings.specs.Meaning.{minutesOf}
+use Rattle.meanings.specs.declared.Minutes.{Minutes}
+use Rattle.meanings.specs.declared.Minutes.the-variants as minutes
+
+pub data Question : Type 0 where
+  Ident : String → Question
+  Aircraft : String → Question
+  Position : String → Question
+  Minutes-of : String → Question
+  Clock : String → Question
+
+-- no reading; two readings; a reading with these parts; two signed numbers
+pub data Answer : Type 0 where
+  None : Answer
+  Two : Answer
+  Parts : List (List ℕ) → Answer
+  Signed : ℤ → ℤ → Answer
+
+-- ---- what the definitions answer
+
+abbrev ofIdent : IdentRead → Answer
+ofIdent (ident.Read i) = Parts (textOf (i .key .0) ∷ textOf (i .number .0) ∷ [])
+ofIdent ident.Nothing = None
+
+abbrev ofAircraft : AircraftRead → Answer
+ofAircraft (aircraft.Read a) = Parts (textOf (a .prefix) ∷ textOf (a .model) ∷ textOf (a .letter) ∷ [])
+ofAircraft aircraft.Nothing = None
+ofAircraft aircraft.Two = Two
+
+abbrev ofWord : Packed → Answer
+ofWord (word.Text t) = Parts (textOf t ∷ [])
+ofWord word.Nothing = None
+
+abbrev ofMinutes : Minutes → Answer
+ofMinutes (minutes.At y x) = Signed y x
+ofMinutes minutes.NotOne = None
+
+abbrev pub answer : Question → Answer
+answer (Ident t) = ofIdent (identOf (bytes t))
+answer (Aircraft t) = ofAircraft (aircraftOf (bytes t))
+answer (Position t) = ofWord (wordOf POSITION (bytes t))
+answer (Minutes-of t) = ofMinutes (minutesOf (bytes t))
+answer (Clock t) = ofWord (wordOf CLOCK (bytes t))
+
+-- ---- the table
+
+pub record Row : Type 0 where
+  pub asked : Question
+  pub told : Answer
+
+abbrev row : Question → Answer → Row
+row q a = record { asked = q; told = a }
+
+abbrev pub table : List Row
+table =
+    row (Ident "N5") (Parts (bytes "N5" ∷ [] ∷ []))
+    ∷ row (Ident "N") None
+    ∷ row (Ident "ABCDEFG/12Z") (Parts (bytes "ABCDEFG" ∷ bytes "12Z" ∷ []))
+    ∷ row (Aircraft "C172/A") (Parts ([] ∷ bytes "C172" ∷ bytes "A" ∷ []))
+    ∷ row (Aircraft "T/AB") (Parts (bytes "T" ∷ bytes "AB" ∷ [] ∷ []))
+    ∷ row (Aircraft "AB/CD") None
+    ∷ row (Position "9000N/18000W") (Parts (bytes "9000N/18000W" ∷ []))
+    ∷ row (Position "9001N/00000E") None
+    ∷ row (Position "8960N/00000E") None
+    ∷ row (Minutes-of "3015N/08430W") (Signed (pos 1815) (negsuc 5069))
+    ∷ row (Minutes-of "0000S/00000W") (Signed (pos 0) (pos 0))
+    ∷ row (Clock "2359") (Parts (bytes "2359" ∷ []))
+    ∷ row (Clock "2400") None
+    ∷ []

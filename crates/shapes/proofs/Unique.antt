@@ -1,0 +1,27 @@
+-- Two answers that the promise of a public function of `shapes` allows are equal: of each, `Post` is its `ensures` as it stands in
+-- the source, r and r′ are two results, s and s′ two states at exit. Assumes nothing.
+use mathlib.Core.Path.{_≡_, sym, _∙_}
+use Rattle.shapes.proofs.is_of.Reads as is-of
+use Rattle.shapes.proofs.fits.Reads as fits
+use Rattle.shapes.proofs.find.Reads as find
+use Rattle.shapes.proofs.one_of.Reads as one-of
+use Rattle.shapes.proofs.run.Reads as run
+use Rattle.shapes.proofs.within.Reads as within
+
+pub is-of-one : (κs : _) (a : _) (r r′ : _) (s s′ : _) → is-of.Post κs a r s → is-of.Post κs a r′ s′ → r ≡ r′
+is-of-one κs a r r′ s s′ p q = p ∙ sym q
+
+pub fits-one : (κs : _) (a : _) (r r′ : _) (s s′ : _) → fits.Post κs a r s → fits.Post κs a r′ s′ → r ≡ r′
+fits-one κs a r r′ s s′ p q = p ∙ sym q
+
+pub find-one : (κs : _) (a : _) (r r′ : _) (s s′ : _) → find.Post κs a r s → find.Post κs a r′ s′ → r ≡ r′
+find-one κs a r r′ s s′ p q = p ∙ sym q
+
+pub one-of-one : (κs : _) (a : _) (r r′ : _) (s s′ : _) → one-of.Post κs a r s → one-of.Post κs a r′ s′ → r ≡ r′
+one-of-one κs a r r′ s s′ p q = p ∙ sym q
+
+pub run-one : (κs : _) (a : _) (r r′ : _) (s s′ : _) → run.Post κs a r s → run.Post κs a r′ s′ → r ≡ r′
+run-one κs a r r′ s s′ p q = p ∙ sym q
+
+pub within-one : (κs : _) (a : _) (r r′ : _) (s s′ : _) → within.Post κs a r s → within.Post κs a r′ s′ → r ≡ r′
+within-one κs a r r′ s s′ p q = p ∙ sym q
