@@ -18,3 +18,8 @@ facilityText n = places 256 4 n
 
 unfoldable pub isFacilityValue : ℕ → Bool
 isFacilityValue n = ltb n (256 ^ 4) && isFacility (facilityText n)
+
+-- document 01's answer number
+abbrev pub facilityAnswer : FacilityRead → ℕ
+facilityAnswer (Read f) = 0
+facilityAnswer Nothing = 6

@@ -40,3 +40,8 @@ typeOf s =
     (cond (fits (typeText Rt) s) (Read Rt)
     (cond (fits (typeText To) s) (Read To)
     (cond (fits (typeText Hb) s) (Read Hb) Nothing)))))))))
+
+-- document 01's answer number
+abbrev pub typeAnswer : TypeRead → ℕ
+typeAnswer (Read t) = 0
+typeAnswer Nothing = 7

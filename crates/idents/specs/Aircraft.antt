@@ -56,6 +56,12 @@ only (Read a) Two = Two
 unfoldable pub aircraftOf : List ℕ → AircraftRead
 aircraftOf s = only (plainOf s) (prefixedOf s)
 
+-- document 01's answer number
+abbrev pub aircraftAnswer : AircraftRead → ℕ
+aircraftAnswer (Read a) = 0
+aircraftAnswer Nothing = 9
+aircraftAnswer Two = 18
+
 -- ---- the word of the whole text
 
 abbrev pub afterPrefix : ℕ → Packed → Packed

@@ -28,3 +28,8 @@ identText i = pairText (i .key .0) (i .number .0)
 
 abbrev pub isIdentValue : Ident → Bool
 isIdentValue i = isPair KEY NUMBER (i .key .0) (i .number .0)
+
+-- document 01's answer number
+abbrev pub identAnswer : IdentRead → ℕ
+identAnswer (Read i) = 0
+identAnswer Nothing = 9

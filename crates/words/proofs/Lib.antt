@@ -1,3 +1,4 @@
 pub mod Laws
 pub mod Pairs
+pub mod Answers
 pub mod Unique

@@ -1,0 +1,36 @@
+-- Each answer number is given exactly in its case. Assumes nothing.
+use mathlib.Core.Path.{_≡_, refl}
+use mathlib.Core.Bool.{Bool, true, false, cond}
+use mathlib.Core.List.{List}
+use Prim.Native.Nat.{ℕ}
+use Rattle.text.specs.Text.{hasRoom, writtenNext}
+use Rattle.forms.specs.Kind.{isForm}
+use Rattle.words.specs.Word.{wordOf}
+use Rattle.words.specs.Pair.{isPairForm, pairOf}
+use Rattle.words.specs.Answer.{refusal, readAnswer, pairAnswer, writeAnswer}
+
+pub read-answer : (k : ℕ) (s : List ℕ) → readAnswer k (wordOf k s) ≡ cond (isForm k s) 0 (refusal k)
+unfolding wordOf
+read-answer k s = go (isForm k s) refl
+  where
+    go : (b : Bool) → isForm k s ≡ b → readAnswer k (wordOf k s) ≡ cond (isForm k s) 0 (refusal k)
+    go true q = rw q
+    go false q = rw q
+
+pub pair-answer : (k l : ℕ) (s : List ℕ) → pairAnswer (pairOf k l s) ≡ cond (isPairForm k l s) 0 9
+unfolding pairOf
+pair-answer k l s = go (isPairForm k l s) refl
+  where
+    go : (b : Bool) → isPairForm k l s ≡ b → pairAnswer (pairOf k l s) ≡ cond (isPairForm k l s) 0 9
+    go true q = rw q
+    go false q = rw q
+
+-- 16 comes before 15
+pub write-answer : (ok : Bool) (vs out : List ℕ) (at : ℕ) → writeAnswer (writtenNext ok vs out at) ≡ cond ok (cond (hasRoom vs out at) 0 15) 16
+unfolding writtenNext
+write-answer false vs out at = refl
+write-answer true vs out at = go (hasRoom vs out at) refl
+  where
+    go : (b : Bool) → hasRoom vs out at ≡ b → writeAnswer (writtenNext true vs out at) ≡ cond (hasRoom vs out at) 0 15
+    go true q = rw q
+    go false q = rw q
