@@ -18,8 +18,8 @@ use Rattle.shapes.specs.Picture.{either, isOf, fits, longer, pictures, fitsAny,
 use Rattle.shapes.specs.Cut.{before, after, joins}
 use Rattle.shapes.proofs.Laws.{fits-length, run-least, run-most, run-class}
 use Rattle.shapes.proofs.Joins.{joins-parts}
-use Rattle.forms.specs.Form.{isSequence, isStamp, isSite, isKey, isNumber, isPrefix, isModel, isOneLetter, isFiledSpeed, isGroundSpeed, isPoint, isFix, isClock, isTime, isArrival, isLevel, isTrackLevel, isPosition, isAmendment}
-use Rattle.forms.specs.Kind.{SEQUENCE, STAMP, SITE, KEY, NUMBER, PREFIX, MODEL, LETTER, FILED-SPEED, GROUND-SPEED, POINT, FIX, TIME, CLOCK, ARRIVAL, LEVEL, TRACK-LEVEL, POSITION, AMENDMENT, isForm}
+use Rattle.forms.specs.Form.{isSequence, isStamp, isKey, isNumber, isPrefix, isModel, isOneLetter, isFiledSpeed, isGroundSpeed, isPoint, isFix, isClock, isTime, isArrival, isLevel, isTrackLevel, isPosition, isAmendment}
+use Rattle.forms.specs.Kind.{SEQUENCE, STAMP, KEY, NUMBER, PREFIX, MODEL, LETTER, FILED-SPEED, GROUND-SPEED, POINT, FIX, TIME, CLOCK, ARRIVAL, LEVEL, TRACK-LEVEL, POSITION, AMENDMENT, isForm}
 
 pub record Held (s : List ℕ) : Type 0 where
   pub text : isText s ≡ true
@@ -186,7 +186,6 @@ unfolding isForm suits suit pictures longer textual all isTextByte isAlnum isDig
 form-held k s =
     pick (eqb k SEQUENCE) (isSequence s) _ (fits-held (bytes "hhhh") s refl)
     (pick (eqb k STAMP) (isStamp s) _ (stamp-held s)
-    (pick (eqb k SITE) (isSite s) _ (run-held (code "a") 1 4 s refl (lit≤ tt) (lit≤ tt))
     (pick (eqb k KEY) (isKey s) _ (key-held s)
     (pick (eqb k NUMBER) (isNumber s) _ (fits-held (bytes "dda") s refl)
     (pick (eqb k PREFIX) (isPrefix s) _ (one-held (bytes "a|da") s refl)
@@ -202,4 +201,4 @@ form-held k s =
     (pick (eqb k LEVEL) (isLevel s) _ (one-held (bytes "dd|ddd|ddBdd|ddBddd|dddBdd|dddBddd") s refl)
     (pick (eqb k TRACK-LEVEL) (isTrackLevel s) _ (one-held (bytes "ddd|dddl") s refl)
     (pick (eqb k POSITION) (isPosition s) _ (position-held s)
-    (pick (eqb k AMENDMENT) (isAmendment s) false (one-held (bytes "02|03|05|06|07|08|09|10") s refl) (λ e. true-false e refl)))))))))))))))))))
+    (pick (eqb k AMENDMENT) (isAmendment s) false (one-held (bytes "02|03|05|06|07|08|09|10") s refl) (λ e. true-false e refl))))))))))))))))))

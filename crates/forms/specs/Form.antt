@@ -24,10 +24,6 @@ isStamp s = fits (bytes "dddddddd") s && within 1 31 (part 0 2 s) && within 0 23
 abbrev pub isFacility : List ℕ → Bool
 isFacility s = oneOf (bytes "aaaa| aaa|  aa|   a") s
 
--- what is held of a facility: its one to four capitals or digits
-abbrev pub isSite : List ℕ → Bool
-isSite s = run (code "a") 1 4 s
-
 -- ---- fields
 
 -- the flight's key, the ident's "part before the slash": "a letter and one to six alnum (2 to 7)"

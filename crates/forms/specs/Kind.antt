@@ -4,16 +4,13 @@ use Prim.Native.Char.{code}
 use mathlib.Core.Bool.{Bool, true, false, cond}
 use mathlib.Core.List.{List}
 use lib.Dec.{eqb}
-use Rattle.forms.specs.Form.{isSequence, isStamp, isSite, isKey, isNumber, isPrefix, isModel, isOneLetter, isFiledSpeed, isGroundSpeed, isPoint, isFix, isTime, isClock, isArrival, isLevel, isTrackLevel, isPosition, isAmendment}
+use Rattle.forms.specs.Form.{isSequence, isStamp, isKey, isNumber, isPrefix, isModel, isOneLetter, isFiledSpeed, isGroundSpeed, isPoint, isFix, isTime, isClock, isArrival, isLevel, isTrackLevel, isPosition, isAmendment}
 
 abbrev pub SEQUENCE : ℕ
 SEQUENCE = code "Q"
 
 abbrev pub STAMP : ℕ
 STAMP = code "D"
-
-abbrev pub SITE : ℕ
-SITE = code "Y"
 
 abbrev pub KEY : ℕ
 KEY = code "K"
@@ -68,7 +65,6 @@ unfoldable pub isForm : ℕ → List ℕ → Bool
 isForm k s =
     cond (eqb k SEQUENCE) (isSequence s)
     (cond (eqb k STAMP) (isStamp s)
-    (cond (eqb k SITE) (isSite s)
     (cond (eqb k KEY) (isKey s)
     (cond (eqb k NUMBER) (isNumber s)
     (cond (eqb k PREFIX) (isPrefix s)
@@ -84,4 +80,4 @@ isForm k s =
     (cond (eqb k LEVEL) (isLevel s)
     (cond (eqb k TRACK-LEVEL) (isTrackLevel s)
     (cond (eqb k POSITION) (isPosition s)
-    (cond (eqb k AMENDMENT) (isAmendment s) false))))))))))))))))))
+    (cond (eqb k AMENDMENT) (isAmendment s) false)))))))))))))))))

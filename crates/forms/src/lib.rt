@@ -14,7 +14,6 @@ pub const SEQUENCE: u8 = b'Q';
 
 pub const STAMP: u8 = b'D';
 
-pub const SITE: u8 = b'Y';
 
 pub const KEY: u8 = b'K';
 
@@ -157,7 +156,6 @@ pub fn is_form(kind: u8, s: &[u8]) -> bool
     match kind {
         SEQUENCE => fits(b"hhhh", s),
         STAMP => is_stamp(s),
-        SITE => run(b'a', 1, 4, s),
         KEY => is_key(s),
         NUMBER => fits(b"dda", s),
         PREFIX => one_of(b"a|da", s),

@@ -72,3 +72,11 @@ word-known k s {t} e = go (isForm k s) refl
     go : (b : Bool) → isForm k s ≡ b → (isForm k s ≡ true) × (t ≡ packed s)
     go true q = (q, (cc))
     go false q = let z : Nothing ≡ Text t = rw q at e in ((cc), (cc))
+
+-- ---- the words of a kind are exactly those that some text of the kind gives
+
+pub text-of-word : (k t : ℕ) → isWord k t ≡ true → (s : List ℕ) × (isForm k s ≡ true) × (packed s ≡ t)
+text-of-word k t e = (textOf t, word-form k t e, packed-text t (word-packed k t e))
+
+pub word-of-text : (k t : ℕ) (s : List ℕ) → isForm k s ≡ true → packed s ≡ t → isWord k t ≡ true
+word-of-text k t s e z = rw (← z) (form-word k s e)
