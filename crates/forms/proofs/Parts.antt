@@ -1,7 +1,7 @@
 -- The rules with a slash in them, said of their parts: a text has the rule exactly if it is two such parts with a slash
 -- between them. Assumes nothing.
 use mathlib.Core.Path.{_≡_, refl}
-use mathlib.Core.Bool.{Bool, true, false, _||_, or-true}
+use mathlib.Core.Bool.{true, or-true}
 use mathlib.Core.List.{List, _∷_, _++_}
 use Prim.Native.Char.{code}
 use Prim.Native.Nat.{ℕ}
@@ -9,7 +9,7 @@ use lib.ListN.{length}
 use Rattle.text.specs.Class.{isDigit, isLetter, isAlnum}
 use Rattle.text.proofs.Logic.{true-false, not-fails}
 use Rattle.shapes.specs.Picture.{isOf, run}
-use Rattle.shapes.specs.Cut.{upTo, before, after, joins}
+use Rattle.shapes.specs.Cut.{upTo, before, after}
 use Rattle.shapes.proofs.Laws.{run-class}
 use Rattle.shapes.proofs.Joins.{has-no, joins-parts, parts-join}
 use Rattle.forms.specs.Form.{isKey, isNumber, isTzIdent, isFix}

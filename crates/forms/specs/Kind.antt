@@ -1,7 +1,7 @@
 -- The kinds of fields that are held as their text, a letter each, and the form of each kind. Assumes nothing.
 use Prim.Native.Nat.{ℕ}
 use Prim.Native.Char.{code}
-use mathlib.Core.Bool.{Bool, true, false, cond}
+use mathlib.Core.Bool.{Bool, false, cond}
 use mathlib.Core.List.{List}
 use lib.Dec.{eqb}
 use Rattle.forms.specs.Form.{isSequence, isStamp, isKey, isNumber, isPrefix, isModel, isOneLetter, isFiledSpeed, isGroundSpeed, isPoint, isFix, isTime, isClock, isArrival, isLevel, isTrackLevel, isPosition, isAmendment}

@@ -14,7 +14,6 @@ pub const SEQUENCE: u8 = b'Q';
 
 pub const STAMP: u8 = b'D';
 
-
 pub const KEY: u8 = b'K';
 
 pub const NUMBER: u8 = b'N';

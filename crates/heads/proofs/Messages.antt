@@ -1,16 +1,15 @@
 -- THE LAWS of message types: the reader finds the type whose letters were given; the ways of the functions. Assumes nothing.
 use mathlib.Core.Path.{_≡_, refl, sym, ap, _∙_}
-use mathlib.Core.Bool.{Bool, true, false, cond, _&&_, and-true}
+use mathlib.Core.Bool.{Bool, true, false, cond, _&&_}
 use mathlib.Core.List.{List, [], _∷_}
 use Prim.Native.Nat.{ℕ, _+_, _*_, _/_, _%_, _≤_, _<_}
 use native.Mathlib.Omega.{arith}
 use lib.Dec.{eqb, lit≤}
 use lib.ListN.{length, getD, set}
 use borrow.Author.Tests.{eq-eqb, eqb-true}
-use Rattle.text.specs.Bytes.{bytes}
 use Rattle.text.specs.Place.{value}
 use Rattle.text.specs.Text.{spliced}
-use Rattle.text.proofs.Logic.{and-left, and-right, same-test, pick, true-false}
+use Rattle.text.proofs.Logic.{and-left, and-right, same-test, true-false}
 use Rattle.text.proofs.Splice.{set-spliced, next-store}
 use Rattle.shapes.specs.Picture.{isOf, fits}
 use Rattle.shapes.proofs.Laws.{fits-apart}

@@ -1,34 +1,29 @@
 -- THE LAWS of aircraft: the reader finds exactly the readings, and the ways of the functions. Assumes nothing.
 use mathlib.Core.Path.{_≡_, refl, sym, ap, _∙_}
-use mathlib.Core.Bool.{Bool, true, false, cond, _&&_, _||_, and-false}
-use mathlib.Core.List.{List, _++_, _∷_}
+use mathlib.Core.Bool.{Bool, true, false, _||_}
+use mathlib.Core.List.{List}
 use Prim.Native.Nat.{ℕ, _+_, _-_, _≤_, _<_}
 use native.Mathlib.Omega.{arith}
-use lib.Dec.{eqb, leb}
+use lib.Dec.{eqb}
 use lib.ListN.{length, take, drop}
-use borrow.Author.Tests.{eq-eqb, ne-eqb, eqb-true, le-leb}
-use Rattle.text.specs.Text.{packed, textOf, isText, isPacked, slashed, joinOf}
+use borrow.Author.Tests.{le-leb}
+use Rattle.text.specs.Text.{textOf, isPacked, slashed, joinOf}
 use Rattle.text.specs.declared.Packed.{Packed}
 use Rattle.text.specs.declared.Packed.the-variants as word
 use Rattle.text.proofs.Logic.{and-left, and-right, true-false}
-use Rattle.text.proofs.Laws.{text-packed, packed-is, packed-text, text-length}
+use Rattle.text.proofs.Laws.{text-packed, packed-is}
 use Rattle.text.proofs.Joined.{join-known, join-none, length-slashed}
-use Rattle.shapes.specs.Cut.{upTo, has, before, after}
+use Rattle.shapes.specs.Cut.{upTo}
 use Rattle.shapes.proofs.Laws.{not-cut, is-cut, cut-before, cut-after}
-use Rattle.shapes.proofs.Joins.{cut-whole, joined-has, joined-before, joined-after}
-use Rattle.forms.specs.Kind.{PREFIX, MODEL, LETTER, isForm}
-use Rattle.forms.proofs.Held.{form-held}
+use Rattle.forms.specs.Kind.{PREFIX, MODEL, LETTER}
 use Rattle.words.specs.Word.{wordOf, isWord}
 use Rattle.words.specs.Pair.{slash, pairOf, pairText, isPair, pairWord, isPairText}
-use Rattle.words.specs.declared.Pair.{Pair}
-use Rattle.words.specs.declared.Pair.the-variants as pair
-use Rattle.words.proofs.Laws.{word-known, read-refused, word-packed, word-form, form-word}
-use Rattle.words.proofs.Pairs.{packed-some, pair-sound, pair-complete, pair-writes, pair-too-long}
-use Rattle.idents.specs.Aircraft.{aircraftText, isAircraftValue, Reading, withPrefix, plainOf, prefixedOf, only, aircraftOf, afterPrefix, aircraftWord}
+use Rattle.words.proofs.Laws.{word-known, read-refused, word-packed, word-form}
+use Rattle.words.proofs.Pairs.{pair-writes, pair-too-long}
+use Rattle.idents.specs.Aircraft.{aircraftText, isAircraftValue, withPrefix, prefixedOf, aircraftWord}
 use Rattle.idents.specs.declared.aircraft.Aircraft.{Aircraft}
-use Rattle.idents.specs.declared.aircraft.AircraftRead.{AircraftRead}
-use Rattle.idents.specs.declared.aircraft.AircraftRead.the-variants.{Read, Nothing, Two}
-use Rattle.idents.proofs.Slashes.{prefix-slashless, prefix-short, model-slashless, tail-short}
+use Rattle.idents.specs.declared.aircraft.AircraftRead.the-variants.{Nothing}
+use Rattle.idents.proofs.Slashes.{prefix-short, tail-short}
 
 -- ---- the ways of `read_prefixed`
 

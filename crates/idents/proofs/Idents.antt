@@ -1,15 +1,15 @@
 -- THE LAWS of idents: reading is sound and complete, and the ways of the readers. Assumes nothing.
 use mathlib.Core.Path.{_≡_, refl, sym, ap, _∙_}
-use mathlib.Core.Bool.{Bool, true, false, cond, _&&_, _||_, or-false, or-true}
+use mathlib.Core.Bool.{Bool, true, false, cond, _&&_, or-false, or-true}
 use mathlib.Core.List.{List}
 use Prim.Native.Nat.{ℕ, _≤_}
 use native.Mathlib.Omega.{arith}
-use lib.Dec.{eqb, leb}
+use lib.Dec.{eqb}
 use lib.ListN.{length}
-use borrow.Author.Tests.{le-leb, eq-eqb, ne-eqb}
+use borrow.Author.Tests.{le-leb, ne-eqb}
 use Rattle.text.specs.Text.{packed}
-use Rattle.text.proofs.Logic.{and-left, and-right, true-false, not-holds, same-test}
-use Rattle.shapes.specs.Cut.{upTo, has, before, after, joins}
+use Rattle.text.proofs.Logic.{and-right, true-false, not-holds}
+use Rattle.shapes.specs.Cut.{has, before, after, joins}
 use Rattle.shapes.proofs.Joins.{no-cut, whole-has, whole-after}
 use Rattle.forms.specs.Form.{isKey, isNumber, isIdent, isTzIdent}
 use Rattle.forms.specs.Kind.{KEY, NUMBER, isForm}

@@ -1,27 +1,27 @@
 -- THE THEOREM of aircraft: the reader looks for a reading in every way the rule allows. What it reads is the one reading of
 -- the field; where it reads nothing there is none; where it answers Two there are two. Assumes nothing.
 use mathlib.Core.Path.{_≡_, refl, sym, ap, _∙_}
-use mathlib.Core.Bool.{Bool, true, false, cond, _&&_, _||_}
-use mathlib.Core.List.{List, _++_, _∷_}
+use mathlib.Core.Bool.{Bool, true, false, _&&_}
+use mathlib.Core.List.{List}
 use mathlib.Core.Logic.{_⊎_, inl, inr, ⊎-elim}
 use Prim.Native.Nat.{ℕ}
 use native.Mathlib.Omega.{arith}
 use lib.Dec.{eqb}
 use borrow.Author.Tests.{eq-eqb, ne-eqb, eqb-true, eqb-false}
 use Rattle.text.specs.Text.{packed, textOf, slashed}
-use Rattle.text.proofs.Logic.{and-left, and-right, true-false}
+use Rattle.text.proofs.Logic.{and-left, and-right}
 use Rattle.text.proofs.Laws.{text-packed, packed-text}
-use Rattle.shapes.specs.Cut.{upTo, has, before, after}
+use Rattle.shapes.specs.Cut.{has, before, after}
 use Rattle.shapes.proofs.Joins.{cut-whole, joined-has, joined-before, joined-after}
 use Rattle.forms.specs.Kind.{PREFIX, MODEL, LETTER, isForm}
 use Rattle.forms.proofs.Held.{form-held}
 use Rattle.words.specs.Word.{isWord}
-use Rattle.words.specs.Pair.{slash, pairOf, pairText, isPair}
+use Rattle.words.specs.Pair.{slash, pairOf, pairText}
 use Rattle.words.specs.declared.Pair.{Pair}
 use Rattle.words.specs.declared.Pair.the-variants as pair
 use Rattle.words.proofs.Laws.{word-packed, word-form, form-word}
 use Rattle.words.proofs.Pairs.{packed-some, pair-sound, pair-complete}
-use Rattle.idents.specs.Aircraft.{aircraftText, isAircraftValue, Reading, withPrefix, plainOf, prefixedOf, only, aircraftOf}
+use Rattle.idents.specs.Aircraft.{aircraftText, isAircraftValue, Reading, withPrefix, plainOf, prefixedOf, aircraftOf}
 use Rattle.idents.specs.declared.aircraft.Aircraft.{Aircraft}
 use Rattle.idents.specs.declared.aircraft.AircraftRead.{AircraftRead}
 use Rattle.idents.specs.declared.aircraft.AircraftRead.the-variants.{Read, Nothing, Two}

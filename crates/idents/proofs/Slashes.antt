@@ -1,6 +1,6 @@
 -- No key, prefix or type has a slash, and each pair of words has a short text. Assumes nothing.
-use mathlib.Core.Path.{_≡_, refl, sym, _∙_}
-use mathlib.Core.Bool.{Bool, true, false, not, _&&_, _||_}
+use mathlib.Core.Path.{_≡_, refl}
+use mathlib.Core.Bool.{Bool, true, false, _||_}
 use mathlib.Core.List.{List}
 use Prim.Native.Char.{code}
 use Prim.Native.Nat.{ℕ, _+_, _≤_}
@@ -9,14 +9,14 @@ use lib.Dec.{eqb}
 use lib.ListN.{length}
 use Rattle.text.specs.Bytes.{bytes}
 use Rattle.text.specs.Class.{all, isDigit, isLetter, isAlnum}
-use Rattle.text.specs.Text.{textOf, slashed}
+use Rattle.text.specs.Text.{textOf}
 use Rattle.text.proofs.Logic.{and-left, and-right, true-false, not-fails, either-of}
 use Rattle.text.proofs.Joined.{length-slashed}
 use Rattle.shapes.specs.Picture.{isOf, fits, longer, pictures, fitsAny, oneOf, run}
 use Rattle.shapes.specs.Cut.{upTo}
 use Rattle.shapes.proofs.Laws.{fits-length, run-class, run-most}
 use Rattle.shapes.proofs.Joins.{has-no, fits-no}
-use Rattle.forms.specs.Form.{isKey, isNumber, isPrefix, isModel, isOneLetter}
+use Rattle.forms.specs.Form.{isKey}
 use Rattle.forms.specs.Kind.{KEY, NUMBER, PREFIX, MODEL, LETTER, isForm}
 use Rattle.words.specs.Word.{isWord}
 use Rattle.words.specs.Pair.{slash, pairText, isPair}

@@ -1,12 +1,12 @@
 -- What the ranges of stamps and positions say of their numbers, and signed numbers. Assumes nothing.
-use mathlib.Core.Path.{_≡_, refl, sym, ap, _∙_}
-use mathlib.Core.Bool.{Bool, true, false, cond, _&&_}
+use mathlib.Core.Path.{_≡_, _∙_}
+use mathlib.Core.Bool.{Bool, true, false, _&&_}
 use mathlib.Core.List.{List}
-use Prim.Native.Nat.{ℕ, zero, suc, _+_, _-_, _*_, _^_, _≤_, _<_}
+use Prim.Native.Nat.{ℕ, zero, suc, _+_, _-_, _^_, _≤_, _<_}
 use native.Mathlib.Omega.{arith}
 use lib.Dec.{leb, lit<}
-use lib.IntN.{ℤ, pos, negsuc, negℤ, _-ℤ_, +ℤ-idl}
-use lib.ListN.{length, take, drop, getD}
+use lib.IntN.{ℤ, pos, negℤ, _-ℤ_, +ℤ-idl}
+use lib.ListN.{length, take, drop}
 use lib.Signed.{mag}
 use mir.Syntax.{w64}
 use mir.Val.{SFits, toZ, ofZ, hbits}
@@ -18,10 +18,10 @@ use Rattle.text.specs.Bytes.{bytes}
 use Rattle.text.specs.Number.{isNumeral, numberOf, readNumber}
 use Rattle.text.proofs.Logic.{and-left, and-right}
 use Rattle.shapes.specs.Picture.{fits, within, part}
-use Rattle.shapes.specs.Cut.{upTo, has, before, after}
+use Rattle.shapes.specs.Cut.{upTo}
 use Rattle.shapes.proofs.Laws.{fits-length, not-cut, is-cut, cut-before, cut-after}
 use Rattle.forms.specs.Form.{isStamp, isPosition, isLevel}
-use Rattle.meanings.specs.Meaning.{orNone, decimalOf, signedBy, levelsOf}
+use Rattle.meanings.specs.Meaning.{decimalOf, signedBy, levelsOf}
 use Rattle.meanings.specs.declared.Levels.the-variants as levels
 
 pub within-most : (lo hi : ℕ) (s : List ℕ) → within lo hi s ≡ true → decimalOf s ≤ hi

@@ -1,6 +1,6 @@
 -- The one claim about the starred readings: each is as document 01 says. antt computes it. Assumes nothing.
 use mathlib.Core.Path.{_≡_, refl}
-use mathlib.Core.List.{List, map}
+use mathlib.Core.List.{map}
 use Rattle.text.specs.Class.{all, isDigit, isLetter, isAlnum}
 use Rattle.text.specs.Code.{codeOf, byteOf}
 use Rattle.text.specs.Place.{value, digits}
@@ -15,7 +15,7 @@ use Rattle.words.specs.Pair.{isPairForm, pairOf}
 use Rattle.idents.specs.Ident.{identFrom, identOf}
 use Rattle.idents.specs.Aircraft.{plainOf, prefixedOf, aircraftOf}
 use Rattle.meanings.specs.Meaning.{decimalOf, inMinutes, minutesOf}
-use Rattle.meanings.specs.Starred.{Row, Answer, answer, table}
+use Rattle.meanings.specs.Starred.{Row, answer, table}
 
 pub starred : map (λ (r : Row). answer (r .asked)) table ≡ map (λ (r : Row). r .told) table
 unfolding all isDigit isLetter isAlnum codeOf byteOf value digits packed textOf isDigitTo digitOf isNumeral numberOf readNumber isOf fits longer pictures fitsAny oneOf run within upTo has before after joins isKey isIdent isTzIdent isClock isPosition isForm wordOf isPairForm pairOf identFrom identOf plainOf prefixedOf aircraftOf decimalOf inMinutes minutesOf

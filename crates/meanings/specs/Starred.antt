@@ -2,7 +2,7 @@
 -- document 01 gives. Assumes nothing.
 use Prim.Native.Nat.{ℕ}
 use Prim.Native.String.{String}
-use mathlib.Core.List.{List, [], _∷_, map}
+use mathlib.Core.List.{List, [], _∷_}
 use lib.IntN.{ℤ, pos, negsuc}
 use Rattle.text.specs.Bytes.{bytes}
 use Rattle.text.specs.Text.{textOf}

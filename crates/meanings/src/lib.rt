@@ -6,7 +6,6 @@ use fields::track::Position;
 use text::Numeral;
 use text::Written;
 ghost use mathlib.Core.Path.{_≡_};
-ghost use mathlib.Core.Bool.{Bool};
 ghost use Prim.Native.Nat.{_≤_};
 ghost use Rattle.meanings.specs.Meaning.{decimalOf, inMinutes, signedBy, momentOf, momentIn, minutesOf, minutesIn, levelsOf, levelsIn};
 

@@ -1,14 +1,13 @@
 -- A text cut at the first b and the two parts with b between them are the same thing, where the first part has no b.
 -- Assumes nothing.
 use mathlib.Core.Path.{_≡_, refl, sym, ap, _∙_, subst}
-use mathlib.Core.Bool.{Bool, true, false, cond, not, _&&_}
+use mathlib.Core.Bool.{Bool, true, false, not, _&&_}
 use mathlib.Core.List.{List, [], _∷_, _++_}
 use Prim.Native.Nat.{ℕ, suc, _+_, _≤_, _<_}
-use native.Mathlib.Nat.{suc-add}
 use native.Mathlib.Numerals.{add-one}
 use native.Mathlib.Omega.{arith}
-use lib.Dec.{eqb, ltb}
-use lib.ListN.{length, take, drop, getD, length-append, drop-of-length-le}
+use lib.Dec.{eqb}
+use lib.ListN.{length, take, drop, length-append, drop-of-length-le}
 use lib.Seq.{split-at, take-at, take-all, drop-at, append-snoc}
 use borrow.Author.Tests.{lt-ltb, le-ltb, eq-eqb, eqb-true, ltb-true, ltb-false, not-true}
 use Rattle.text.specs.Class.{all}

@@ -1,16 +1,16 @@
 -- The laws of pictures, runs and cuts. Assumes nothing.
-use mathlib.Core.Path.{_≡_, refl, sym, ap, _∙_, subst}
-use mathlib.Core.Bool.{Bool, true, false, cond, _&&_, _||_, or-false}
-use mathlib.Core.List.{List, [], _∷_, _++_}
+use mathlib.Core.Path.{_≡_, refl, sym, ap}
+use mathlib.Core.Bool.{Bool, true, false, _&&_, _||_, or-false}
+use mathlib.Core.List.{List, [], _∷_}
 use Prim.Native.Char.{code}
 use Prim.Native.Nat.{ℕ, suc, _+_, _-_, _≤_, _<_}
 use native.Mathlib.Nat.{not-suc-le-zero, suc-add}
 use native.Mathlib.Numerals.{add-one}
 use native.Mathlib.Omega.{arith}
-use lib.Dec.{eqb, leb, ltb}
+use lib.Dec.{eqb, leb}
 use lib.ListN.{length, take, drop, getD, length-drop}
 use lib.Seq.{take-all, drop-cons}
-use borrow.Author.Tests.{lt-ltb, le-ltb, eq-eqb, ne-eqb, eqb-true, leb-true, ltb-true, ltb-false}
+use borrow.Author.Tests.{lt-ltb, le-ltb, eq-eqb, ne-eqb, eqb-true, leb-true}
 use Rattle.text.specs.Class.{all}
 use Rattle.text.proofs.Logic.{and-left, and-right, true-false, not-holds}
 use Rattle.shapes.specs.Picture.{isOf, fits, longer, pictures, fitsAny, oneOf, run}

@@ -1,15 +1,14 @@
 -- THE ONE FACT of digits, over base and width: the number of the digits, and the digits of the number, zeros in front kept.
 -- Assumes nothing.
-use mathlib.Core.Path.{_≡_, refl, sym, ap, _∙_}
-use mathlib.Core.Bool.{Bool, true, false, _&&_}
+use mathlib.Core.Path.{_≡_, refl, sym, _∙_}
+use mathlib.Core.Bool.{Bool, true, false}
 use mathlib.Core.List.{List, [], _∷_, map}
-use Prim.Native.Nat.{ℕ, suc, _+_, _-_, _*_, _^_, _≤_, _<_, zero-le}
+use Prim.Native.Nat.{ℕ, suc, _-_, _^_, _≤_, _<_, zero-le}
 use native.Mathlib.Omega.{arith}
-use lib.Dec.{leb}
 use lib.ListN.{length, length-map}
 use Rattle.text.specs.Class.{all}
 use Rattle.text.specs.Code.{codeOf, byteOf}
-use Rattle.text.specs.Place.{value, places, allIn}
+use Rattle.text.specs.Place.{places, allIn}
 use Rattle.text.specs.Number.{isDigitTo, digitOf, numberOf, padded, isNumeral, readNumber}
 use Rattle.text.specs.declared.Numeral.the-variants.{Value, Nothing}
 use Rattle.text.proofs.Codes.{byte-code, code-byte, digits-all}

@@ -4,12 +4,12 @@ use mathlib.Core.Path.{_≡_, refl, sym, ap, ap₂, _∙_}
 use mathlib.Core.Bool.{Bool, true, false, not, _&&_, _||_}
 use mathlib.Core.List.{List, [], _∷_, map}
 use Prim.Native.Nat.{ℕ, zero, suc, _+_, _*_, _^_, _≤_, _<_}
-use native.Mathlib.Nat.{not-suc-le-zero, mul-pos, le-of-suc-le-suc, one-le-pow, lt-irrefl}
+use native.Mathlib.Nat.{not-suc-le-zero, mul-pos, le-of-suc-le-suc, one-le-pow}
 use native.Mathlib.Omega.{arith}
 use lib.Arith.{digits-lt}
 use lib.Dec.{ltb, eqb, leb, lit≤}
 use lib.ListN.{length, length-map}
-use borrow.Author.Tests.{ltb-true, ltb-false, lt-ltb, eqb-true, eqb-false, leb-true, le-leb, eq-eqb, ne-eqb}
+use borrow.Author.Tests.{ltb-true, ltb-false, eqb-true, leb-true, le-leb, eq-eqb}
 use Rattle.text.specs.Class.{all, isAlnum}
 use Rattle.text.specs.Code.{codeOf, byteOf}
 use Rattle.text.specs.Place.{value, allIn}

@@ -1,6 +1,6 @@
 -- The laws of places, over any base and width: the value of digits and the digits of a value give each other. Assumes nothing.
 use mathlib.Core.Path.{_≡_, refl, sym, ap, _∙_}
-use mathlib.Core.Bool.{Bool, true, false, cond, _&&_}
+use mathlib.Core.Bool.{Bool, true, false, _&&_}
 use mathlib.Core.List.{List, [], _∷_}
 use Prim.Native.Nat.{ℕ, zero, suc, _+_, _-_, _*_, _/_, _%_, _^_, _≤_, _<_, zero-le}
 use native.Mathlib.Nat.{pow-zero, pow-succ', one-le-pow, div-add-mod', mod-lt, div-lt-iff-lt-mul, le-div-iff-mul-le, mul-pos, mul-le-mul-right, le-of-suc-le-suc, not-suc-le-zero, suc-inj}

@@ -1,9 +1,9 @@
 -- One turn of a loop over the 12 places, from the highest: i places are passed, w is the weight of the last of them,
 -- and w / 38 the weight of the next. Assumes nothing.
-use mathlib.Core.Path.{_≡_, refl, sym, ap, _∙_, subst}
+use mathlib.Core.Path.{_≡_, refl, _∙_}
 use mathlib.Core.Bool.{Bool, true, false, _&&_}
-use mathlib.Core.List.{List, [], _∷_, map}
-use Prim.Native.Nat.{ℕ, zero, suc, _+_, _-_, _*_, _/_, _%_, _^_, _≤_, _<_}
+use mathlib.Core.List.{List, _∷_, map}
+use Prim.Native.Nat.{ℕ, suc, _+_, _-_, _*_, _/_, _%_, _^_, _≤_, _<_}
 use native.Mathlib.Nat.{one-le-pow, pow-succ'}
 use native.Mathlib.Numerals.{add-one}
 use native.Mathlib.Omega.{arith}
@@ -12,7 +12,7 @@ use lib.ListN.{length, getD, drop}
 use lib.Seq.{drop-cons}
 use borrow.Author.Tests.{ltb-true, ltb-false}
 use Rattle.text.specs.Code.{codeOf}
-use Rattle.text.specs.Place.{value, digits, tight, allIn}
+use Rattle.text.specs.Place.{value, digits, tight}
 use Rattle.text.proofs.Places.{value-suc, digits-suc, tight-suc}
 
 -- something is left, so a place is left

@@ -1,6 +1,6 @@
 -- A byte's code and a code's byte. Assumes nothing.
 use Prim.Native.Nat.{ℕ, _+_, _-_}
-use mathlib.Core.Bool.{Bool, true, false, cond}
+use mathlib.Core.Bool.{cond}
 use lib.Dec.{ltb, leb, eqb}
 
 -- '0'..'9' 1..10, 'A'..'Z' 11..36, '/' 37, any other byte 0

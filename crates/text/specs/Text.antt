@@ -1,8 +1,8 @@
 -- A short text, at most 12 capitals, digits and slashes, as one number: 12 places of base 38, a code in each, and 0 in the
 -- places after the text. What `pack`, `size` and `put` answer. Assumes nothing.
 use Prim.Native.Nat.{ℕ, _+_, _^_}
-use mathlib.Core.Bool.{Bool, true, false, cond, _&&_}
-use mathlib.Core.List.{List, [], _∷_, _++_, map}
+use mathlib.Core.Bool.{Bool, cond, _&&_}
+use mathlib.Core.List.{List, _∷_, _++_, map}
 use lib.Dec.{leb, ltb}
 use lib.ListN.{length, take, drop}
 use Rattle.text.specs.Class.{all, isTextByte}

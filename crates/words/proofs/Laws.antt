@@ -1,14 +1,14 @@
 -- THE LAWS of words, once for every kind: reading is sound and complete, and a text and its word give each other.
 -- Assumes nothing.
-use mathlib.Core.Path.{_≡_, refl, sym, ap, _∙_}
-use mathlib.Core.Bool.{Bool, true, false, cond, _&&_}
+use mathlib.Core.Path.{_≡_, refl, sym, _∙_}
+use mathlib.Core.Bool.{Bool, true, false}
 use mathlib.Core.List.{List}
 use Prim.Native.Nat.{ℕ, _<_}
 use native.Mathlib.Omega.{arith}
 use lib.ListN.{length}
-use Rattle.text.specs.Text.{packed, textOf, isText, isPacked, packOf}
+use Rattle.text.specs.Text.{packed, textOf, isPacked, packOf}
 use Rattle.text.specs.declared.Packed.the-variants.{Text, Nothing}
-use Rattle.text.proofs.Logic.{and-left, and-right, not-holds, true-false}
+use Rattle.text.proofs.Logic.{and-left, and-right, not-holds}
 use Rattle.text.proofs.Laws.{text-packed, packed-is, packed-text}
 use Rattle.forms.specs.Kind.{isForm}
 use Rattle.forms.proofs.Held.{form-held}

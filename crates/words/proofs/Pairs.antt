@@ -1,17 +1,16 @@
 -- THE LAWS of two words in one field, once for every two kinds of which the first has no slash. Assumes nothing.
 use mathlib.Core.Path.{_≡_, refl, sym, ap, _∙_}
-use mathlib.Core.Bool.{Bool, true, false, cond, _&&_, _||_, and-false}
-use mathlib.Core.List.{List, [], _∷_, _++_}
+use mathlib.Core.Bool.{Bool, true, false, _&&_, _||_, and-false}
+use mathlib.Core.List.{List, []}
 use Prim.Native.Nat.{ℕ, _+_, _-_, _≤_, _<_}
 use native.Mathlib.Omega.{arith}
-use lib.Dec.{eqb, leb}
-use lib.ListN.{length, take, drop, drop-of-length-le}
-use lib.Seq.{take-all}
-use borrow.Author.Tests.{eq-eqb, ne-eqb, eqb-true, leb-true, lt-leb, le-leb}
+use lib.Dec.{eqb}
+use lib.ListN.{length, take, drop}
+use borrow.Author.Tests.{ne-eqb, eqb-true, lt-leb, le-leb}
 use Rattle.text.specs.Place.{value, digits}
-use Rattle.text.specs.Text.{packed, textOf, isText, isPacked, slashed, joinOf, packOf}
+use Rattle.text.specs.Text.{packed, textOf, isText, isPacked, slashed, joinOf}
 use Rattle.text.specs.declared.Packed.the-variants as packing
-use Rattle.text.proofs.Logic.{and-left, and-right, true-false, not-holds}
+use Rattle.text.proofs.Logic.{and-left, and-right}
 use Rattle.text.proofs.Laws.{text-packed, packed-text, packed-is, text-length, text-short}
 use Rattle.text.proofs.Joined.{join-known, join-none}
 use Rattle.shapes.specs.Cut.{upTo, has, before, after}
@@ -22,7 +21,7 @@ use Rattle.forms.proofs.Held.{form-held}
 use Rattle.words.specs.Word.{wordOf, isWord}
 use Rattle.words.specs.Pair.{slash, isPairForm, pairOf, pairText, isPair, pairWord, isPairText}
 use Rattle.words.specs.declared.Pair.the-variants.{Both, Nothing}
-use Rattle.words.proofs.Laws.{word-known, read-refused, word-packed, word-form, word-some, form-word}
+use Rattle.words.proofs.Laws.{word-known, read-refused, word-packed, word-form, form-word}
 
 pub packed-none : packed [] ≡ 0
 unfolding packed value

@@ -1,7 +1,7 @@
 -- A field of a kind that is held as its text: the word of a text, the words of a kind, and what writing one does.
 -- Assumes nothing.
 use Prim.Native.Nat.{ℕ}
-use mathlib.Core.Bool.{Bool, true, false, cond, _&&_}
+use mathlib.Core.Bool.{Bool, cond, _&&_}
 use mathlib.Core.List.{List}
 use Rattle.text.specs.Text.{packed, textOf, isPacked}
 use Rattle.text.specs.declared.Packed.{Packed}

@@ -1,5 +1,5 @@
 -- `forms::is_fix` meets its contract: each way out is a case of the definition. Assumes nothing.
-use mathlib.Core.Path.{_≡_, sym, ap, _∙_}
+use mathlib.Core.Path.{sym, _∙_}
 use native.Mathlib.Nat.{le-of-lt}
 use lib.Seq.{length-take-le}
 use Rattle.shapes.proofs.Laws.{joins-not, joins-is}

@@ -1,5 +1,5 @@
 -- `meanings::levels_of` meets its contract. Assumes nothing.
-use mathlib.Core.Path.{_≡_, sym, ap, ap₂, _∙_}
+use mathlib.Core.Path.{sym, ap, ap₂, _∙_}
 use native.Mathlib.Nat.{le-of-lt}
 use lib.Seq.{length-take-le}
 use borrow.Author.Tests.{not-true, not-false}

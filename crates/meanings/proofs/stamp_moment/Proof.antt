@@ -1,6 +1,6 @@
 -- `meanings::stamp_moment` meets its contract: the text stands at the start of twelve bytes, and is asked there.
 -- Assumes nothing.
-use mathlib.Core.Path.{_≡_, refl, sym, _∙_}
+use mathlib.Core.Path.{refl, sym, _∙_}
 use native.Mathlib.Omega.{arith}
 use lib.Seq.{length-take-le}
 use Rattle.text.proofs.Laws.{shown-packed, shown-size, shown-text, text-short, twelve-room, no-text-known}

@@ -1,11 +1,10 @@
 -- `shapes::within` meets its contract. Assumes nothing.
 use mathlib.Core.Path.{_≡_, sym, _∙_}
-use mathlib.Core.Bool.{Bool, true, false, _&&_}
+use mathlib.Core.Bool.{false, _&&_}
 use mathlib.Core.List.{List}
 use Prim.Native.Nat.{ℕ}
 use lib.Dec.{leb}
 use borrow.Author.Tests.{le-leb, lt-leb}
-use denote.Ref.{now}
 use Rattle.text.specs.Number.{readNumber}
 use Rattle.text.specs.declared.Numeral.the-variants.{Value, Nothing}
 use Rattle.text.proofs.Numbers.{number-known, number-none}

@@ -1,6 +1,6 @@
 -- `text::number` meets its contract. The invariant: n, moved up by the places that are left, and what the digits from index i
 -- on are make the whole number, and those bytes are digits as all of them are. Assumes nothing.
-use mathlib.Core.Path.{_≡_, refl, sym, ap, _∙_}
+use mathlib.Core.Path.{_≡_, refl, sym, _∙_}
 use mathlib.Core.Bool.{true, false, _&&_, and-false}
 use mathlib.Core.List.{List, [], _∷_, map}
 use Prim.Native.Nat.{ℕ, suc, _+_, _-_, _*_, _^_, _≤_, _<_}

@@ -1,14 +1,12 @@
 -- `text::size` meets its contract. The invariant: the digits of what is left, and whether they are tight, as they are of the whole.
 -- Assumes nothing.
 use mathlib.Core.Path.{_≡_, refl, sym, ap, _∙_}
-use mathlib.Core.Bool.{Bool, true, false, _&&_, cond}
-use mathlib.Core.List.{List, [], _∷_, map}
-use Prim.Native.Nat.{ℕ, _+_, _-_, _*_, _/_, _%_, _^_, _≤_, _<_}
+use mathlib.Core.Bool.{true, false}
+use Prim.Native.Nat.{ℕ, _+_, _-_, _/_, _%_, _^_, _≤_, _<_}
 use native.Mathlib.Nat.{mod-lt}
 use native.Mathlib.Omega.{arith}
 use lib.ListN.{length, length-map}
 use borrow.Author.Tests.{le-leb, lt-leb, lt-ltb, le-ltb}
-use Rattle.text.specs.Code.{byteOf}
 use Rattle.text.specs.Place.{digits, tight}
 use Rattle.text.specs.Text.{isPacked, textOf, sizeOf}
 use Rattle.text.specs.declared.Sized.the-variants.{Bytes, NotOne}

@@ -1,11 +1,10 @@
 -- `text::write` meets its contract. The invariant: what is left, written from the place that is reached, makes what the whole makes.
 -- Assumes nothing.
 use mathlib.Core.Path.{_≡_, refl, sym, ap, _∙_}
-use mathlib.Core.Bool.{Bool, true, false, _&&_}
+use mathlib.Core.Bool.{true}
 use mathlib.Core.List.{List, [], _∷_, map}
-use Prim.Native.Nat.{ℕ, suc, _+_, _-_, _*_, _/_, _%_, _^_, _≤_, _<_}
+use Prim.Native.Nat.{ℕ, suc, _+_, _-_, _/_, _%_, _^_, _≤_, _<_}
 use native.Mathlib.Nat.{mod-lt, div-lt-iff-lt-mul, add-zero}
-use native.Mathlib.Numerals.{add-one}
 use native.Mathlib.Omega.{arith}
 use lib.Dec.{leb}
 use lib.ListN.{length, length-map, length-set, set}
@@ -13,7 +12,7 @@ use lib.Seq.{sets, sets-eq}
 use denote.Ref.{now}
 use Rattle.text.specs.Code.{byteOf}
 use Rattle.text.specs.Place.{digits, tight}
-use Rattle.text.specs.Text.{isPacked, textOf, spliced}
+use Rattle.text.specs.Text.{textOf, spliced}
 use Rattle.text.proofs.Logic.{and-right}
 use Rattle.text.proofs.Places.{digits-zero}
 use Rattle.text.proofs.Laws.{packed-small, packed-tight}

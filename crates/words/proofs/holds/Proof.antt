@@ -1,5 +1,5 @@
 -- `words::holds` meets its contract: the text stands at the start of twelve bytes, and is tested there. Assumes nothing.
-use mathlib.Core.Path.{_≡_, refl, sym, _∙_}
+use mathlib.Core.Path.{refl, sym, _∙_}
 use native.Mathlib.Omega.{arith}
 use lib.Seq.{length-take-le}
 use Rattle.text.proofs.Laws.{shown-packed, shown-size, shown-text, text-short, twelve-room, no-text-known}

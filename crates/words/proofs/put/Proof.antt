@@ -1,5 +1,5 @@
 -- `words::put` meets its contract. Assumes nothing.
-use mathlib.Core.Path.{_≡_, sym, ap, _∙_}
+use mathlib.Core.Path.{sym, _∙_}
 use Rattle.text.proofs.Laws.{no-text}
 use Rattle.words.proofs.Laws.{writes-word}
 use borrow.Author.Needs.{needs}

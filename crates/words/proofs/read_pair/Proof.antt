@@ -1,5 +1,5 @@
 -- `words::read_pair` meets its contract: each way out is a case of the definition. Assumes nothing.
-use mathlib.Core.Path.{_≡_, sym, _∙_}
+use mathlib.Core.Path.{sym, _∙_}
 use native.Mathlib.Nat.{le-of-lt}
 use lib.Seq.{length-take-le}
 use Rattle.words.proofs.Pairs.{alone-none, alone, first-none, second-none, both}

@@ -3,7 +3,6 @@ use mathlib.Core.Path.{_∙_}
 use Prim.Native.Nat.{_^_}
 use native.Mathlib.Omega.{arith}
 use borrow.Author.Tests.{lt-ltb}
-use Rattle.forms.specs.Form.{isFacility}
 use Rattle.heads.specs.Facility.{isFacilityValue}
 use borrow.Author.Needs.{needs}
 use Rattle.heads.proofs.Facility.holds.Statement.{statement}

@@ -1,5 +1,5 @@
 -- `idents::aircraft::read_prefixed` meets its contract. Assumes nothing.
-use mathlib.Core.Path.{_≡_, sym, ap, _∙_}
+use mathlib.Core.Path.{sym, ap, _∙_}
 use native.Mathlib.Nat.{le-of-lt}
 use lib.Seq.{length-take-le}
 use Rattle.idents.specs.Aircraft.{withPrefix}
