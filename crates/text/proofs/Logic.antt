@@ -5,7 +5,7 @@ use Prim.Native.Nat.{ℕ, zero, suc, _<_}
 use native.Mathlib.Nat.{le-of-suc-le-suc, not-suc-le-zero}
 use lib.Arith.{lt-of-le-ne}
 use lib.Dec.{T, eqb}
-use borrow.Author.Tests.{eqb-true, eqb-false}
+use borrow.Author.Tests.{eqb-true, eqb-false, not-true, not-false}
 
 pub and-left : (a b : Bool) → (a && b) ≡ true → a ≡ true
 and-left true b e = refl
@@ -17,6 +17,13 @@ and-right false b e = absurd (subst (λ (t : Bool). T t) (sym e) tt)
 
 pub true-false : {X : Type 0} {t : Bool} → t ≡ true → t ≡ false → X
 true-false p q = absurd (subst (λ (t : Bool). T t) (sym p ∙ q) tt)
+
+-- what a function answered, r, is the test t, and the code found it so, or not so
+pub so : {r t : Bool} → r ≡ t → not r ≡ false → t ≡ true
+so e f = sym e ∙ not-false _ f
+
+pub not-so : {r t : Bool} → r ≡ t → not r ≡ true → t ≡ false
+not-so e f = sym e ∙ not-true _ f
 
 -- a test that cannot fail holds, and one that cannot hold fails
 pub not-fails : (t : Bool) → (t ≡ false → ⊥) → t ≡ true

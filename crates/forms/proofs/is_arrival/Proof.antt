@@ -16,11 +16,19 @@ returns c = c .if1 .taken ∙ rw (sym (c .before .is-clock .ensures) ∙ c .if1 
 
 returns-2 : tie.Need-returns-2
 unfolding isArrival
-returns-2 c = c .is-clock2 .ensures ∙ rw (sym (c .before .before .before .before .before .before .is-clock .ensures) ∙ c .before .before .before .before .before .if1 .left, sym (c .before .before .before .fits2 .ensures) ∙ c .before .before .if2 .taken)
+returns-2 c =
+    let c₂ = c .before .before in
+    let c₃ = c₂ .before in
+    let c₅ = c₃ .before .before in
+    let c₆ = c₅ .before in
+    c .is-clock2 .ensures ∙ rw (sym (c₆ .is-clock .ensures) ∙ c₅ .if1 .left, sym (c₃ .fits2 .ensures) ∙ c₂ .if2 .taken)
 
 returns-3 : tie.Need-returns-3
 unfolding isArrival
-returns-3 c = c .if2 .left ∙ rw (sym (c .before .before .before .before .is-clock .ensures) ∙ c .before .before .before .if1 .left, sym (c .before .fits2 .ensures) ∙ c .if2 .left)
+returns-3 c =
+    let c₃ = c .before .before .before in
+    let c₄ = c₃ .before in
+    c .if2 .left ∙ rw (sym (c₄ .is-clock .ensures) ∙ c₃ .if1 .left, sym (c .before .fits2 .ensures) ∙ c .if2 .left)
 
 pub is-arrival-spec : {M : Type 1} → statement M
 is-arrival-spec =

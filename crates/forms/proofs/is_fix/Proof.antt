@@ -22,14 +22,16 @@ slice-aggregate-run c = sym (length-take-le _ _ (le-of-lt (c .before .if2 .left)
 returns-3 : tie.Need-returns-3
 unfolding isFix
 returns-3 c =
-    let m = c .before .before in
+    let c₂ = c .before .before in
+    let m = c₂ in
     let e = m .before .before in
     c .run3 .ensures ∙ rw (sym (e .before .before .before .before .run .ensures) ∙ e .before .before .before .if1 .left, joins-is _ _ _ (e .before .before .find .ensures) _ _ (e .before .if2 .left), sym (m .before .run2 .ensures) ∙ m .if3 .taken)
 
 returns-4 : tie.Need-returns-4
 unfolding isFix
 returns-4 c =
-    let e = c .before .before in
+    let c₂ = c .before .before in
+    let e = c₂ in
     c .if3 .left ∙ rw (sym (e .before .before .before .before .run .ensures) ∙ e .before .before .before .if1 .left, joins-is _ _ _ (e .before .before .find .ensures) _ _ (e .before .if2 .left), sym (c .before .run2 .ensures) ∙ c .if3 .left)
 
 pub is-fix-spec : {M : Type 1} → statement M

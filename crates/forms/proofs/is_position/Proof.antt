@@ -1,7 +1,7 @@
 -- `forms::is_position` meets its contract: each way out is a case of the definition. Assumes nothing.
-use mathlib.Core.Path.{sym, _∙_}
+use mathlib.Core.Path.{_∙_}
 use native.Mathlib.Omega.{arith}
-use borrow.Author.Tests.{not-true, not-false}
+use Rattle.text.proofs.Logic.{so, not-so}
 use Rattle.shapes.proofs.Laws.{fits-length}
 use Rattle.forms.specs.Form.{isPosition}
 use borrow.Author.Needs.{needs}
@@ -10,35 +10,65 @@ use Rattle.forms.proofs.is_position.Tie as tie
 
 returns : tie.Need-returns
 unfolding isPosition
-returns c = rw (sym (c .before .fits2 .ensures) ∙ not-true _ (c .if1 .taken))
+returns c = rw (not-so (c .before .fits2 .ensures) (c .if1 .taken))
 
 part-within-end : tie.Need-part-within-end
-part-within-end c = omega (arith, fits-length _ _ (sym (c .before .fits2 .ensures) ∙ not-false _ (c .if1 .left)))
+part-within-end c = omega (arith, fits-length _ _ (so (c .before .fits2 .ensures) (c .if1 .left)))
 
 returns-2 : tie.Need-returns-2
 unfolding isPosition
-returns-2 c = rw (sym (c .before .before .before .before .fits2 .ensures) ∙ not-false _ (c .before .before .before .if1 .left), sym (c .before .within .ensures) ∙ not-true _ (c .if2 .taken))
+returns-2 c =
+    let c₃ = c .before .before .before in
+    let c₄ = c₃ .before in
+    rw (so (c₄ .fits2 .ensures) (c₃ .if1 .left), not-so (c .before .within .ensures) (c .if2 .taken))
 
 part-within-end-2 : tie.Need-part-within-end-2
-part-within-end-2 c = omega (arith, fits-length _ _ (sym (c .before .before .before .before .fits2 .ensures) ∙ not-false _ (c .before .before .before .if1 .left)))
+part-within-end-2 c = omega (arith, fits-length _ _ (so (c .before .before .before .before .fits2 .ensures) (c .before .before .before .if1 .left)))
 
 returns-3 : tie.Need-returns-3
 unfolding isPosition
-returns-3 c = rw (sym (c .before .before .before .before .before .before .before .fits2 .ensures) ∙ not-false _ (c .before .before .before .before .before .before .if1 .left), sym (c .before .before .before .before .within .ensures) ∙ not-false _ (c .before .before .before .if2 .left), sym (c .before .within2 .ensures) ∙ not-true _ (c .if3 .taken))
+returns-3 c =
+    let c₃ = c .before .before .before in
+    let c₄ = c₃ .before in
+    let c₆ = c₄ .before .before in
+    let c₇ = c₆ .before in
+    rw (so (c₇ .fits2 .ensures) (c₆ .if1 .left), so (c₄ .within .ensures) (c₃ .if2 .left), not-so (c .before .within2 .ensures) (c .if3 .taken))
 
 part-within-end-3 : tie.Need-part-within-end-3
-part-within-end-3 c = omega (arith, fits-length _ _ (sym (c .before .before .before .before .before .before .before .fits2 .ensures) ∙ not-false _ (c .before .before .before .before .before .before .if1 .left)))
+part-within-end-3 c =
+    let c₆ = c .before .before .before .before .before .before in
+    let c₇ = c₆ .before in
+    omega (arith, fits-length _ _ (so (c₇ .fits2 .ensures) (c₆ .if1 .left)))
 
 returns-4 : tie.Need-returns-4
 unfolding isPosition
-returns-4 c = rw (sym (c .before .before .before .before .before .before .before .before .before .before .fits2 .ensures) ∙ not-false _ (c .before .before .before .before .before .before .before .before .before .if1 .left), sym (c .before .before .before .before .before .before .before .within .ensures) ∙ not-false _ (c .before .before .before .before .before .before .if2 .left), sym (c .before .before .before .before .within2 .ensures) ∙ not-false _ (c .before .before .before .if3 .left), sym (c .before .within3 .ensures) ∙ not-true _ (c .if4 .taken))
+returns-4 c =
+    let c₃ = c .before .before .before in
+    let c₄ = c₃ .before in
+    let c₆ = c₄ .before .before in
+    let c₇ = c₆ .before in
+    let c₉ = c₇ .before .before in
+    let c₁₀ = c₉ .before in
+    rw (so (c₁₀ .fits2 .ensures) (c₉ .if1 .left), so (c₇ .within .ensures) (c₆ .if2 .left), so (c₄ .within2 .ensures) (c₃ .if3 .left), not-so (c .before .within3 .ensures) (c .if4 .taken))
 
 part-within-end-4 : tie.Need-part-within-end-4
-part-within-end-4 c = omega (arith, fits-length _ _ (sym (c .before .before .before .before .before .before .before .before .before .before .fits2 .ensures) ∙ not-false _ (c .before .before .before .before .before .before .before .before .before .if1 .left)))
+part-within-end-4 c =
+    let c₉ = c .before .before .before .before .before .before .before .before .before in
+    let c₁₀ = c₉ .before in
+    omega (arith, fits-length _ _ (so (c₁₀ .fits2 .ensures) (c₉ .if1 .left)))
 
 returns-5 : tie.Need-returns-5
 unfolding isPosition
-returns-5 c = c .within4 .ensures ∙ rw (sym (c .before .before .before .before .before .before .before .before .before .before .before .before .fits2 .ensures) ∙ not-false _ (c .before .before .before .before .before .before .before .before .before .before .before .if1 .left), sym (c .before .before .before .before .before .before .before .before .before .within .ensures) ∙ not-false _ (c .before .before .before .before .before .before .before .before .if2 .left), sym (c .before .before .before .before .before .before .within2 .ensures) ∙ not-false _ (c .before .before .before .before .before .if3 .left), sym (c .before .before .before .within3 .ensures) ∙ not-false _ (c .before .before .if4 .left))
+returns-5 c =
+    let c₂ = c .before .before in
+    let c₃ = c₂ .before in
+    let c₅ = c₃ .before .before in
+    let c₆ = c₅ .before in
+    let c₈ = c₆ .before .before in
+    let c₉ = c₈ .before in
+    let c₁₁ = c₉ .before .before in
+    let c₁₂ = c₁₁ .before in
+    c .within4 .ensures ∙ rw (so (c₁₂ .fits2 .ensures) (c₁₁ .if1 .left), so (c₉ .within .ensures) (c₈ .if2 .left), so (c₆ .within2 .ensures) (c₅ .if3 .left), so (c₃ .within3 .ensures) (c₂ .if4 .left))
 
 pub is-position-spec : {M : Type 1} → statement M
 is-position-spec =

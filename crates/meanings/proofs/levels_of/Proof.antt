@@ -2,7 +2,7 @@
 use mathlib.Core.Path.{sym, ap, ap₂, _∙_}
 use native.Mathlib.Nat.{le-of-lt}
 use lib.Seq.{length-take-le}
-use borrow.Author.Tests.{not-true, not-false}
+use Rattle.text.proofs.Logic.{so, not-so}
 use Rattle.forms.specs.Kind.{isForm}
 use Rattle.meanings.specs.Meaning.{levelsOf}
 use Rattle.meanings.specs.declared.Levels.the-variants.{One, Block}
@@ -13,18 +13,28 @@ use Rattle.meanings.proofs.levels_of.Tie as tie
 
 returns : tie.Need-returns
 unfolding levelsOf isForm
-returns c = rw (sym (c .before .is-form .ensures) ∙ not-true _ (c .if1 .taken))
+returns c = rw (not-so (c .before .is-form .ensures) (c .if1 .taken))
 
 returns-2 : tie.Need-returns-2
 unfolding isForm
-returns-2 c = ap One (c .decimal .ensures) ∙ one-level _ _ (c .before .before .find .ensures) (sym (c .before .before .before .before .is-form .ensures) ∙ not-false _ (c .before .before .before .if1 .left)) (c .before .if2 .taken)
+returns-2 c =
+    let c₂ = c .before .before in
+    let c₃ = c₂ .before in
+    let c₄ = c₃ .before in
+    ap One (c .decimal .ensures) ∙ one-level _ _ (c₂ .find .ensures) (so (c₄ .is-form .ensures) (c₃ .if1 .left)) (c .before .if2 .taken)
 
 slice-aggregate-decimal : tie.Need-slice-aggregate-decimal
 slice-aggregate-decimal c = sym (length-take-le _ _ (le-of-lt (c .before .if2 .left)))
 
 returns-3 : tie.Need-returns-3
 unfolding isForm
-returns-3 c = ap₂ Block (c .before .before .decimal2 .ensures) (c .decimal3 .ensures) ∙ two-levels _ _ (c .before .before .before .before .before .find .ensures) (sym (c .before .before .before .before .before .before .before .is-form .ensures) ∙ not-false _ (c .before .before .before .before .before .before .if1 .left)) (c .before .before .before .before .if2 .left)
+returns-3 c =
+    let c₂ = c .before .before in
+    let c₄ = c₂ .before .before in
+    let c₅ = c₄ .before in
+    let c₆ = c₅ .before in
+    let c₇ = c₆ .before in
+    ap₂ Block (c₂ .decimal2 .ensures) (c .decimal3 .ensures) ∙ two-levels _ _ (c₅ .find .ensures) (so (c₇ .is-form .ensures) (c₆ .if1 .left)) (c₄ .if2 .left)
 
 pub levels-of-spec : {M : Type 1} → statement M
 levels-of-spec =

@@ -1,7 +1,6 @@
 -- `meanings::moment_of` meets its contract. Assumes nothing.
-use mathlib.Core.Path.{sym, _∙_}
 use native.Mathlib.Omega.{arith}
-use borrow.Author.Tests.{not-true, not-false}
+use Rattle.text.proofs.Logic.{so, not-so}
 use Rattle.meanings.specs.Meaning.{momentOf}
 use Rattle.meanings.proofs.Laws.{stamped}
 use borrow.Author.Needs.{needs}
@@ -10,35 +9,65 @@ use Rattle.meanings.proofs.moment_of.Tie as tie
 
 returns : tie.Need-returns
 unfolding momentOf
-returns c = rw (sym (c .before .is-stamp .ensures) ∙ not-true _ (c .if1 .taken))
+returns c = rw (not-so (c .before .is-stamp .ensures) (c .if1 .taken))
 
 part-decimal-end : tie.Need-part-decimal-end
-part-decimal-end c = omega (arith, stamped _ (sym (c .before .is-stamp .ensures) ∙ not-false _ (c .if1 .left)) .size)
+part-decimal-end c = omega (arith, stamped _ (so (c .before .is-stamp .ensures) (c .if1 .left)) .size)
 
 part-decimal-end-2 : tie.Need-part-decimal-end-2
-part-decimal-end-2 c = omega (arith, stamped _ (sym (c .before .before .before .is-stamp .ensures) ∙ not-false _ (c .before .before .if1 .left)) .size)
+part-decimal-end-2 c = omega (arith, stamped _ (so (c .before .before .before .is-stamp .ensures) (c .before .before .if1 .left)) .size)
 
 part-decimal-end-3 : tie.Need-part-decimal-end-3
-part-decimal-end-3 c = omega (arith, stamped _ (sym (c .before .before .before .before .before .is-stamp .ensures) ∙ not-false _ (c .before .before .before .before .if1 .left)) .size)
+part-decimal-end-3 c =
+    let c₄ = c .before .before .before .before in
+    let c₅ = c₄ .before in
+    omega (arith, stamped _ (so (c₅ .is-stamp .ensures) (c₄ .if1 .left)) .size)
 
 part-decimal-end-4 : tie.Need-part-decimal-end-4
-part-decimal-end-4 c = omega (arith, stamped _ (sym (c .before .before .before .before .before .before .before .is-stamp .ensures) ∙ not-false _ (c .before .before .before .before .before .before .if1 .left)) .size)
+part-decimal-end-4 c =
+    let c₆ = c .before .before .before .before .before .before in
+    let c₇ = c₆ .before in
+    omega (arith, stamped _ (so (c₇ .is-stamp .ensures) (c₆ .if1 .left)) .size)
 
 mul-seconds : tie.Need-mul-seconds
-mul-seconds c = omega (arith, c .before .before .before .before .decimal2 .ensures, stamped _ (sym (c .before .before .before .before .before .before .before .before .before .is-stamp .ensures) ∙ not-false _ (c .before .before .before .before .before .before .before .before .if1 .left)) .hour)
+mul-seconds c =
+    let c₄ = c .before .before .before .before in
+    let c₈ = c₄ .before .before .before .before in
+    let c₉ = c₈ .before in
+    omega (arith, c₄ .decimal2 .ensures, stamped _ (so (c₉ .is-stamp .ensures) (c₈ .if1 .left)) .hour)
 
 mul-seconds-2 : tie.Need-mul-seconds-2
-mul-seconds-2 c = omega (arith, c .before .before .decimal3 .ensures, stamped _ (sym (c .before .before .before .before .before .before .before .before .before .is-stamp .ensures) ∙ not-false _ (c .before .before .before .before .before .before .before .before .if1 .left)) .minute)
+mul-seconds-2 c =
+    let c₂ = c .before .before in
+    let c₈ = c₂ .before .before .before .before .before .before in
+    let c₉ = c₈ .before in
+    omega (arith, c₂ .decimal3 .ensures, stamped _ (so (c₉ .is-stamp .ensures) (c₈ .if1 .left)) .minute)
 
 add-seconds : tie.Need-add-seconds
-add-seconds c = omega (arith, c .before .before .before .before .decimal2 .ensures, c .before .before .decimal3 .ensures, stamped _ (sym (c .before .before .before .before .before .before .before .before .before .is-stamp .ensures) ∙ not-false _ (c .before .before .before .before .before .before .before .before .if1 .left)) .hour, stamped _ (sym (c .before .before .before .before .before .before .before .before .before .is-stamp .ensures) ∙ not-false _ (c .before .before .before .before .before .before .before .before .if1 .left)) .minute)
+add-seconds c =
+    let c₂ = c .before .before in
+    let c₄ = c₂ .before .before in
+    let c₈ = c₄ .before .before .before .before in
+    let c₉ = c₈ .before in
+    omega (arith, c₄ .decimal2 .ensures, c₂ .decimal3 .ensures, stamped _ (so (c₉ .is-stamp .ensures) (c₈ .if1 .left)) .hour, stamped _ (so (c₉ .is-stamp .ensures) (c₈ .if1 .left)) .minute)
 
 add-seconds-2 : tie.Need-add-seconds-2
-add-seconds-2 c = omega (arith, c .before .before .before .before .decimal2 .ensures, c .before .before .decimal3 .ensures, c .decimal4 .ensures, stamped _ (sym (c .before .before .before .before .before .before .before .before .before .is-stamp .ensures) ∙ not-false _ (c .before .before .before .before .before .before .before .before .if1 .left)) .hour, stamped _ (sym (c .before .before .before .before .before .before .before .before .before .is-stamp .ensures) ∙ not-false _ (c .before .before .before .before .before .before .before .before .if1 .left)) .minute, stamped _ (sym (c .before .before .before .before .before .before .before .before .before .is-stamp .ensures) ∙ not-false _ (c .before .before .before .before .before .before .before .before .if1 .left)) .second)
+add-seconds-2 c =
+    let c₂ = c .before .before in
+    let c₄ = c₂ .before .before in
+    let c₈ = c₄ .before .before .before .before in
+    let c₉ = c₈ .before in
+    omega (arith, c₄ .decimal2 .ensures, c₂ .decimal3 .ensures, c .decimal4 .ensures, stamped _ (so (c₉ .is-stamp .ensures) (c₈ .if1 .left)) .hour, stamped _ (so (c₉ .is-stamp .ensures) (c₈ .if1 .left)) .minute, stamped _ (so (c₉ .is-stamp .ensures) (c₈ .if1 .left)) .second)
 
 returns-2 : tie.Need-returns-2
 unfolding momentOf
-returns-2 c = rw ((sym (c .before .before .before .before .before .before .before .before .before .is-stamp .ensures) ∙ not-false _ (c .before .before .before .before .before .before .before .before .if1 .left)), c .before .before .before .before .before .before .decimal .ensures, c .before .before .before .before .decimal2 .ensures, c .before .before .decimal3 .ensures, c .decimal4 .ensures)
+returns-2 c =
+    let c₂ = c .before .before in
+    let c₄ = c₂ .before .before in
+    let c₆ = c₄ .before .before in
+    let c₈ = c₆ .before .before in
+    let c₉ = c₈ .before in
+    rw ((so (c₉ .is-stamp .ensures) (c₈ .if1 .left)), c₆ .decimal .ensures, c₄ .decimal2 .ensures, c₂ .decimal3 .ensures, c .decimal4 .ensures)
 
 pub moment-of-spec : {M : Type 1} → statement M
 moment-of-spec =

@@ -6,7 +6,7 @@ use mathlib.Core.List.{List, _∷_}
 use Prim.Native.Nat.{ℕ, _+_, _-_, _≤_, _<_}
 use native.Mathlib.Omega.{arith}
 use lib.ListN.{length, getD, drop, drop-of-length-le}
-use borrow.Author.Tests.{not-true, not-false}
+use Rattle.text.proofs.Logic.{so, not-so}
 use Rattle.shapes.specs.Picture.{isOf, fits as fitting}
 use Rattle.shapes.proofs.Laws.{next-byte, fits-apart}
 use Rattle.shapes.proofs.fits.Statement.{statement}
@@ -59,7 +59,10 @@ is-of-requires : tie.Need-is-of-requires Inv-loop μ-loop
 is-of-requires c κs = tt
 
 returns-2 : tie.Need-returns-2 Inv-loop μ-loop
-returns-2 c = bad (c .before .before .before .before .before .loop .inv) (c .before .before .before .before .loop-test .taken) (sym (c .before .is-of .ensures) ∙ not-true _ (c .if2 .taken))
+returns-2 c =
+    let c₄ = c .before .before .before .before in
+    let c₅ = c₄ .before in
+    bad (c₅ .loop .inv) (c₄ .loop-test .taken) (not-so (c .before .is-of .ensures) (c .if2 .taken))
 
 add-i : tie.Need-add-i Inv-loop μ-loop
 add-i c = omega arith
@@ -68,7 +71,10 @@ loop-less : tie.Need-loop-less Inv-loop μ-loop
 loop-less c = omega arith
 
 loop-again : tie.Need-loop-again Inv-loop μ-loop
-loop-again c = again (c .before .before .before .before .before .loop .inv) (c .before .before .before .before .loop-test .taken) (sym (c .before .is-of .ensures) ∙ not-false _ (c .if2 .left))
+loop-again c =
+    let c₄ = c .before .before .before .before in
+    let c₅ = c₄ .before in
+    again (c₅ .loop .inv) (c₄ .loop-test .taken) (so (c .before .is-of .ensures) (c .if2 .left))
 
 returns-3 : tie.Need-returns-3 Inv-loop μ-loop
 returns-3 c = done (c .before .loop .inv) (c .loop-test .left)

@@ -102,16 +102,32 @@ fits-requires : tie.Need-fits-requires Inv-loop μ-loop
 fits-requires c κs = tt
 
 returns : tie.Need-returns Inv-loop μ-loop
-returns c = found (c .before .before .before .before .before .before .loop .inv) (c .before .before .before .before .before .loop-test .taken) (c .before .before .before .find .result) (c .before .before .before .find .ensures) (c .before .fits2 .result) (c .before .fits2 .ensures) (c .if1 .taken)
+returns c =
+    let c₃ = c .before .before .before in
+    let c₅ = c₃ .before .before in
+    let c₆ = c₅ .before in
+    found (c₆ .loop .inv) (c₅ .loop-test .taken) (c₃ .find .result) (c₃ .find .ensures) (c .before .fits2 .result) (c .before .fits2 .ensures) (c .if1 .taken)
 
 add-from : tie.Need-add-from Inv-loop μ-loop
-add-from c = omega (arith, inside (c .before .before .before .before .before .before .loop .inv) (c .before .before .before .before .before .loop-test .taken) (c .before .before .before .find .result) (c .before .before .before .find .ensures))
+add-from c =
+    let c₃ = c .before .before .before in
+    let c₅ = c₃ .before .before in
+    let c₆ = c₅ .before in
+    omega (arith, inside (c₆ .loop .inv) (c₅ .loop-test .taken) (c₃ .find .result) (c₃ .find .ensures))
 
 loop-less : tie.Need-loop-less Inv-loop μ-loop
-loop-less c = omega (arith, inside (c .before .before .before .before .before .before .loop .inv) (c .before .before .before .before .before .loop-test .taken) (c .before .before .before .find .result) (c .before .before .before .find .ensures))
+loop-less c =
+    let c₃ = c .before .before .before in
+    let c₅ = c₃ .before .before in
+    let c₆ = c₅ .before in
+    omega (arith, inside (c₆ .loop .inv) (c₅ .loop-test .taken) (c₃ .find .result) (c₃ .find .ensures))
 
 loop-again : tie.Need-loop-again Inv-loop μ-loop
-loop-again c = again (c .before .before .before .before .before .before .loop .inv) (c .before .before .before .before .before .loop-test .taken) (c .before .before .before .find .result) (c .before .before .before .find .ensures) (c .before .fits2 .result) (c .before .fits2 .ensures) (c .if1 .left)
+loop-again c =
+    let c₃ = c .before .before .before in
+    let c₅ = c₃ .before .before in
+    let c₆ = c₅ .before in
+    again (c₆ .loop .inv) (c₅ .loop-test .taken) (c₃ .find .result) (c₃ .find .ensures) (c .before .fits2 .result) (c .before .fits2 .ensures) (c .if1 .left)
 
 returns-2 : tie.Need-returns-2 Inv-loop μ-loop
 returns-2 c = sym (c .before .loop .inv .none (c .loop-test .left))

@@ -1,11 +1,12 @@
 -- `shapes::run` meets its contract: the bytes that are left are of the class as all of them are. Assumes nothing.
-use mathlib.Core.Path.{_≡_, refl, sym, _∙_}
+use mathlib.Core.Path.{_≡_, refl}
 use mathlib.Core.Bool.{true, false}
 use mathlib.Core.List.{List, _∷_}
 use Prim.Native.Nat.{ℕ, _+_, _-_, _≤_, _<_}
 use native.Mathlib.Omega.{arith}
 use lib.ListN.{length, getD, drop, drop-of-length-le}
-use borrow.Author.Tests.{le-leb, lt-leb, not-true, not-false}
+use borrow.Author.Tests.{le-leb, lt-leb}
+use Rattle.text.proofs.Logic.{so, not-so}
 use Rattle.text.specs.Class.{all}
 use Rattle.shapes.specs.Picture.{isOf, run as running}
 use Rattle.shapes.proofs.Laws.{next-byte}
@@ -59,7 +60,10 @@ is-of-requires : tie.Need-is-of-requires Inv-loop μ-loop
 is-of-requires c κs = tt
 
 returns-3 : tie.Need-returns-3 Inv-loop μ-loop
-returns-3 c = bad (c .before .before .before .before .loop .inv) (c .before .before .before .loop-test .taken) (sym (c .before .is-of .ensures) ∙ not-true _ (c .if3 .taken))
+returns-3 c =
+    let c₃ = c .before .before .before in
+    let c₄ = c₃ .before in
+    bad (c₄ .loop .inv) (c₃ .loop-test .taken) (not-so (c .before .is-of .ensures) (c .if3 .taken))
 
 add-i : tie.Need-add-i Inv-loop μ-loop
 add-i c = omega arith
@@ -68,7 +72,10 @@ loop-less : tie.Need-loop-less Inv-loop μ-loop
 loop-less c = omega arith
 
 loop-again : tie.Need-loop-again Inv-loop μ-loop
-loop-again c = again (c .before .before .before .before .loop .inv) (c .before .before .before .loop-test .taken) (sym (c .before .is-of .ensures) ∙ not-false _ (c .if3 .left))
+loop-again c =
+    let c₃ = c .before .before .before in
+    let c₄ = c₃ .before in
+    again (c₄ .loop .inv) (c₃ .loop-test .taken) (so (c .before .is-of .ensures) (c .if3 .left))
 
 returns-4 : tie.Need-returns-4 Inv-loop μ-loop
 returns-4 c = done (c .before .loop .inv) (c .loop-test .left)

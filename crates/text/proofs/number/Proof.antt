@@ -114,9 +114,12 @@ returns-4 c =
 
 fitting : (c : tie.Else4 Inv-loop μ-loop) → c .before .before .before .before .before .loop .n * c .before .before .before .before .before .before .before .before .before .args .base + (c .before .before .code .result - 1) < 36 ^ 12
 fitting c =
-    let k = c .before .before .code in
-    let l = c .before .before .before .before .before in
-    fits (l .loop .inv) (k .result) (c .before .before .before .before .loop-test .taken) (k .ensures) (omega arith) (c .if4 .left)
+    let c₂ = c .before .before in
+    let c₄ = c₂ .before .before in
+    let c₅ = c₄ .before in
+    let k = c₂ .code in
+    let l = c₅ in
+    fits (l .loop .inv) (k .result) (c₄ .loop-test .taken) (k .ensures) (omega arith) (c .if4 .left)
 
 mul-n : tie.Need-mul-n Inv-loop μ-loop
 mul-n c = omega (arith, fitting c)

@@ -89,9 +89,11 @@ returns-2 c =
 
 roomy : (c : tie.Else2 Inv-loop μ-loop) → c .before .before .before .before .loop .n + c .before .code .result * (c .before .before .before .before .loop .w / 38) + c .before .before .before .before .loop .w / 38 ≤ 38 ^ 12
 roomy c =
+    let c₃ = c .before .before .before in
+    let c₄ = c₃ .before in
     let k = c .before .code in
-    let l = c .before .before .before .before in
-    fits (l .loop .inv) (k .result) (c .before .before .before .loop-test .taken) (k .ensures)
+    let l = c₄ in
+    fits (l .loop .inv) (k .result) (c₃ .loop-test .taken) (k .ensures)
 
 mul-n : tie.Need-mul-n Inv-loop μ-loop
 mul-n c = omega (arith, roomy c)

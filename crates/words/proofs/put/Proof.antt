@@ -7,7 +7,11 @@ use Rattle.words.proofs.put.Statement.{statement}
 use Rattle.words.proofs.put.Tie as tie
 
 returns : tie.Need-returns
-returns c = rw (← (writes-word _ _ (sym (c .before .before .before .before .before .holds .ensures) ∙ c .before .before .before .before .if1 .taken))) (c .before .before .put .ensures)
+returns c =
+    let c₂ = c .before .before in
+    let c₄ = c₂ .before .before in
+    let c₅ = c₄ .before in
+    rw (← (writes-word _ _ (sym (c₅ .holds .ensures) ∙ c₄ .if1 .taken))) (c₂ .put .ensures)
 
 returns-2 : tie.Need-returns-2
 returns-2 c = no-text _ _ _ (sym (c .before .holds .ensures) ∙ c .if1 .left)

@@ -1,6 +1,6 @@
 -- `words::put_pair` meets its contract. Assumes nothing.
 use mathlib.Core.Path.{sym, _∙_}
-use borrow.Author.Tests.{not-true, not-false}
+use Rattle.text.proofs.Logic.{so, not-so}
 use Rattle.text.proofs.Laws.{no-text}
 use Rattle.words.specs.Pair.{isPairText}
 use Rattle.words.proofs.Pairs.{pair-writes, pair-too-long}
@@ -10,15 +10,24 @@ use Rattle.words.proofs.put_pair.Tie as tie
 
 returns : tie.Need-returns
 unfolding isPairText
-returns c = no-text _ _ _ (rw (sym (c .before .holds-pair .ensures) ∙ not-true _ (c .if1 .taken)))
+returns c = no-text _ _ _ (rw (not-so (c .before .holds-pair .ensures) (c .if1 .taken)))
 
 returns-2 : tie.Need-returns-2
 returns-2 c =
-    let w = pair-writes _ _ _ _ (sym (c .before .before .before .before .before .before .before .before .before .holds-pair .ensures) ∙ not-false _ (c .before .before .before .before .before .before .before .before .if1 .left)) (sym (c .before .before .before .before .before .before .before .pair-word .ensures) ∙ c .before .before .before .before .before .word .given .1) in
-    rw (← (w .0), ← (w .1)) (c .before .before .put .ensures)
+    let c₂ = c .before .before in
+    let c₅ = c₂ .before .before .before in
+    let c₇ = c₅ .before .before in
+    let c₈ = c₇ .before in
+    let c₉ = c₈ .before in
+    let w = pair-writes _ _ _ _ (so (c₉ .holds-pair .ensures) (c₈ .if1 .left)) (sym (c₇ .pair-word .ensures) ∙ c₅ .word .given .1) in
+    rw (← (w .0), ← (w .1)) (c₂ .put .ensures)
 
 returns-3 : tie.Need-returns-3
-returns-3 c = no-text _ _ _ (pair-too-long _ _ _ _ (sym (c .before .before .before .before .holds-pair .ensures) ∙ not-false _ (c .before .before .before .if1 .left)) (sym (c .before .before .pair-word .ensures) ∙ c .enum-told .given .1))
+returns-3 c =
+    let c₂ = c .before .before in
+    let c₃ = c₂ .before in
+    let c₄ = c₃ .before in
+    no-text _ _ _ (pair-too-long _ _ _ _ (so (c₄ .holds-pair .ensures) (c₃ .if1 .left)) (sym (c₂ .pair-word .ensures) ∙ c .enum-told .given .1))
 
 pub put-pair-spec : {M : Type 1} → statement M
 put-pair-spec =
