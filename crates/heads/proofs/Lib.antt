@@ -1,3 +1,4 @@
 pub mod Facilities
 pub mod Messages
+pub mod Answers
 pub mod Unique

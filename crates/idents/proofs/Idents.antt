@@ -96,6 +96,10 @@ tz-sound s i e = go (isTzIdent s) refl
     go true q = (q, rw (q, or-true) (rw q at e))
     go false q = let z : Nothing ≡ Read i = rw q at e in ((cc), (cc))
 
+-- and the text of every ident with a number reads as it
+pub tz-complete : (i : Ident) → isIdentValue i ≡ true → eqb (i .number .0) 0 ≡ false → tzIdentOf (identText i) ≡ Read i
+tz-complete i e q = sym (tz-as (identText i)) ∙ ap asTz (pair-complete KEY NUMBER key-slashless (i .key .0) (i .number .0) e) ∙ rw q
+
 -- ---- writing
 
 pub ident-writes : (a b : ℕ) → isPairText KEY NUMBER a b ≡ isPair KEY NUMBER a b

@@ -3,8 +3,10 @@ use mathlib.Core.Path.{_≡_, refl}
 use mathlib.Core.Bool.{Bool, true, false, cond}
 use mathlib.Core.List.{List}
 use Prim.Native.Nat.{ℕ}
+use lib.Dec.{eqb}
 use Rattle.text.specs.Text.{hasRoom, writtenNext}
-use Rattle.forms.specs.Kind.{isForm}
+use Rattle.forms.specs.Form.{isSequence, isStamp}
+use Rattle.forms.specs.Kind.{SEQUENCE, STAMP, isForm}
 use Rattle.words.specs.Word.{wordOf}
 use Rattle.words.specs.Pair.{isPairForm, pairOf}
 use Rattle.words.specs.Answer.{refusal, readAnswer, pairAnswer, writeAnswer}
@@ -16,6 +18,19 @@ read-answer k s = go (isForm k s) refl
     go : (b : Bool) → isForm k s ≡ b → readAnswer k (wordOf k s) ≡ cond (isForm k s) 0 (refusal k)
     go true q = rw q
     go false q = rw q
+
+-- with the numbers of document 01 themselves
+pub sequence-answer : (s : List ℕ) → readAnswer SEQUENCE (wordOf SEQUENCE s) ≡ cond (isSequence s) 0 4
+unfolding refusal isForm
+sequence-answer s = read-answer SEQUENCE s
+
+pub stamp-answer : (s : List ℕ) → readAnswer STAMP (wordOf STAMP s) ≡ cond (isStamp s) 0 5
+unfolding refusal isForm
+stamp-answer s = read-answer STAMP s
+
+pub field-answer : (k : ℕ) (s : List ℕ) → eqb k SEQUENCE ≡ false → eqb k STAMP ≡ false → readAnswer k (wordOf k s) ≡ cond (isForm k s) 0 9
+unfolding refusal
+field-answer k s p q = rw (p, q) at (read-answer k s)
 
 pub pair-answer : (k l : ℕ) (s : List ℕ) → pairAnswer (pairOf k l s) ≡ cond (isPairForm k l s) 0 9
 unfolding pairOf
