@@ -1,14 +1,12 @@
 -- Each answer number of an ident and of an aircraft is given exactly in its case. Assumes nothing.
-use mathlib.Core.Path.{_≡_, refl, sym, ap, _∙_}
+use mathlib.Core.Path.{_≡_, refl}
 use mathlib.Core.Bool.{Bool, true, false, cond}
 use mathlib.Core.List.{List}
 use Prim.Native.Nat.{ℕ}
-use native.Mathlib.Omega.{arith}
 use Rattle.forms.specs.Form.{isIdent, isTzIdent}
 use Rattle.idents.specs.Ident.{identFrom, identOf, tzIdentOf, identAnswer}
 use Rattle.idents.specs.declared.ident.IdentRead.the-variants as ident
-use Rattle.idents.specs.Aircraft.{Reading, aircraftOf, aircraftAnswer}
-use Rattle.idents.specs.declared.aircraft.Aircraft.{Aircraft}
+use Rattle.idents.specs.Aircraft.{Case, One, None, Different, aircraftOf, aircraftAnswer}
 use Rattle.idents.specs.declared.aircraft.AircraftRead.{AircraftRead}
 use Rattle.idents.specs.declared.aircraft.AircraftRead.the-variants.{Read, Nothing, Two}
 use Rattle.idents.proofs.Readings.{aircraft-one, aircraft-none, aircraft-two}
@@ -25,12 +23,7 @@ pub tz-answer : (s : List ℕ) → identAnswer (tzIdentOf s) ≡ cond (isTzIdent
 unfolding tzIdentOf
 tz-answer s = chosen (isTzIdent s) s
 
--- 0 where an aircraft has one reading, 9 where it has none, 18 where it has two different ones, and no other
-pub data Case (s : List ℕ) : ℕ → Type 0 where
-  One : (a : Aircraft) → Reading s a → ((b : Aircraft) → Reading s b → b ≡ a) → Case s 0
-  None : ((a : Aircraft) → Reading s a → ⊥) → Case s 9
-  Different : (a b : Aircraft) → Reading s a → Reading s b → (a ≡ b → ⊥) → Case s 18
-
+-- the number tells how many readings there are
 pub aircraft-answer : (s : List ℕ) → Case s (aircraftAnswer (aircraftOf s))
 aircraft-answer s = go (aircraftOf s) refl
   where

@@ -33,6 +33,12 @@ pub record Reading (s : List ℕ) (a : Aircraft) : Type 0 where
   pub value : isAircraftValue a ≡ true
   pub text : aircraftText a ≡ s
 
+-- the cases of document 01's answer numbers: 0 where an aircraft has one reading, 9 where it has none, 18 where it has two different ones, and no other
+pub data Case (s : List ℕ) : ℕ → Type 0 where
+  One : (a : Aircraft) → Reading s a → ((b : Aircraft) → Reading s b → b ≡ a) → Case s 0
+  None : ((a : Aircraft) → Reading s a → ⊥) → Case s 9
+  Different : (a b : Aircraft) → Reading s a → Reading s b → (a ≡ b → ⊥) → Case s 18
+
 -- ---- what the reader answers: the readings without and with a prefix, and whether both are there
 
 abbrev pub withPrefix : ℕ → Pair → AircraftRead

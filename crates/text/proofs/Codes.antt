@@ -5,36 +5,36 @@ use mathlib.Core.List.{List, [], _∷_, _++_, map}
 use Prim.Native.Nat.{ℕ, _≤_, _<_}
 use native.Mathlib.Omega.{arith}
 use lib.Dec.{leb, eqb, lit≤}
-use borrow.Author.Tests.{le-ltb, le-leb, lt-leb, ne-eqb, leb-true, leb-false, eqb-true}
+use borrow.Author.Tests.{le-leb, lt-leb, ne-eqb, leb-true, leb-false, eqb-true}
 use Rattle.text.specs.Class.{all, isDigit, isLetter, isAlnum, isTextByte}
 use Rattle.text.specs.Code.{codeOf, byteOf}
-use Rattle.text.specs.Place.{allIn}
+use Rattle.text.specs.Place.{inRange, allIn}
 use Rattle.text.specs.Number.{isDigitTo}
 use Rattle.text.proofs.Logic.{and-left, and-right, or-second, beq-eq, below, below-at}
 
 pub code-high : (b : ℕ) → 90 < b → codeOf b ≡ 0
-unfolding codeOf
-code-high b h = simp (le-ltb b 48 (omega arith), lt-leb b 57 (omega arith), le-ltb b 65 (omega arith), lt-leb b 90 (omega arith))
+unfolding codeOf isDigit isLetter
+code-high b h = simp (le-leb 48 b (omega arith), lt-leb b 57 (omega arith), le-leb 65 b (omega arith), lt-leb b 90 (omega arith), ne-eqb b 47 (λ e. omega arith))
 
 back : ℕ → Bool
 back b = eqb (codeOf b) 0 || eqb (byteOf (codeOf b)) b
 
 back-all : below back 91 ≡ true
-unfolding back codeOf byteOf
+unfolding back codeOf byteOf isDigit isLetter
 back-all = refl
 
 small : ℕ → Bool
 small b = leb (codeOf b) 37
 
 small-all : below small 91 ≡ true
-unfolding small codeOf
+unfolding small codeOf isDigit isLetter
 small-all = refl
 
 forth : ℕ → Bool
 forth d = eqb d 0 || eqb (codeOf (byteOf d)) d
 
 forth-all : below forth 38 ≡ true
-unfolding forth codeOf byteOf
+unfolding forth codeOf byteOf isDigit isLetter
 forth-all = refl
 
 pub code-le : (b : ℕ) → codeOf b ≤ 37
@@ -65,9 +65,6 @@ code-byte d h k =
 
 -- ---- a class of bytes is a range of codes
 
-abbrev pub inRange : ℕ → ℕ → ℕ → Bool
-inRange lo hi d = leb lo d && leb d hi
-
 -- a class of two lists is a class of both with a byte of it between them
 pub all-between : (f : ℕ → Bool) (x : List ℕ) (b : ℕ) (y : List ℕ) → f b ≡ true → all f x ≡ true → all f y ≡ true → all f (x ++ b ∷ y) ≡ true
 unfolding all
@@ -87,10 +84,6 @@ by-test f lo hi pos low high b = go (leb b 90) refl
     go : (t : Bool) → leb b 90 ≡ t → f b ≡ inRange lo hi (codeOf b)
     go true q = beq-eq (f b) (inRange lo hi (codeOf b)) (below-at (λ b. Bool·beq (f b) (inRange lo hi (codeOf b))) 91 low b (omega (arith, leb-true b 90 q)))
     go false q = high b (leb-false b 90 q) ∙ rw (code-high b (leb-false b 90 q), lt-leb lo 0 pos)
-
-pub digit-is : (b : ℕ) → isDigit b ≡ inRange 1 10 (codeOf b)
-unfolding isDigit codeOf
-digit-is = by-test isDigit 1 10 (lit≤ tt) refl (λ b h. rw (lt-leb b 57 (omega arith), le-leb 48 b (omega arith)))
 
 pub alnum-is : (b : ℕ) → isAlnum b ≡ inRange 1 36 (codeOf b)
 unfolding isAlnum isDigit isLetter codeOf

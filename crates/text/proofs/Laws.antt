@@ -11,8 +11,7 @@ use borrow.Author.Tests.{lt-ltb, le-leb, lt-leb, leb-true, leb-false, ltb-true}
 use Rattle.text.specs.Class.{all, isTextByte}
 use Rattle.text.specs.Code.{codeOf, byteOf}
 use Rattle.text.specs.Place.{value, digits, tight, allIn}
-use Rattle.text.specs.Text.{packed, textOf, isText, isPacked, packOf, sizeOf, hasRoom, spliced, writtenNext, writtenBytes}
-use Rattle.text.specs.declared.Packed.the-variants.{Text, Nothing}
+use Rattle.text.specs.Text.{packed, textOf, isText, isPacked, sizeOf, hasRoom, spliced, writtenNext, writtenBytes}
 use Rattle.text.specs.declared.Sized.the-variants.{Bytes, NotOne}
 use Rattle.text.specs.declared.Written.the-variants.{Next, NoRoom, NoText}
 use Rattle.text.proofs.Logic.{and-left, and-right}
@@ -79,23 +78,7 @@ text-is n e =
 pub packed-one : (s t : List ℕ) → isText s ≡ true → isText t ≡ true → packed s ≡ packed t → s ≡ t
 packed-one s t p q e = sym (text-packed s p) ∙ ap textOf e ∙ text-packed t q
 
--- ---- what `pack` and `size` find
-
-pub pack-known : (s : List ℕ) {t : ℕ} → packOf s ≡ Text t → (isText s ≡ true) × (t ≡ packed s)
-unfolding packOf
-pack-known s {t} e = go (isText s) refl
-  where
-    go : (b : Bool) → isText s ≡ b → (isText s ≡ true) × (t ≡ packed s)
-    go true q = (q, (cc))
-    go false q = ((cc), (cc))
-
-pub pack-none : (s : List ℕ) → packOf s ≡ Nothing → isText s ≡ false
-unfolding packOf
-pack-none s e = go (isText s) refl
-  where
-    go : (b : Bool) → isText s ≡ b → isText s ≡ false
-    go true q = cc
-    go false q = q
+-- ---- what `size` finds
 
 pub size-known : (t : ℕ) {n : ℕ} → sizeOf t ≡ Bytes n → (isPacked t ≡ true) × (n ≡ length (textOf t))
 unfolding sizeOf

@@ -16,7 +16,7 @@ use Rattle.text.proofs.Places.{allIn-cons, allIn-more, value-lt, places
 
 -- codes from 1 to B are digits from 0 to B - 1
 digits-low : (hi : ℕ) (s : List ℕ) → allIn 1 (suc hi) (map codeOf s) ≡ true → allIn 0 hi (map digitOf s) ≡ true
-unfolding digitOf allIn
+unfolding digitOf allIn all
 digits-low hi [] e = refl
 digits-low hi (b ∷ s) e =
     let p = allIn-cons 1 (suc hi) (codeOf b) (map codeOf s) e in
@@ -40,7 +40,7 @@ module _ (hi : ℕ) (few : suc hi ≤ 36) where
       rw (z, forth ds (p .2))
 
   are-digits : (ds : List ℕ) → allIn 0 hi ds ≡ true → allIn 1 (suc hi) (map codeOf (map (λ d. byteOf (suc d)) ds)) ≡ true
-  unfolding allIn
+  unfolding allIn all
   are-digits [] e = refl
   are-digits (d ∷ ds) e =
       let p = allIn-cons 0 hi d ds e in

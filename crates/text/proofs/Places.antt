@@ -9,11 +9,12 @@ use lib.Arith.{digits-lt, digits-div, digits-mod}
 use lib.Dec.{leb, eqb}
 use lib.ListN.{length}
 use borrow.Author.Tests.{le-leb, ne-eqb, leb-true, eqb-true}
+use Rattle.text.specs.Class.{all}
 use Rattle.text.specs.Place.{value, places, digits, tight, allIn}
 use Rattle.text.proofs.Logic.{and-left, and-right}
 
 pub allIn-cons : (lo hi d : ℕ) (ds : List ℕ) → allIn lo hi (d ∷ ds) ≡ true → (lo ≤ d) × (d ≤ hi) × (allIn lo hi ds ≡ true)
-unfolding allIn
+unfolding allIn all
 allIn-cons lo hi d ds e =
     let p : (leb lo d && leb d hi) ≡ true = and-left (leb lo d && leb d hi) (allIn lo hi ds) e in (
       leb-true lo d (and-left (leb lo d) (leb d hi) p),
@@ -22,12 +23,12 @@ allIn-cons lo hi d ds e =
     )
 
 pub allIn-more : (lo hi d : ℕ) (ds : List ℕ) → lo ≤ d → d ≤ hi → allIn lo hi (d ∷ ds) ≡ allIn lo hi ds
-unfolding allIn
+unfolding allIn all
 allIn-more lo hi d ds h k = simp (le-leb lo d h, le-leb d hi k)
 
 -- a wider class holds the narrower
 pub allIn-wider : (lo hi lo′ hi′ : ℕ) → lo′ ≤ lo → hi ≤ hi′ → (ds : List ℕ) → allIn lo hi ds ≡ true → allIn lo′ hi′ ds ≡ true
-unfolding allIn
+unfolding allIn all
 allIn-wider lo hi lo′ hi′ h k [] e = refl
 allIn-wider lo hi lo′ hi′ h k (d ∷ ds) e =
     let p = allIn-cons lo hi d ds e in
@@ -106,7 +107,7 @@ module _ (B hi : ℕ) (hB : hi < B) where
       go false q r = rw (q, r) (div-add-mod' n (B ^ w))
 
   pub digits-in : (w n : ℕ) → B ≤ suc hi → n < B ^ w → tight B w n ≡ true → allIn 1 hi (digits B w n) ≡ true
-  unfolding digits allIn tight
+  unfolding digits allIn all tight
   digits-in zero n k h e = refl
   digits-in (suc w) n k h e = go (eqb n 0) refl (digits-in w (n % B ^ w) k (mod-lt n (pow-pos w)))
     where
@@ -152,7 +153,7 @@ module _ (B hi : ℕ) (hB : hi < B) where
   value-places (suc w) n h = rw (value-places w (n % B ^ w) (mod-lt n (pow-pos B hi hB w))) (div-add-mod' n (B ^ w))
 
   pub places-in : (w n : ℕ) → B ≤ suc hi → n < B ^ w → allIn 0 hi (places B w n) ≡ true
-  unfolding places allIn
+  unfolding places allIn all
   places-in zero n k h = refl
   places-in (suc w) n k h =
       let d : n / B ^ w < B = div-lt-iff-lt-mul (pow-pos B hi hB w) .1 (rw (← pow-succ') h) in

@@ -1,5 +1,5 @@
-// A field of a kind that is held as its text: read from bytes as a word, tested, and written back. Every such field goes
-// through these three functions; `fields` gives each kind a type of its own.
+// A field of a kind that is held as its text: read from bytes as a word, tested, and written back; and two such words in
+// one field. `fields` gives each kind a type of its own.
 use text::Packed;
 use text::Written;
 ghost use mathlib.Core.Path.{_≡_};

@@ -9,6 +9,7 @@ use native.Mathlib.Omega.{arith}
 use lib.ListN.{length, getD, drop, drop-of-length-le}
 use borrow.Author.Tests.{le-leb, lt-leb}
 use Rattle.text.specs.Code.{codeOf}
+use Rattle.text.specs.Class.{all}
 use Rattle.text.specs.Place.{value, allIn}
 use Rattle.text.specs.Text.{packed, isText, packOf}
 use Rattle.text.specs.declared.Packed.the-variants.{Text, Nothing}
@@ -29,7 +30,7 @@ record Inv (s : List ℕ) (n w i : ℕ) : Type 0 where
 -- what the loop does, said of plain numbers and lists; c is the code of the byte at i
 module _ {s : List ℕ} {n w i : ℕ} (v : Inv s n w i) where
   done : length s ≤ i → Text n ≡ packOf s
-  unfolding packOf isText packed value allIn
+  unfolding packOf isText packed value allIn all
   done left =
       let e : drop i s ≡ [] = drop-of-length-le s left in
       let all : allIn 1 37 (map codeOf s) ≡ true = sym (v .rest) ∙ rw e in
@@ -57,7 +58,7 @@ module _ {s : List ℕ} {n w i : ℕ} (v : Inv s n w i) where
     }
 
     bad : c ≡ 0 → Nothing ≡ packOf s
-    unfolding packOf isText allIn
+    unfolding packOf isText allIn all
     bad none =
         let all : allIn 1 37 (map codeOf s) ≡ false = sym (v .rest) ∙ rw (codes, lt-leb 1 c (omega arith)) in
         rw (le-leb (length s) 12 (v .short), text-all, all)
