@@ -6,6 +6,7 @@ use Rattle.text.proofs.code.Reads as code
 use Rattle.text.proofs.pack.Reads as pack
 use Rattle.text.proofs.size.Reads as size
 use Rattle.text.proofs.put.Reads as put
+use Rattle.text.proofs.put_bytes.Reads as put-bytes
 use Rattle.text.proofs.join.Reads as join
 use Rattle.text.proofs.number.Reads as number
 
@@ -20,6 +21,9 @@ size-one κs a r r′ s s′ p q = p ∙ sym q
 
 pub put-one : (κs : _) (a : _) (r r′ : _) (s s′ : _) → put.Post κs a r s → put.Post κs a r′ s′ → (r ≡ r′) × (now (s .1 .0) ≡ now (s′ .1 .0))
 put-one κs a r r′ s s′ p q = (p .0 ∙ sym (q .0), p .1 ∙ sym (q .1))
+
+pub put-bytes-one : (κs : _) (a : _) (r r′ : _) (s s′ : _) → put-bytes.Post κs a r s → put-bytes.Post κs a r′ s′ → (r ≡ r′) × (now (s .1 .0) ≡ now (s′ .1 .0))
+put-bytes-one κs a r r′ s s′ p q = (p .0 ∙ sym (q .0), p .1 ∙ sym (q .1))
 
 pub join-one : (κs : _) (a : _) (r r′ : _) (s s′ : _) → join.Post κs a r s → join.Post κs a r′ s′ → r ≡ r′
 join-one κs a r r′ s s′ p q = p ∙ sym q

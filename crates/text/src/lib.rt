@@ -152,6 +152,25 @@ pub fn put(t: u64, out: &mut [u8], at: usize) -> Written
     }
 }
 
+// Writes the bytes s from place `at`, and leaves every other byte as it is; where there is no room it writes nothing.
+pub fn put_bytes(s: &[u8], out: &mut [u8], at: usize) -> Written
+    ensures { λ r. ⌜ r ≡ writtenNext true (now (s .entry)) (now (out .entry)) at ⌝ }
+    ensures { λ _. ⌜ now (out .exit) ≡ writtenBytes true (now (s .entry)) (now (out .entry)) at ⌝ }
+{
+    if at > out.len() {
+        return Written::NoRoom;
+    }
+    if s.len() > out.len() - at {
+        return Written::NoRoom;
+    }
+    let mut i = 0;
+    while i < s.len() {
+        out[at + i] = s[i];
+        i += 1;
+    }
+    Written::Next(at + i)
+}
+
 // The number of the text of a, a slash and the text of b, where these are texts and 12 bytes hold them.
 pub fn join(a: u64, b: u64) -> Packed
     ensures { λ r. ⌜ r ≡ joinOf a b ⌝ }

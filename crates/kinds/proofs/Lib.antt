@@ -1,0 +1,5 @@
+pub mod Ways
+pub mod Unique
+pub mod Marks
+pub mod Laws
+pub mod UniquePut

@@ -1,0 +1,135 @@
+// One field of document 01's table, of any kind: what an amendment's number asks for, and what one field leaves for the
+// next. `read` reads a field, `put` writes it.
+use forms::is_position;
+use shapes::fits;
+ghost use mathlib.Core.Path.{_≡_};
+ghost use Rattle.kinds.specs.Field.{markOf, contentOf, plain as plainly, leftOf, marksOf, follows as following};
+
+pub mod put;
+pub mod read;
+
+// The kinds that are no single text; the others are those of `forms`.
+pub const IDENT: u8 = b'I';
+
+pub const TZ_IDENT: u8 = b'J';
+
+pub const AIRCRAFT: u8 = b'Z';
+
+pub const ROUTE: u8 = b'R';
+
+// The time of FZ and UZ, which the E rule ties to the fix before it.
+pub const PLAN_TIME: u8 = b'H';
+
+// What the amendment's number before it asks for.
+pub const CONTENT: u8 = b'W';
+
+// What is kept of a field: its word; an ident's key and number; an aircraft's prefix, type and letter; of a route nothing.
+// Parts that a field has not are 0.
+pub struct Value {
+    pub a: u64,
+    pub b: u64,
+    pub c: u64,
+}
+
+// The mark of an amendment's number, one of eight bits, or 0 for what is none of the eight.
+pub fn mark(s: &[u8]) -> u8
+    ensures { λ r. ⌜ r ≡ markOf (now (s .entry)) ⌝ }
+{
+    if fits(b"02", s) {
+        return 1;
+    }
+    if fits(b"03", s) {
+        return 2;
+    }
+    if fits(b"05", s) {
+        return 4;
+    }
+    if fits(b"06", s) {
+        return 8;
+    }
+    if fits(b"07", s) {
+        return 16;
+    }
+    if fits(b"08", s) {
+        return 32;
+    }
+    if fits(b"09", s) {
+        return 64;
+    }
+    if fits(b"10", s) {
+        return 128;
+    }
+    0
+}
+
+// The kind of content that the number with this mark asks for.
+pub fn content(mark: u8) -> u8
+    ensures { λ r. ⌜ r ≡ contentOf mark ⌝ }
+{
+    match mark {
+        1 => IDENT,
+        2 => AIRCRAFT,
+        4 => forms::FILED_SPEED,
+        8 => forms::FIX,
+        16 => forms::TIME,
+        32 => forms::LEVEL,
+        64 => forms::LEVEL,
+        128 => ROUTE,
+        _ => 0,
+    }
+}
+
+// The kind by which a field is read, after what the field before it left.
+pub fn plain(kind: u8, left: u8) -> u8
+    ensures { λ r. ⌜ r ≡ plainly kind left ⌝ }
+{
+    match kind {
+        CONTENT => content(left),
+        PLAN_TIME => forms::TIME,
+        _ => kind,
+    }
+}
+
+// What a field leaves for the next one: a number its mark, a fix whether it is a position.
+pub fn left(kind: u8, s: &[u8]) -> u8
+    ensures { λ r. ⌜ r ≡ leftOf kind (now (s .entry)) ⌝ }
+{
+    if kind == forms::AMENDMENT {
+        return mark(s);
+    }
+    if kind == forms::FIX {
+        if is_position(s) {
+            return 1;
+        }
+    }
+    0
+}
+
+// The marks set after a field.
+pub fn marks_after(kind: u8, marks: u8, s: &[u8]) -> u8
+    ensures { λ r. ⌜ r ≡ marksOf kind marks (now (s .entry)) ⌝ }
+{
+    if kind == forms::AMENDMENT {
+        return marks | mark(s);
+    }
+    marks
+}
+
+// Whether a field may follow: no number comes twice, and a time with E follows a fix that is a position.
+pub fn follows(kind: u8, left: u8, marks: u8, s: &[u8]) -> bool
+    ensures { λ r. ⌜ r ≡ following kind left marks (now (s .entry)) ⌝ }
+{
+    if kind == forms::AMENDMENT {
+        return marks & mark(s) == 0;
+    }
+    if kind != PLAN_TIME {
+        return true;
+    }
+    if s.len() == 0 {
+        return true;
+    }
+    if s[0] != b'E' {
+        return true;
+    }
+    left == 1
+}

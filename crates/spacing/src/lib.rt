@@ -1,0 +1,47 @@
+// The body of a message with fields: each field after one space, none empty, at the end at most one space more.
+use shapes::find;
+ghost use mathlib.Core.Path.{_≡_};
+ghost use Rattle.spacing.specs.Body.{countOf, endOf};
+
+// How many fields, and whether a space stands at the end.
+pub enum Counted {
+    Fields(usize, bool),
+    Wrong,
+}
+
+// The index of the first space from j on, or the body's length; j where that is past the end.
+pub fn field_end(body: &[u8], j: usize) -> usize
+    ensures { λ r. ⌜ r ≡ endOf (now (body .entry)) j ⌝ }
+{
+    if j > body.len() {
+        return j;
+    }
+    let m = find(b' ', &body[j..]);
+    j + m
+}
+
+pub fn count(body: &[u8]) -> Counted
+    ensures { λ r. ⌜ r ≡ countOf (now (body .entry)) ⌝ }
+{
+    if body.len() == 0 {
+        return Counted::Fields(0, false);
+    }
+    if body[0] != b' ' {
+        return Counted::Wrong;
+    }
+    let mut at: usize = 0;
+    let mut n: usize = 0;
+    while at < body.len() {
+        let j = at + 1;
+        if j == body.len() {
+            return Counted::Fields(n, true);
+        }
+        let e = field_end(body, j);
+        if e == j {
+            return Counted::Wrong;
+        }
+        n += 1;
+        at = e;
+    }
+    Counted::Fields(n, false)
+}

@@ -1,0 +1,113 @@
+-- `text::put_bytes` meets its contract. The invariant: what is left, written from the place that is reached, makes what all of
+-- s makes. Assumes nothing.
+use mathlib.Core.Path.{_≡_, refl, ap, _∙_}
+use mathlib.Core.List.{List, [], _∷_}
+use Prim.Native.Nat.{ℕ, suc, _+_, _-_, _≤_, _<_}
+use native.Mathlib.Nat.{add-zero}
+use native.Mathlib.Numerals.{add-one}
+use native.Mathlib.Omega.{arith}
+use lib.ListN.{length, drop, getD, set, length-set, drop-of-length-le}
+use lib.Seq.{sets, sets-eq, drop-cons}
+use denote.Ref.{now}
+use Rattle.text.specs.Text.{spliced}
+use Rattle.text.specs.declared.Written.the-variants.{Next}
+use Rattle.text.proofs.Laws.{no-room, has-room}
+use Rattle.text.proofs.put_bytes.Statement.{statement}
+use Rattle.text.proofs.put_bytes.Tie as tie
+
+record Inv (s : List ℕ) (at : ℕ) (out₀ out : List ℕ) (i : ℕ) : Type 0 where
+  inside : i ≤ length s
+  room : at + length s ≤ length out₀
+  same : length out ≡ length out₀
+  rest : sets out (at + i) (drop i s) ≡ sets out₀ at s
+
+module _ {s : List ℕ} {at : ℕ} {out₀ out : List ℕ} {i : ℕ} (v : Inv s at out₀ out i) where
+  module _ (none : length s ≤ i) where
+    all : i ≡ length s
+    all = omega (arith, v .inside)
+
+    whole : out ≡ spliced out₀ at s
+    unfolding spliced
+    whole =
+        let e : out ≡ sets out₀ at s = rw (drop-of-length-le s none) at (v .rest) in
+        e ∙ sets-eq s out₀ at (v .room)
+
+  again : i < length s → Inv s at out₀ (set out (at + i) (getD s i 0)) (i + 1)
+  again more =
+      let turn : drop i s ≡ getD s i 0 ∷ drop (i + 1) s = rw (add-one, drop-cons s i 0) in
+      let next : at + (i + 1) ≡ suc (at + i) = omega arith in record {
+        inside = omega arith;
+        room = v .room;
+        same = length-set out (at + i) (getD s i 0) ∙ v .same;
+        rest = rw next (rw turn at (v .rest));
+      }
+
+abbrev Inv-loop : tie.InvT-loop
+Inv-loop s out₀ at i₀ out i = Inv s at out₀ out i
+
+abbrev μ-loop : tie.MeasureT-loop
+μ-loop s out₀ at i₀ out i = length s - i
+
+returns : tie.Need-returns Inv-loop μ-loop
+returns c = let a = c .before .args in no-room (now (a .s)) (now (a .out)) (a .at) refl (omega arith)
+
+sub-if2 : tie.Need-sub-if2 Inv-loop μ-loop
+sub-if2 c = omega arith
+
+returns-2 : tie.Need-returns-2 Inv-loop μ-loop
+returns-2 c = let a = c .before .before .args in no-room (now (a .s)) (now (a .out)) (a .at) refl (omega arith)
+
+loop-holds : tie.Need-loop-holds Inv-loop μ-loop
+loop-holds c = record { inside = omega arith; room = omega arith; same = refl; rest = rw add-zero }
+
+shared-slice-read-out : tie.Need-shared-slice-read-out Inv-loop μ-loop
+shared-slice-read-out c = omega arith
+
+add-out : tie.Need-add-out Inv-loop μ-loop
+add-out c = omega arith
+
+slice-write-out : tie.Need-slice-write-out Inv-loop μ-loop
+slice-write-out c = omega arith
+
+add-i : tie.Need-add-i Inv-loop μ-loop
+add-i c = omega arith
+
+loop-less : tie.Need-loop-less Inv-loop μ-loop
+loop-less c = omega arith
+
+loop-again : tie.Need-loop-again Inv-loop μ-loop
+loop-again c = again (c .before .before .loop .inv) (c .before .loop-test .taken)
+
+add-t5 : tie.Need-add-t5 Inv-loop μ-loop
+add-t5 c = omega arith
+
+same-length : tie.Need-same-length Inv-loop μ-loop
+same-length c = c .before .loop .inv .same
+
+returns-3 : tie.Need-returns-3 Inv-loop μ-loop
+returns-3 c =
+    let a = c .before .before .before .before .args in
+    let v = c .before .loop .inv in
+    let z = c .loop-test .left in
+    let r = has-room (now (a .s)) (now (a .out)) (a .at) refl (v .room) in
+    (ap (λ (n : ℕ). Next (a .at + n)) (all v z) ∙ r .0, whole v z ∙ r .1)
+
+pub put-bytes-spec : {M : Type 1} → statement M
+put-bytes-spec =
+    tie.close
+    (tie.spec
+    Inv-loop
+    μ-loop
+    returns
+    sub-if2
+    returns-2
+    loop-holds
+    shared-slice-read-out
+    add-out
+    slice-write-out
+    add-i
+    loop-less
+    loop-again
+    add-t5
+    same-length
+    returns-3)
