@@ -1,0 +1,5 @@
+pub mod Ways
+pub mod Bodies
+pub mod Unique
+pub mod Tables
+pub mod Theorems

@@ -1,0 +1,316 @@
+-- THE THEOREMS of bodies by their types: what reads is a body that a line can have, and its text is what was read; the text of
+-- every such body reads as it. Assumes nothing.
+use mathlib.Core.Path.{_≡_, refl, sym, ap, _∙_, subst}
+use mathlib.Core.Bool.{Bool, true, false, cond, not, _&&_, _||_}
+use mathlib.Core.List.{List, [], _∷_}
+use Prim.Native.Nat.{ℕ, suc, _+_, _≤_}
+use native.Mathlib.Omega.{arith}
+use lib.Dec.{eqb}
+use lib.ListN.{length, take}
+use borrow.Author.Tests.{eq-eqb, eqb-true}
+use Rattle.text.specs.Place.{allIn}
+use Rattle.text.proofs.Logic.{and-left, and-right, true-false}
+use Rattle.forms.specs.Kind.{AMENDMENT}
+use Rattle.heads.specs.declared.MessageType.{MessageType}
+use Rattle.heads.specs.declared.MessageType.the-variants as type
+use Rattle.spacing.specs.Body.{Fields, bodyOf, fieldsOf, fieldsIn}
+use Rattle.kinds.specs.Field.{ROUTE, plain, leftOf, marksOf}
+use Rattle.kinds.specs.declared.Value.{Value}
+use Rattle.table.specs.Read.{padded, answerOf, valuesOf, routeIn, routeOf}
+use Rattle.table.specs.Show.{textsFrom, allowedFrom, marksFrom, routed}
+use Rattle.table.specs.declared.Answer.{Answer}
+use Rattle.table.specs.declared.Answer.the-variants as answer
+use Rattle.table.proofs.Marks.{times}
+use Rattle.table.proofs.Theorems.{Sound, sound, complete, allowed-taken, body-printable}
+use Rattle.table.proofs.Routes.{Back, route-back, written-back}
+use Rattle.table.proofs.Amends.{marks-count}
+use Rattle.messages.specs.Table.{tableOf, isCount, kindsOf, countIn, answerBy, valuesBy, routeBy, freeIn}
+use Rattle.messages.specs.Body.{typeIn, marksIn, fieldCount, valuesIn, spare, bodyFrom, typedOf, bodyRead}
+use Rattle.messages.specs.Allowed.{isWhole, hasRoute, kindsIn, bodyText, allNone, isFielded, isBody}
+use Rattle.messages.specs.declared.Body.{Body}
+use Rattle.messages.specs.declared.Body.the-variants as body
+use Rattle.messages.specs.declared.from.BodyRead.{BodyRead}
+use Rattle.messages.specs.declared.from.BodyRead.the-variants as read
+use Rattle.messages.proofs.Bodies.{kinds-length, type-from, body-back, values-back}
+use Rattle.messages.proofs.Tables.{table-few, table-one, count-from, marks-kept, has-route}
+
+-- kinds after the last field find no route
+route-take : (ks : List ℕ) (p : ℕ) (fs : List (List ℕ)) → routeIn (take (length fs) ks) p fs ≡ routeIn ks p fs
+unfolding routeIn
+route-take [] p [] = refl
+route-take [] p (f ∷ fs) = refl
+route-take (k ∷ ks) p [] = refl
+route-take (k ∷ ks) p (f ∷ fs) = rw (route-take ks (leftOf k f) fs)
+
+-- the route of a type's body is that of as many kinds as it has fields
+route-by : (t : MessageType) (s : List ℕ) → routeBy t s ≡ routeOf (kindsOf t (countIn s)) s
+unfolding routeBy routeOf kindsOf countIn
+route-by t s = sym (route-take (tableOf t) 0 (fieldsIn (fieldsOf s)))
+
+-- ---- what reads
+
+record Taken (t : MessageType) (s : List ℕ) (b : Body) (u : Bool) : Type 0 where
+  marks : ℕ
+  count : isCount t (countIn s) ≡ true
+  answer : answerOf (kindsOf t (countIn s)) s ≡ answer.Taken u marks
+  is : bodyFrom t marks (padded (valuesOf (kindsOf t (countIn s)) s)) ≡ b
+
+typed-taken : (t : MessageType) (s : List ℕ) (b : Body) (u : Bool) → typedOf t (padded (valuesBy t s)) (answerBy t s) ≡ read.Read b u → Taken t s b u
+unfolding answerBy valuesBy
+typed-taken t s b u e = go (isCount t (countIn s)) refl
+  where
+    none : {X : Type 0} → read.Spacing ≡ read.Read b u → X
+    none z = absurd (let y : _≡_ {A = ℕ} 0 1 = cc in omega arith)
+
+    at : isCount t (countIn s) ≡ true → (a : Answer) → answerOf (kindsOf t (countIn s)) s ≡ a → typedOf t (padded (valuesOf (kindsOf t (countIn s)) s)) a ≡ read.Read b u → Taken t s b u
+    at q (answer.Taken v m) p d =
+        let z : v ≡ u = cc in
+        let y : bodyFrom t m (padded (valuesOf (kindsOf t (countIn s)) s)) ≡ b = cc in
+        record { marks = m; count = q; answer = p ∙ rw z; is = y }
+    at q answer.Spacing p d = none d
+    at q (answer.Field i) p d = absurd (let y : _≡_ {A = ℕ} 0 1 = cc in omega arith)
+    at q (answer.Number i) p d = absurd (let y : _≡_ {A = ℕ} 0 1 = cc in omega arith)
+    at q (answer.Two i) p d = absurd (let y : _≡_ {A = ℕ} 0 1 = cc in omega arith)
+
+    go : (c : Bool) → isCount t (countIn s) ≡ c → Taken t s b u
+    go true q = at q (answerOf (kindsOf t (countIn s)) s) refl (rw q at e)
+    go false q = none (rw q at e)
+
+-- the text and the rules of what is read
+record Held (t : MessageType) (s : List ℕ) (b : Body) (u : Bool) : Type 0 where
+  type : typeIn b ≡ t
+  good : isFielded b (routeBy t s) ≡ true
+  text : bodyOf (textsFrom (kindsIn b) 0 (routeBy t s) (valuesIn b)) u ≡ s
+
+either : (a b : Bool) → (a ≡ false → b ≡ true) → (a || b) ≡ true
+either true b h = refl
+either false b h = h refl
+
+fields-held : (t : MessageType) (s : List ℕ) (b : Body) (u : Bool) → typedOf t (padded (valuesBy t s)) (answerBy t s) ≡ read.Read b u → Held t s b u
+unfolding isFielded kindsIn
+fields-held t s b u e = rw (← (x .is)) (record { type = same; good = good; text = text })
+  where
+    x : Taken t s b u
+    x = typed-taken t s b u e
+
+    n : ℕ
+    n = countIn s
+
+    ks : List ℕ
+    ks = kindsOf t n
+
+    vs : List Value
+    vs = valuesOf ks s
+
+    m : ℕ
+    m = x .marks
+
+    r : List ℕ
+    r = routeBy t s
+
+    c : Body
+    c = bodyFrom t m (padded vs)
+
+    same : typeIn c ≡ t
+    same = type-from t m (padded vs)
+
+    w : Back ks s u m
+    w = written-back ks s u m (table-one t n (x .count)) (x .answer)
+
+    allowed : allowedFrom ks 0 0 r vs ≡ true
+    allowed = rw (route-by t s) (w .allowed)
+
+    marked : marksFrom ks 0 0 r vs ≡ m
+    marked = rw (route-by t s) (w .marks)
+
+    back : bodyOf (textsFrom ks 0 r vs) u ≡ s
+    back = rw (route-by t s) (w .text)
+
+    count : fieldCount c ≡ n
+    count = count-from m (padded vs) t n (x .count) (rw (← marked) (marks-count ks r vs allowed .1))
+
+    v : (valuesIn c ≡ vs) × (allNone (spare c) ≡ true)
+    v = values-back t n m r vs (x .count) allowed count
+
+    -- free text only where a route is
+    free : (hasRoute c || eqb (length r) 0) ≡ true
+    free = either (hasRoute c) (eqb (length r) 0) (λ q. eq-eqb (length r) 0 (ap length (none q)))
+      where
+        none : hasRoute c ≡ false → r ≡ []
+        none q =
+            let l : length ks ≤ 19 = rw (kinds-length t n (x .count)) (table-few t n (x .count)) in
+            let z : routeOf ks s ≡ cond (routed ks 0 r vs) r [] = rw back at (route-back ks r vs u l allowed) in
+            let y : routed ks 0 r vs ≡ false = sym (has-route m (padded vs) r vs t n (x .count) allowed marked) ∙ q in
+            route-by t s ∙ z ∙ rw y
+
+    good : isFielded c r ≡ true
+    good = rw (same, count, x .count, v .0, allowed, marked, eq-eqb m (marksIn c) (sym (marks-kept m (padded vs) r vs t n (x .count) marked)), v .1) free
+
+    text : bodyOf (textsFrom (kindsOf (typeIn c) (fieldCount c)) 0 r (valuesIn c)) u ≡ s
+    text = rw (same, count, v .0) back
+
+-- a type with fields
+abbrev hasFields : MessageType → Bool
+hasFields type.Rt = false
+hasFields type.To = false
+hasFields type.Hb = false
+hasFields type.Af = true
+hasFields type.Az = true
+hasFields type.Dz = true
+hasFields type.Fz = true
+hasFields type.Rz = true
+hasFields type.Tz = true
+hasFields type.Uz = true
+
+whole-not : (b : Body) → hasFields (typeIn b) ≡ true → isWhole b ≡ false
+whole-not (body.Af m) e = refl
+whole-not (body.Az m) e = refl
+whole-not (body.Dz m) e = refl
+whole-not (body.Fz p) e = refl
+whole-not (body.Rz m) e = refl
+whole-not (body.Tz m) e = refl
+whole-not (body.Uz p) e = refl
+whole-not body.Rt e = sym e
+whole-not body.To e = sym e
+whole-not body.Hb e = sym e
+
+fielded : (t : MessageType) (s : List ℕ) (b : Body) (u : Bool) → hasFields t ≡ true → Held t s b u → (typeIn b ≡ t) × (isBody b (routeBy t s) u ≡ true) × (bodyText b (routeBy t s) u ≡ s)
+unfolding isBody bodyText
+fielded t s b u f h =
+    let q : isWhole b ≡ false = whole-not b (rw (h .type) f) in
+    (h .type, rw q (h .good), rw q (h .text))
+
+-- what reads is a body that a line can have, and its text is what was read
+pub body-sound : (t : MessageType) (s : List ℕ) (b : Body) (u : Bool) → allIn 32 126 s ≡ true → bodyRead t s ≡ read.Read b u
+    → (typeIn b ≡ t) × (isBody b (freeIn t s) u ≡ true) × (bodyText b (freeIn t s) u ≡ s)
+unfolding bodyRead isBody bodyText
+body-sound type.Rt s b u h e =
+    let z : body.Rt ≡ b = cc in
+    let y : false ≡ u = cc in
+    rw (← z, ← y) (refl, rw h, refl)
+body-sound type.To s b u h e =
+    let z : body.To ≡ b = cc in
+    let y : false ≡ u = cc in
+    rw (← z, ← y) (refl, rw h, refl)
+body-sound type.Hb s b u h e =
+    let z : body.Hb ≡ b = cc in
+    let y : false ≡ u = cc in
+    rw (← z, ← y) (refl, rw h, refl)
+body-sound type.Af s b u h e = fielded type.Af s b u refl (fields-held type.Af s b u e)
+body-sound type.Az s b u h e = fielded type.Az s b u refl (fields-held type.Az s b u e)
+body-sound type.Dz s b u h e = fielded type.Dz s b u refl (fields-held type.Dz s b u e)
+body-sound type.Fz s b u h e = fielded type.Fz s b u refl (fields-held type.Fz s b u e)
+body-sound type.Rz s b u h e = fielded type.Rz s b u refl (fields-held type.Rz s b u e)
+body-sound type.Tz s b u h e = fielded type.Tz s b u refl (fields-held type.Tz s b u e)
+body-sound type.Uz s b u h e = fielded type.Uz s b u refl (fields-held type.Uz s b u e)
+
+-- ---- what is shown
+
+module _ (b : Body) (r : List ℕ) (u : Bool) (e : isFielded b r ≡ true) where
+  abbrev t : MessageType
+  t = typeIn b
+
+  abbrev n : ℕ
+  n = fieldCount b
+
+  abbrev ks : List ℕ
+  ks = kindsIn b
+
+  abbrev vs : List Value
+  vs = valuesIn b
+
+  abbrev s : List ℕ
+  s = bodyOf (textsFrom ks 0 r vs) u
+
+  abbrev a₁ : Bool
+  a₁ = isCount t n
+
+  abbrev a₂ : Bool
+  a₂ = allowedFrom ks 0 0 r vs
+
+  abbrev a₃ : Bool
+  a₃ = eqb (marksFrom ks 0 0 r vs) (marksIn b)
+
+  abbrev a₄ : Bool
+  a₄ = allNone (spare b)
+
+  abbrev a₅ : Bool
+  a₅ = hasRoute b || eqb (length r) 0
+
+  five : (a₁ && a₂ && a₃ && a₄ && a₅) ≡ true
+  unfolding isFielded
+  five = e
+
+  counted : isCount t n ≡ true
+  counted = and-left a₁ a₂ (and-left (a₁ && a₂) a₃ (and-left (a₁ && a₂ && a₃) a₄ (and-left (a₁ && a₂ && a₃ && a₄) a₅ five)))
+
+  allowed : allowedFrom ks 0 0 r vs ≡ true
+  allowed = and-right a₁ a₂ (and-left (a₁ && a₂) a₃ (and-left (a₁ && a₂ && a₃) a₄ (and-left (a₁ && a₂ && a₃ && a₄) a₅ five)))
+
+  marked : marksFrom ks 0 0 r vs ≡ marksIn b
+  marked = eqb-true (marksFrom ks 0 0 r vs) (marksIn b) (and-right (a₁ && a₂) a₃ (and-left (a₁ && a₂ && a₃) a₄ (and-left (a₁ && a₂ && a₃ && a₄) a₅ five)))
+
+  spared : allNone (spare b) ≡ true
+  spared = and-right (a₁ && a₂ && a₃) a₄ (and-left (a₁ && a₂ && a₃ && a₄) a₅ five)
+
+  routes : (hasRoute b || eqb (length r) 0) ≡ true
+  routes = and-right (a₁ && a₂ && a₃ && a₄) a₅ five
+
+  long : length ks ≡ n
+  unfolding kindsIn
+  long = kinds-length t n counted
+
+  few : length ks ≤ 19
+  few = rw long (table-few t n counted)
+
+  is : bodyFrom t (marksIn b) (padded vs) ≡ b
+  is = body-back b spared
+
+  parts : (answerOf ks s ≡ answer.Taken u (marksFrom ks 0 0 r vs)) × (valuesOf ks s ≡ vs) × (fieldsOf s ≡ Fields (textsFrom ks 0 r vs) u) × (length vs ≡ length ks)
+  parts = complete ks r vs u few allowed
+
+  number : countIn s ≡ n
+  unfolding countIn
+  number = ap (λ f. length (fieldsIn f)) (parts .2) ∙ allowed-taken ks 0 0 r vs allowed .texts ∙ long
+
+  shown-read : typedOf t (padded (valuesBy t s)) (answerBy t s) ≡ read.Read b u
+  unfolding answerBy valuesBy kindsIn
+  shown-read = rw (number, counted, parts .0, parts .1, marked, is)
+
+  shown-free : routeBy t s ≡ r
+  unfolding kindsIn
+  shown-free = route-by t s ∙ ap (λ i. routeOf (kindsOf t i) s) number ∙ route-back ks r vs u few allowed ∙ go (routed ks 0 r vs) refl
+    where
+      same : hasRoute b ≡ routed ks 0 r vs
+      same = sym (ap hasRoute is) ∙ has-route (marksIn b) (padded vs) r vs t n counted allowed marked
+
+      none : (l : List ℕ) → eqb (length l) 0 ≡ true → [] ≡ l
+      none [] q = refl
+      none (x ∷ l) q = absurd (omega (arith, eqb-true (length (x ∷ l)) 0 q))
+
+      go : (c : Bool) → routed ks 0 r vs ≡ c → cond (routed ks 0 r vs) r [] ≡ r
+      go true q = rw q
+      go false q = let z : eqb (length r) 0 ≡ true = rw (same, q) at routes in rw q (none r z)
+
+  shown-printable : allIn 32 126 s ≡ true
+  shown-printable = body-printable ks 0 0 r vs u allowed
+
+-- a body that is kept whole
+whole-complete : (r : List ℕ) (u : Bool) → (allIn 32 126 r && not u) ≡ true → (u ≡ false) × (allIn 32 126 r ≡ true)
+whole-complete r true e = let z = and-right (allIn 32 126 r) false e in (sym z, true-false z refl)
+whole-complete r false e = (refl, and-left (allIn 32 126 r) true e)
+
+-- the text of every body that a line can have reads as it, and its free text is handed back
+pub body-complete : (b : Body) (r : List ℕ) (u : Bool) → isBody b r u ≡ true
+    → (bodyRead (typeIn b) (bodyText b r u) ≡ read.Read b u) × (freeIn (typeIn b) (bodyText b r u) ≡ r) × (allIn 32 126 (bodyText b r u) ≡ true)
+unfolding bodyRead isBody bodyText
+body-complete (body.Af m) r u e = (shown-read (body.Af m) r u e, shown-free (body.Af m) r u e, shown-printable (body.Af m) r u e)
+body-complete (body.Az m) r u e = (shown-read (body.Az m) r u e, shown-free (body.Az m) r u e, shown-printable (body.Az m) r u e)
+body-complete (body.Dz m) r u e = (shown-read (body.Dz m) r u e, shown-free (body.Dz m) r u e, shown-printable (body.Dz m) r u e)
+body-complete (body.Fz p) r u e = (shown-read (body.Fz p) r u e, shown-free (body.Fz p) r u e, shown-printable (body.Fz p) r u e)
+body-complete (body.Rz m) r u e = (shown-read (body.Rz m) r u e, shown-free (body.Rz m) r u e, shown-printable (body.Rz m) r u e)
+body-complete (body.Tz m) r u e = (shown-read (body.Tz m) r u e, shown-free (body.Tz m) r u e, shown-printable (body.Tz m) r u e)
+body-complete (body.Uz p) r u e = (shown-read (body.Uz p) r u e, shown-free (body.Uz p) r u e, shown-printable (body.Uz p) r u e)
+body-complete body.Rt r u e = let h = whole-complete r u e in (rw (h .0), refl, h .1)
+body-complete body.To r u e = let h = whole-complete r u e in (rw (h .0), refl, h .1)
+body-complete body.Hb r u e = let h = whole-complete r u e in (rw (h .0), refl, h .1)

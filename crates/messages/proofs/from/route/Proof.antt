@@ -1,0 +1,18 @@
+-- `messages::from::route` meets its contract. Assumes nothing.
+use mathlib.Core.Path.{_∙_}
+use Rattle.messages.proofs.Ways.{route-dotted}
+use borrow.Author.Needs.{needs}
+use Rattle.messages.proofs.from.route.Statement.{statement}
+use Rattle.messages.proofs.from.route.Tie as tie
+
+returns : tie.Need-returns
+returns c = c .route .ensures ∙ rw (c .before .before .kinds-of .ensures) (route-dotted _ _)
+
+pub route-spec : {M : Type 1} → statement M
+route-spec =
+    tie.close
+    (tie.spec
+    (λ c κs. search needs)
+    (λ c. search needs)
+    (λ c κs. search needs)
+    returns)

@@ -1,0 +1,249 @@
+// A body read: by its type's table, and the values given their types.
+use crate::Af;
+use crate::Amended;
+use crate::Az;
+use crate::Body;
+use crate::Dz;
+use crate::Plan;
+use crate::Rz;
+use crate::Tz;
+use fields::flight::Key;
+use fields::flight::Number;
+use fields::plan::FiledSpeed;
+use fields::plan::Fix;
+use fields::plan::Level;
+use fields::plan::Point;
+use fields::plan::Time;
+use fields::track::ArrivalClock;
+use fields::track::Clock;
+use fields::track::GroundSpeed;
+use fields::track::Position;
+use fields::track::TrackLevel;
+use heads::MessageType;
+use idents::aircraft::Aircraft;
+use idents::ident::Ident;
+use kinds::Value;
+use spacing::Counted;
+use table::Answer;
+use table::TableRead;
+ghost use mathlib.Core.Path.{_≡_};
+ghost use Rattle.kinds.specs.Field.{identIn, aircraftIn};
+ghost use Rattle.table.specs.Read.{padded};
+ghost use Rattle.messages.specs.Table.{dotted, isCount, answerBy, valuesBy, routeBy};
+ghost use Rattle.messages.specs.Body.{amendedIn, afFrom, planFrom, bodyFrom, typedOf, bodyRead};
+ghost use Rattle.heads.specs.declared.MessageType.the-variants as type;
+
+// What a body is read as: the answers 0, 8, 9, 10 and 18, with the place of the field.
+pub enum BodyRead {
+    Read(Body, bool),
+    Spacing,
+    Field(usize),
+    Number(usize),
+    Two(usize),
+}
+
+// The table: the kinds of each type's fields in order, of an AF those with eight amendments, and dots after them.
+pub fn kinds_of(t: MessageType) -> [u8; 19]
+    ensures { λ r. ⌜ r ≡ dotted t ⌝ }
+{
+    match t {
+        MessageType::Af => *b"IPPBWBWBWBWBWBWBWBW",
+        MessageType::Az => *b"IPPA...............",
+        MessageType::Dz => *b"IZPTPC.............",
+        MessageType::Fz => *b"IZSFHLR............",
+        MessageType::Rz => *b"IPP................",
+        MessageType::Tz => *b"JGMO...............",
+        MessageType::Uz => *b"IZSFHLR............",
+        MessageType::Rt => *b"...................",
+        MessageType::To => *b"...................",
+        MessageType::Hb => *b"...................",
+    }
+}
+
+// AF: even counts of fields, under 5 or over 19, are wrong.
+fn is_af_count(n: usize) -> bool
+    ensures { λ r. ⌜ r ≡ isCount type.Af n ⌝ }
+{
+    if n < 5 {
+        return false;
+    }
+    if n > 19 {
+        return false;
+    }
+    n % 2 == 1
+}
+
+// Whether the body of a type may have n fields.
+pub fn is_count(t: MessageType, n: usize) -> bool
+    ensures { λ r. ⌜ r ≡ isCount t n ⌝ }
+{
+    match t {
+        MessageType::Af => is_af_count(n),
+        MessageType::Az => n == 4,
+        MessageType::Dz => n == 6,
+        MessageType::Fz => n == 7,
+        MessageType::Rz => n == 3,
+        MessageType::Tz => n == 4,
+        MessageType::Uz => n == 7,
+        MessageType::Rt => n == 0,
+        MessageType::To => n == 0,
+        MessageType::Hb => n == 0,
+    }
+}
+
+// Reads a body by the kinds of as many fields as it has.
+fn read_by(t: MessageType, body: &[u8]) -> TableRead
+    ensures { λ r. ⌜ r .answer ≡ answerBy t (now (body .entry)) ⌝ }
+    ensures { λ r. ⌜ r .values ≡ padded (valuesBy t (now (body .entry))) ⌝ }
+{
+    let Counted::Fields(n, _) = spacing::count(body) else {
+        return table::refused();
+    };
+    if !is_count(t, n) {
+        return table::refused();
+    }
+    let kinds = kinds_of(t);
+    table::read(&kinds[..n], body)
+}
+
+fn ident_in(v: Value) -> Ident
+    ensures { λ r. ⌜ r ≡ identIn v ⌝ }
+{
+    Ident {
+        key: Key(v.a),
+        number: Number(v.b),
+    }
+}
+
+fn aircraft_in(v: Value) -> Aircraft
+    ensures { λ r. ⌜ r ≡ aircraftIn v ⌝ }
+{
+    Aircraft {
+        prefix: v.a,
+        model: v.b,
+        letter: v.c,
+    }
+}
+
+// An amendment from its number's value and its content's.
+fn amended(number: Value, content: Value) -> Amended
+    ensures { λ r. ⌜ r ≡ amendedIn number content ⌝ }
+{
+    let mark = number.a;
+    match mark {
+        1 => Amended::Ident(ident_in(content)),
+        2 => Amended::Aircraft(aircraft_in(content)),
+        4 => Amended::Speed(FiledSpeed(content.a)),
+        8 => Amended::Fix(Fix(content.a)),
+        16 => Amended::Time(Time(content.a)),
+        32 => Amended::Assigned(Level(content.a)),
+        64 => Amended::Requested(Level(content.a)),
+        128 => Amended::Route,
+        _ => Amended::Nothing,
+    }
+}
+
+fn af_from(marks: u8, w: [Value; 19]) -> Af
+    ensures { λ r. ⌜ r ≡ afFrom marks w ⌝ }
+{
+    Af {
+        ident: ident_in(w[0]),
+        from: Point(w[1].a),
+        to: Point(w[2].a),
+        marks,
+        first: amended(w[3], w[4]),
+        second: amended(w[5], w[6]),
+        third: amended(w[7], w[8]),
+        fourth: amended(w[9], w[10]),
+        fifth: amended(w[11], w[12]),
+        sixth: amended(w[13], w[14]),
+        seventh: amended(w[15], w[16]),
+        eighth: amended(w[17], w[18]),
+    }
+}
+
+fn plan_from(w: [Value; 19]) -> Plan
+    ensures { λ r. ⌜ r ≡ planFrom w ⌝ }
+{
+    Plan {
+        ident: ident_in(w[0]),
+        aircraft: aircraft_in(w[1]),
+        speed: FiledSpeed(w[2].a),
+        fix: Fix(w[3].a),
+        time: Time(w[4].a),
+        level: Level(w[5].a),
+    }
+}
+
+fn body_from(t: MessageType, marks: u8, w: [Value; 19]) -> Body
+    ensures { λ r. ⌜ r ≡ bodyFrom t marks w ⌝ }
+{
+    match t {
+        MessageType::Af => Body::Af(af_from(marks, w)),
+        MessageType::Az => Body::Az(Az {
+            ident: ident_in(w[0]),
+            from: Point(w[1].a),
+            to: Point(w[2].a),
+            clock: ArrivalClock(w[3].a),
+        }),
+        MessageType::Dz => Body::Dz(Dz {
+            ident: ident_in(w[0]),
+            aircraft: aircraft_in(w[1]),
+            from: Point(w[2].a),
+            time: Time(w[3].a),
+            to: Point(w[4].a),
+            clock: Clock(w[5].a),
+        }),
+        MessageType::Fz => Body::Fz(plan_from(w)),
+        MessageType::Rz => Body::Rz(Rz {
+            ident: ident_in(w[0]),
+            from: Point(w[1].a),
+            to: Point(w[2].a),
+        }),
+        MessageType::Tz => Body::Tz(Tz {
+            ident: ident_in(w[0]),
+            speed: GroundSpeed(w[1].a),
+            level: TrackLevel(w[2].a),
+            position: Position(w[3].a),
+        }),
+        MessageType::Uz => Body::Uz(plan_from(w)),
+        MessageType::Rt => Body::Rt,
+        MessageType::To => Body::To,
+        MessageType::Hb => Body::Hb,
+    }
+}
+
+// The values given their types.
+fn typed(t: MessageType, read: TableRead) -> BodyRead
+    ensures { λ r. ⌜ r ≡ typedOf t (read .values) (read .answer) ⌝ }
+{
+    let answer = read.answer;
+    let values = read.values;
+    match answer {
+        Answer::Taken(trailing, marks) => BodyRead::Read(body_from(t, marks, values), trailing),
+        Answer::Spacing => BodyRead::Spacing,
+        Answer::Field(place) => BodyRead::Field(place),
+        Answer::Number(place) => BodyRead::Number(place),
+        Answer::Two(place) => BodyRead::Two(place),
+    }
+}
+
+// The route among the fields of a type's body, as a part of it; an empty part where there is none.
+pub fn route(t: MessageType, body: &[u8]) -> &[u8]
+    ensures { λ r. ⌜ now r ≡ routeBy t (now (body .entry)) ⌝ }
+{
+    let kinds = kinds_of(t);
+    table::route(&kinds, body)
+}
+
+// Reads the body of a type's line.
+pub fn read_body(t: MessageType, body: &[u8]) -> BodyRead
+    ensures { λ r. ⌜ r ≡ bodyRead t (now (body .entry)) ⌝ }
+{
+    match t {
+        MessageType::Rt => BodyRead::Read(Body::Rt, false),
+        MessageType::To => BodyRead::Read(Body::To, false),
+        MessageType::Hb => BodyRead::Read(Body::Hb, false),
+        _ => typed(t, read_by(t, body)),
+    }
+}

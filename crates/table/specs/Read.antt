@@ -1,0 +1,90 @@
+-- A body read by a list of kinds: its answer, the values of its fields, and the route among them. Assumes nothing.
+use Prim.Native.Nat.{ℕ, suc, _-_, _≤_}
+use mathlib.Core.Path.{_≡_}
+use mathlib.Core.Bool.{Bool, true, cond, _&&_}
+use mathlib.Core.List.{List, [], _∷_, _++_}
+use lib.Dec.{eqb, leb}
+use lib.ListN.{length, replicate}
+use Rattle.spacing.specs.Body.{Split, Fields, Wrong, fieldsOf, fieldsIn}
+use Rattle.kinds.specs.Field.{ROUTE, valued, readIn, plain, leftOf, marksOf}
+use Rattle.kinds.specs.declared.Value.{Value}
+use Rattle.kinds.specs.declared.read.FieldRead.{FieldRead}
+use Rattle.kinds.specs.declared.read.FieldRead.the-variants as field
+use Rattle.table.specs.declared.Answer.{Answer}
+use Rattle.table.specs.declared.Answer.the-variants.{Taken, Spacing, Field, Number, Two}
+
+-- ---- the values
+
+abbrev pub none : Value
+none = valued 0 0 0
+
+-- nineteen values, of which the first are vs
+unfoldable pub padded : List Value → List Value
+padded vs = vs ++ replicate (19 - length vs) none
+
+abbrev pub more : FieldRead → List Value → List Value
+more (field.Read v) vs = v ∷ vs
+more field.Nothing vs = []
+more field.Number vs = []
+more field.Two vs = []
+
+-- the values of the fields, until one is not read; p is what the field before left, m the marks set so far
+unfoldable pub valuesFrom : List ℕ → ℕ → ℕ → List (List ℕ) → List Value
+valuesFrom [] p m fs = []
+valuesFrom (k ∷ ks) p m [] = []
+valuesFrom (k ∷ ks) p m (f ∷ fs) = more (readIn k p m f) (valuesFrom ks (leftOf k f) (marksOf k m f) fs)
+
+-- ---- the answer
+
+-- what a field that is not read makes of the whole body; i is its place
+abbrev pub faultAt : ℕ → FieldRead → Answer
+faultAt i field.Nothing = Field i
+faultAt i field.Number = Number i
+faultAt i field.Two = Two i
+faultAt i (field.Read v) = Spacing
+
+abbrev pub orElse : ℕ → FieldRead → Answer → Answer
+orElse i (field.Read v) rest = rest
+orElse i field.Nothing rest = Field i
+orElse i field.Number rest = Number i
+orElse i field.Two rest = Two i
+
+-- "then fields from the left": the first field that is not read; else taken, with the marks that are set in the end
+unfoldable pub answerFrom : ℕ → Bool → List ℕ → ℕ → ℕ → List (List ℕ) → Answer
+answerFrom i t [] p m fs = Taken t m
+answerFrom i t (k ∷ ks) p m [] = Taken t m
+answerFrom i t (k ∷ ks) p m (f ∷ fs) = orElse i (readIn k p m f) (answerFrom (suc i) t ks (leftOf k f) (marksOf k m f) fs)
+
+-- "body spacing or field count wrong" comes before any field; a table has at most 19 fields
+unfoldable pub counted : List ℕ → List (List ℕ) → Bool
+counted ks fs = eqb (length fs) (length ks) && leb (length ks) 19
+
+unfoldable pub answers : List ℕ → Split → Answer
+answers ks Wrong = Spacing
+answers ks (Fields fs t) = cond (counted ks fs) (answerFrom 1 t ks 0 0 fs) Spacing
+
+unfoldable pub values : List ℕ → Split → List Value
+values ks Wrong = []
+values ks (Fields fs t) = cond (counted ks fs) (valuesFrom ks 0 0 fs) []
+
+unfoldable pub answerOf : List ℕ → List ℕ → Answer
+answerOf ks body = answers ks (fieldsOf body)
+
+unfoldable pub valuesOf : List ℕ → List ℕ → List Value
+valuesOf ks body = values ks (fieldsOf body)
+
+pub record Ready (ks body : List ℕ) : Type 0 where
+  pub trailing : Bool
+  pub split : fieldsOf body ≡ Fields (fieldsIn (fieldsOf body)) trailing
+  pub count : length (fieldsIn (fieldsOf body)) ≡ length ks
+  pub few : length ks ≤ 19
+
+-- ---- the route: the first field that is read as one
+
+unfoldable pub routeIn : List ℕ → ℕ → List (List ℕ) → List ℕ
+routeIn [] p fs = []
+routeIn (k ∷ ks) p [] = []
+routeIn (k ∷ ks) p (f ∷ fs) = cond (eqb (plain k p) ROUTE) f (routeIn ks (leftOf k f) fs)
+
+unfoldable pub routeOf : List ℕ → List ℕ → List ℕ
+routeOf ks body = routeIn ks 0 (fieldsIn (fieldsOf body))

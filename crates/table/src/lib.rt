@@ -1,0 +1,127 @@
+// A body of fields by a list of their kinds: read, and its route found. Document 01's table is such a list for each type.
+use kinds::ROUTE;
+use kinds::Value;
+use kinds::read::FieldRead;
+use spacing::Counted;
+ghost use mathlib.Core.Path.{_≡_};
+ghost use Rattle.spacing.specs.Body.{fieldsOf, fieldsIn};
+ghost use mathlib.Core.List.{[]};
+ghost use Rattle.table.specs.Read.{Ready, padded, faultAt, answerFrom, valuesFrom, answerOf, valuesOf, routeOf};
+ghost use Rattle.table.specs.declared.Answer.the-variants.{Spacing};
+
+// A body that is taken, whether a space stands at its end, and the marks of its amendments; or its spacing or its count of
+// fields is wrong (answer 8); or the place of the first field that is at fault (9, 10, 18).
+pub enum Answer {
+    Taken(bool, u8),
+    Spacing,
+    Field(usize),
+    Number(usize),
+    Two(usize),
+}
+
+// The answer, and the values of the fields that were read; after these only zeros.
+pub struct TableRead {
+    pub answer: Answer,
+    pub values: [Value; 19],
+}
+
+// What a field that is not read makes of the whole body.
+fn fault(read: FieldRead, place: usize) -> Answer
+    ensures { λ r. ⌜ r ≡ faultAt place read ⌝ }
+{
+    match read {
+        FieldRead::Nothing => Answer::Field(place),
+        FieldRead::Number => Answer::Number(place),
+        FieldRead::Two => Answer::Two(place),
+        FieldRead::Read(_) => Answer::Spacing,
+    }
+}
+
+// The spacing or the count is wrong.
+pub fn refused() -> TableRead
+    ensures { λ r. ⌜ r .answer ≡ Spacing ⌝ }
+    ensures { λ r. ⌜ r .values ≡ padded [] ⌝ }
+{
+    TableRead {
+        answer: Answer::Spacing,
+        values: [Value { a: 0, b: 0, c: 0 }; 19],
+    }
+}
+
+// Reads the fields until one is not read.
+fn fill(kinds: &[u8], body: &[u8], trailing: bool) -> TableRead
+    requires { ⌜ Ready (now kinds) (now body) ⌝ }
+    ensures { λ r. ⌜ r .answer ≡ answerFrom 1 trailing (now (kinds .entry)) 0 0 (fieldsIn (fieldsOf (now (body .entry)))) ⌝ }
+    ensures { λ r. ⌜ r .values ≡ padded (valuesFrom (now (kinds .entry)) 0 0 (fieldsIn (fieldsOf (now (body .entry))))) ⌝ }
+{
+    let mut values = [Value { a: 0, b: 0, c: 0 }; 19];
+    let mut at: usize = 0;
+    let mut k: usize = 0;
+    let mut left: u8 = 0;
+    let mut marks: u8 = 0;
+    while k < kinds.len() {
+        let j = at + 1;
+        let e = spacing::field_end(body, j);
+        let kind = kinds[k];
+        let read = kinds::read::read_field(kind, left, marks, &body[j..e]);
+        let FieldRead::Read(value) = read else {
+            return TableRead {
+                answer: fault(read, k + 1),
+                values,
+            };
+        };
+        values[k] = value;
+        marks = kinds::marks_after(kind, marks, &body[j..e]);
+        left = kinds::left(kind, &body[j..e]);
+        at = e;
+        k += 1;
+    }
+    TableRead {
+        answer: Answer::Taken(trailing, marks),
+        values,
+    }
+}
+
+// Reads a body by its kinds, of which a table has at most 19.
+pub fn read(kinds: &[u8], body: &[u8]) -> TableRead
+    ensures { λ r. ⌜ r .answer ≡ answerOf (now (kinds .entry)) (now (body .entry)) ⌝ }
+    ensures { λ r. ⌜ r .values ≡ padded (valuesOf (now (kinds .entry)) (now (body .entry))) ⌝ }
+{
+    let Counted::Fields(n, trailing) = spacing::count(body) else {
+        return refused();
+    };
+    if n != kinds.len() {
+        return refused();
+    }
+    if n > 19 {
+        return refused();
+    }
+    fill(kinds, body, trailing)
+}
+
+// The route among the fields, as a part of the body; an empty part where there is none.
+pub fn route<'a>(kinds: &[u8], body: &'a [u8]) -> &'a [u8]
+    ensures { λ r. ⌜ now r ≡ routeOf (now (kinds .entry)) (now (body .entry)) ⌝ }
+{
+    let Counted::Fields(n, _) = spacing::count(body) else {
+        return &body[..0];
+    };
+    let mut at: usize = 0;
+    let mut k: usize = 0;
+    let mut left: u8 = 0;
+    while k < n {
+        if k >= kinds.len() {
+            return &body[..0];
+        }
+        let kind = kinds[k];
+        let j = at + 1;
+        let e = spacing::field_end(body, j);
+        if kinds::plain(kind, left) == ROUTE {
+            return &body[j..e];
+        }
+        left = kinds::left(kind, &body[j..e]);
+        at = e;
+        k += 1;
+    }
+    &body[..0]
+}
