@@ -61,14 +61,30 @@ begins-p n = go (eqb n 0) refl
 
 -- ---- an AF of its amendments
 
-pub af-is : (m : ℕ) (w : List Value) (i : Ident) (a b c d e f g h : Amended) → i ≡ identIn (at w 0) → a ≡ amendedIn (at w 3) (at w 4) → b ≡ amendedIn (at w 5) (at w 6) → c ≡ amendedIn (at w 7) (at w 8) → d ≡ amendedIn (at w 9) (at w 10) → e ≡ amendedIn (at w 11) (at w 12) → f ≡ amendedIn (at w 13) (at w 14) → g ≡ amendedIn (at w 15) (at w 16) → h ≡ amendedIn (at w 17) (at w 18) → _≡_ {A = Af} (record { ident = i; from = record { 0 = at w 1 .a }; to = record { 0 = at w 2 .a }; marks = m; first = a; second = b; third = c; fourth = d; fifth = e; sixth = f; seventh = g; eighth = h }) (afFrom m w)
+pub af-is : (m : ℕ) (w : List Value) (i : Ident) (a b c d e f g h : Amended) → i ≡ identIn (at w 0)
+    → a ≡ amendedIn (at w 3) (at w 4) → b ≡ amendedIn (at w 5) (at w 6) → c ≡ amendedIn (at w 7) (at w 8) → d ≡ amendedIn (at w 9) (at w 10)
+    → e ≡ amendedIn (at w 11) (at w 12) → f ≡ amendedIn (at w 13) (at w 14) → g ≡ amendedIn (at w 15) (at w 16) → h ≡ amendedIn (at w 17) (at w 18)
+    → _≡_ {A = Af} (record { ident = i; from = record { 0 = at w 1 .a }; to = record { 0 = at w 2 .a }; marks = m; first = a; second = b; third = c; fourth = d; fifth = e; sixth = f; seventh = g; eighth = h }) (afFrom m w)
 unfolding afFrom
-af-is m w i a b c d e f g h pi pa pb pc pd pe pf pg ph = λ x. record { ident = pi x; from = record { 0 = at w 1 .a }; to = record { 0 = at w 2 .a }; marks = m; first = pa x; second = pb x; third = pc x; fourth = pd x; fifth = pe x; sixth = pf x; seventh = pg x; eighth = ph x }
+af-is m w i a b c d e f g h pi pa pb pc pd pe pf pg ph = λ x. record {
+  ident = pi x;
+  from = record { 0 = at w 1 .a };
+  to = record { 0 = at w 2 .a };
+  marks = m;
+  first = pa x;
+  second = pb x;
+  third = pc x;
+  fourth = pd x;
+  fifth = pe x;
+  sixth = pf x;
+  seventh = pg x;
+  eighth = ph x;
+}
 
 -- ---- a body read by as many kinds as it has fields
 
 -- a right count asks for no more kinds than the table has
-count-kinds : (t : MessageType) (n : ℕ) → isCount t n ≡ true → n ≤ length (tableOf t)
+pub count-kinds : (t : MessageType) (n : ℕ) → isCount t n ≡ true → n ≤ length (tableOf t)
 unfolding isCount
 count-kinds type.Af n e = leb-true n 19 (and-right (leb 5 n) (leb n 19) (and-left (leb 5 n && leb n 19) (eqb (n % 2) 1) e))
 count-kinds type.Az n e = omega (arith, eqb-true n 4 e)

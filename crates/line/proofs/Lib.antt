@@ -1,0 +1,4 @@
+pub mod Ways
+pub mod Heads
+pub mod Steps
+pub mod Theorems

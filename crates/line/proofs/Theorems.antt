@@ -1,0 +1,70 @@
+-- THE THEOREMS of a line, demand 2: what reads is allowed and its text is the line, and the text of every allowed message
+-- reads as that message. Assumes nothing.
+use mathlib.Core.Path.{_≡_, refl, sym, ap, _∙_}
+use mathlib.Core.Bool.{true}
+use mathlib.Core.List.{List}
+use Prim.Native.Nat.{ℕ}
+use native.Mathlib.Omega.{arith}
+use lib.ListN.{drop}
+use Rattle.heads.specs.declared.TypeRead.the-variants as type
+use Rattle.messages.specs.Body.{typeIn}
+use Rattle.messages.specs.Allowed.{bodyText, isBody}
+use Rattle.messages.specs.declared.Message.{Message}
+use Rattle.messages.proofs.Theorems.{body-sound, body-complete}
+use Rattle.line.specs.Line.{lineOf, isAllowed}
+use Rattle.line.specs.Read.{readOf, numberOf, freeBy, freeOf}
+use Rattle.line.specs.declared.LineRead.{LineRead}
+use Rattle.line.specs.declared.LineRead.the-variants.{Read, Short, Long, Unprintable, NoSequence, NoStamp, NoFacility, NoType, Spacing, Field, Number, LongPlan, Two}
+use Rattle.line.proofs.Heads.{printable-left}
+use Rattle.line.proofs.Steps.{reads-passes, passes-reads, passes-free, passes-text, passes-allows, allowed-allows, allows-allowed, allows-passes, text-body}
+
+-- what reads is allowed, and its text is the line
+pub reads-allowed : (s : List ℕ) (m : Message) → readOf s ≡ Read m → (isAllowed m (freeOf s) ≡ true) × (lineOf m (freeOf s) ≡ s)
+reads-allowed s m e =
+    let (k, p) = reads-passes m s e in
+    let b : (typeIn (m .body) ≡ k) × (isBody (m .body) (freeOf s) (m .trailing) ≡ true) × (bodyText (m .body) (freeOf s) (m .trailing) ≡ drop 18 s) = rw (passes-free s m k p) (body-sound k (drop 18 s) (m .body) (m .trailing) (printable-left 18 s (p .printable)) (p .body)) in
+    (allows-allowed m (freeOf s) (passes-allows s m k p (b .0) (b .2) (b .1)), passes-text s m k p (b .0) (b .2))
+
+-- the text of every allowed message reads as that message, and its free text is handed back
+pub allowed-reads : (m : Message) (r : List ℕ) → isAllowed m r ≡ true → (readOf (lineOf m r) ≡ Read m) × (freeOf (lineOf m r) ≡ r)
+allowed-reads m r e =
+    let a = allowed-allows m r e in
+    let b = body-complete (m .body) r (m .trailing) (a .body) in
+    let p = allows-passes m r a (b .2) (b .0) in
+    (passes-reads (lineOf m r) m (typeIn (m .body)) p, passes-free (lineOf m r) m (typeIn (m .body)) p ∙ ap (freeBy (type.Read (typeIn (m .body)))) (text-body m r a) ∙ b .1)
+
+-- a line is refused exactly if no allowed message has it as its text
+pub refused-exactly : (s : List ℕ) → (((m : Message) → readOf s ≡ Read m → ⊥) → (m : Message) (r : List ℕ) → isAllowed m r ≡ true → lineOf m r ≡ s → ⊥) × (((m : Message) (r : List ℕ) → isAllowed m r ≡ true → lineOf m r ≡ s → ⊥) → (m : Message) → readOf s ≡ Read m → ⊥)
+refused-exactly s = (
+  λ none m r a e. none m (ap readOf (sym e) ∙ allowed-reads m r a .0),
+  λ none m e. none m (freeOf s) (reads-allowed s m e .0) (reads-allowed s m e .1),
+)
+
+-- and its answer number is 0 exactly if it reads
+pub number-zero : (s : List ℕ) → numberOf (readOf s) ≡ 0 → (m : Message) × (readOf s ≡ Read m)
+number-zero s e = go (readOf s) e
+  where
+    go : (r : LineRead) → numberOf r ≡ 0 → (m : Message) × (r ≡ Read m)
+    go (Read m) e = (m, refl)
+    go Short e = absurd (omega arith)
+    go Long e = absurd (omega arith)
+    go Unprintable e = absurd (omega arith)
+    go NoSequence e = absurd (omega arith)
+    go NoStamp e = absurd (omega arith)
+    go NoFacility e = absurd (omega arith)
+    go NoType e = absurd (omega arith)
+    go Spacing e = absurd (omega arith)
+    go (Field i) e = absurd (omega arith)
+    go (Number i) e = absurd (omega arith)
+    go LongPlan e = absurd (omega arith)
+    go (Two i) e = absurd (omega arith)
+
+pub zero-number : (s : List ℕ) (m : Message) → readOf s ≡ Read m → numberOf (readOf s) ≡ 0
+zero-number s m e = ap numberOf e
+
+-- at most one has
+pub one-message : (m n : Message) (r q : List ℕ) → isAllowed m r ≡ true → isAllowed n q ≡ true → lineOf m r ≡ lineOf n q → (m ≡ n) × (r ≡ q)
+one-message m n r q a b e =
+    let x = allowed-reads m r a in
+    let y = allowed-reads n q b in
+    ((cc), sym (x .1) ∙ ap freeOf e ∙ y .1)

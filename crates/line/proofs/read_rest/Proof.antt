@@ -1,0 +1,62 @@
+-- `line::read_rest` meets its contract. Assumes nothing.
+use mathlib.Core.Path.{sym, ap, _∙_}
+use Rattle.line.specs.Read.{withBody}
+use Rattle.line.proofs.Ways.{rest-long, rest-body}
+use borrow.Author.Needs.{needs}
+use Rattle.line.proofs.read_rest.Statement.{statement}
+use Rattle.line.proofs.read_rest.Tie as tie
+
+returns : tie.Need-returns
+returns c = rest-long _ _ (sym (c .before .is-long-plan .ensures) ∙ c .if1 .taken)
+
+returns-2 : tie.Need-returns-2
+returns-2 c =
+    let r = c .before .before .before .before in
+    let b = r .before .before in
+    let i = b .before .before in
+    rest-body _ _ (sym (i .before .is-long-plan .ensures) ∙ i .if1 .left) (sym (b .read-body .ensures) ∙ r .read .given .1)
+
+returns-3 : tie.Need-returns-3
+returns-3 c =
+    let b = c .before .before in
+    let i = b .before .before in
+    rest-body _ _ (sym (i .before .is-long-plan .ensures) ∙ i .if1 .left) (sym (b .read-body .ensures) ∙ c .enum-told .given .1)
+
+returns-4 : tie.Need-returns-4
+returns-4 c =
+    let b = c .before .before .before in
+    let i = b .before .before in
+    rest-body _ _ (sym (i .before .is-long-plan .ensures) ∙ i .if1 .left) (sym (b .read-body .ensures) ∙ c .before .read2 .given .1)
+
+returns-5 : tie.Need-returns-5
+returns-5 c =
+    let b = c .before .before .before in
+    let i = b .before .before in
+    rest-body _ _ (sym (i .before .is-long-plan .ensures) ∙ i .if1 .left) (sym (b .read-body .ensures) ∙ c .before .read3 .given .1)
+
+returns-6 : tie.Need-returns-6
+returns-6 c =
+    let b = c .before .before .before in
+    let i = b .before .before in
+    rest-body _ _ (sym (i .before .is-long-plan .ensures) ∙ i .if1 .left) (sym (b .read-body .ensures) ∙ c .before .read4 .given .1)
+
+pub read-rest-spec : {M : Type 1} → statement M
+read-rest-spec =
+    tie.close
+    (tie.spec
+    (λ c κs. search needs)
+    returns
+    (λ c. search needs)
+    (λ c. search needs)
+    (λ c. search needs)
+    (λ c κs. search needs)
+    (λ c. search needs)
+    (λ c. search needs)
+    (λ c. search needs)
+    (λ c. search needs)
+    (λ c. search needs)
+    returns-2
+    returns-3
+    returns-4
+    returns-5
+    returns-6)

@@ -1,0 +1,47 @@
+-- THE LINE (document 01, "The line", "Fields"): the text of a message, and which messages a line can have. r is the free text
+-- that stands beside a message: its route, or the body of RT, TO and HB. Assumes nothing.
+use Prim.Native.Nat.{ℕ, _-_}
+use mathlib.Core.Bool.{Bool, false, not, _&&_}
+use mathlib.Core.List.{List, _++_}
+use lib.Dec.{leb, ltb}
+use lib.ListN.{length}
+use Rattle.text.specs.Text.{textOf}
+use Rattle.forms.specs.Kind.{SEQUENCE, STAMP}
+use Rattle.words.specs.Word.{isWord}
+use Rattle.heads.specs.Facility.{facilityText, isFacilityValue}
+use Rattle.heads.specs.Message.{typeText}
+use Rattle.heads.specs.declared.MessageType.{MessageType}
+use Rattle.heads.specs.declared.MessageType.the-variants.{Af, Az, Dz, Fz, Rz, Tz, Uz, Rt, To, Hb}
+use Rattle.messages.specs.Body.{typeIn}
+use Rattle.messages.specs.Allowed.{bodyText, isBody}
+use Rattle.messages.specs.declared.Message.{Message}
+
+-- sequence number, stamp, facility, type, and the body
+unfoldable pub lineOf : Message → List ℕ → List ℕ
+lineOf m r =
+    textOf (m .sequence .0) ++ (textOf (m .stamp .0) ++ (facilityText (m .facility .0) ++ (typeText (typeIn (m .body)) ++ bodyText (m .body) r (m .trailing))))
+
+-- "FZ over 439 bytes, counted from its type"; n is the line's length, and the type stands after 16 bytes
+abbrev pub isLongPlan : MessageType → ℕ → Bool
+isLongPlan Fz n = ltb 439 (n - 16)
+isLongPlan Af n = false
+isLongPlan Az n = false
+isLongPlan Dz n = false
+isLongPlan Rz n = false
+isLongPlan Tz n = false
+isLongPlan Uz n = false
+isLongPlan Rt n = false
+isLongPlan To n = false
+isLongPlan Hb n = false
+
+-- sequence number, stamp and facility that some text gives
+unfoldable pub isHead : Message → Bool
+isHead m = isWord SEQUENCE (m .sequence .0) && isWord STAMP (m .stamp .0) && isFacilityValue (m .facility .0)
+
+-- "line over 2,048 bytes"; "FZ over 439 bytes"
+unfoldable pub hasSize : Message → List ℕ → Bool
+hasSize m r = leb (length (lineOf m r)) 2048 && not (isLongPlan (typeIn (m .body)) (length (lineOf m r)))
+
+-- the messages that a line can have
+unfoldable pub isAllowed : Message → List ℕ → Bool
+isAllowed m r = isHead m && isBody (m .body) r (m .trailing) && hasSize m r

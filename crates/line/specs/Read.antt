@@ -1,0 +1,99 @@
+-- What a line is read as, in document 01's order: "1 to 7 rising, 11, 8, then fields from the left"; the answer numbers; the
+-- free text. Assumes nothing.
+use Prim.Native.Nat.{ℕ}
+use mathlib.Core.Bool.{cond}
+use mathlib.Core.List.{List, []}
+use lib.Dec.{ltb}
+use lib.ListN.{length, drop}
+use Rattle.text.specs.Place.{value, allIn}
+use Rattle.text.specs.Text.{packed}
+use Rattle.shapes.specs.Picture.{part}
+use Rattle.forms.specs.Form.{isSequence, isStamp, isFacility}
+use Rattle.heads.specs.Message.{typeOf}
+use Rattle.heads.specs.declared.TypeRead.{TypeRead}
+use Rattle.heads.specs.declared.TypeRead.the-variants as type
+use Rattle.messages.specs.Table.{freeIn}
+use Rattle.messages.specs.Body.{bodyRead}
+use Rattle.messages.specs.declared.from.BodyRead.{BodyRead}
+use Rattle.messages.specs.declared.from.BodyRead.the-variants as body
+use Rattle.line.specs.Line.{isLongPlan}
+use Rattle.line.specs.declared.Head.{Head}
+use Rattle.line.specs.declared.HeadRead.{HeadRead}
+use Rattle.line.specs.declared.HeadRead.the-variants as head
+use Rattle.line.specs.declared.LineRead.{LineRead}
+use Rattle.line.specs.declared.LineRead.the-variants.{Read, Short, Long, Unprintable, NoSequence, NoStamp, NoFacility, NoType, Spacing, Field, Number, LongPlan, Two}
+
+-- ---- the head: "four characters", "eight digits", "four characters of facility", "two letters of type"
+
+abbrev pub typed : List ℕ → TypeRead → HeadRead
+typed s (type.Read t) =
+    head.Read (record { sequence = record { 0 = packed (part 0 4 s) }; stamp = record { 0 = packed (part 4 8 s) }; facility = record { 0 = value 256 4 (part 12 4 s) }; kind = t })
+typed s type.Nothing = head.NoType
+
+unfoldable pub headOf : List ℕ → HeadRead
+headOf s =
+    cond (isSequence (part 0 4 s)) (cond (isStamp (part 4 8 s)) (cond (isFacility (part 12 4 s)) (typed s (typeOf (part 16 2 s))) head.NoFacility) head.NoStamp) head.NoSequence
+
+-- ---- the body after it
+
+abbrev pub withBody : Head → BodyRead → LineRead
+withBody h (body.Read b t) = Read (record { sequence = h .sequence; stamp = h .stamp; facility = h .facility; body = b; trailing = t })
+withBody h body.Spacing = Spacing
+withBody h (body.Field i) = Field i
+withBody h (body.Number i) = Number i
+withBody h (body.Two i) = Two i
+
+unfoldable pub restOf : Head → List ℕ → LineRead
+restOf h s = cond (isLongPlan (h .kind) (length s)) LongPlan (withBody h (bodyRead (h .kind) (drop 18 s)))
+
+abbrev pub byHead : List ℕ → HeadRead → LineRead
+byHead s (head.Read h) = restOf h s
+byHead s head.NoSequence = NoSequence
+byHead s head.NoStamp = NoStamp
+byHead s head.NoFacility = NoFacility
+byHead s head.NoType = NoType
+
+-- ---- the line
+
+unfoldable pub readOf : List ℕ → LineRead
+readOf s = cond (ltb (length s) 18) Short (cond (ltb 2048 (length s)) Long (cond (allIn 32 126 s) (byHead s (headOf s)) Unprintable))
+
+-- document 01's answer number, and the place that it gives; 0 where it gives none
+abbrev pub numberOf : LineRead → ℕ
+numberOf (Read m) = 0
+numberOf Short = 1
+numberOf Long = 2
+numberOf Unprintable = 3
+numberOf NoSequence = 4
+numberOf NoStamp = 5
+numberOf NoFacility = 6
+numberOf NoType = 7
+numberOf Spacing = 8
+numberOf (Field i) = 9
+numberOf (Number i) = 10
+numberOf LongPlan = 11
+numberOf (Two i) = 18
+
+abbrev pub placeOf : LineRead → ℕ
+placeOf (Read m) = 0
+placeOf Short = 0
+placeOf Long = 0
+placeOf Unprintable = 0
+placeOf NoSequence = 0
+placeOf NoStamp = 0
+placeOf NoFacility = 0
+placeOf NoType = 0
+placeOf Spacing = 0
+placeOf (Field i) = i
+placeOf (Number i) = i
+placeOf LongPlan = 0
+placeOf (Two i) = i
+
+-- ---- "the reader gives back that part of the line": the body of RT, TO and HB, the route of the others, else nothing
+
+abbrev pub freeBy : TypeRead → List ℕ → List ℕ
+freeBy type.Nothing b = []
+freeBy (type.Read t) b = freeIn t b
+
+unfoldable pub freeOf : List ℕ → List ℕ
+freeOf s = cond (ltb (length s) 18) [] (freeBy (typeOf (part 16 2 s)) (drop 18 s))

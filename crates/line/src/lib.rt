@@ -1,0 +1,157 @@
+// One line of the feed: read as a message, and its free text handed back as a part of it.
+use fields::frame::Sequence;
+use fields::frame::SequenceRead;
+use fields::frame::Stamp;
+use fields::frame::StampRead;
+use heads::Facility;
+use heads::FacilityRead;
+use heads::MessageType;
+use heads::TypeRead;
+use messages::Message;
+use messages::from::BodyRead;
+use messages::from::read_body;
+use messages::from::route;
+ghost use mathlib.Core.Path.{_≡_};
+ghost use Prim.Native.Nat.{_≤_};
+ghost use lib.ListN.{length};
+ghost use Rattle.line.specs.Line.{isLongPlan};
+ghost use Rattle.line.specs.Read.{headOf, restOf, readOf, freeOf};
+
+// A line that is read, or document 01's answers 1 to 11 and 18, with the place of the field.
+pub enum LineRead {
+    Read(Message),
+    Short,
+    Long,
+    Unprintable,
+    NoSequence,
+    NoStamp,
+    NoFacility,
+    NoType,
+    Spacing,
+    Field(usize),
+    Number(usize),
+    LongPlan,
+    Two(usize),
+}
+
+// What stands before the body.
+pub struct Head {
+    pub sequence: Sequence,
+    pub stamp: Stamp,
+    pub facility: Facility,
+    pub kind: MessageType,
+}
+
+pub enum HeadRead {
+    Read(Head),
+    NoSequence,
+    NoStamp,
+    NoFacility,
+    NoType,
+}
+
+fn read_head(line: &[u8]) -> HeadRead
+    requires { ⌜ 18 ≤ length (now line) ⌝ }
+    ensures { λ r. ⌜ r ≡ headOf (now (line .entry)) ⌝ }
+{
+    let SequenceRead::Read(sequence) = Sequence::read(&line[0..4]) else {
+        return HeadRead::NoSequence;
+    };
+    let StampRead::Read(stamp) = Stamp::read(&line[4..12]) else {
+        return HeadRead::NoStamp;
+    };
+    let FacilityRead::Read(facility) = Facility::read(&line[12..16]) else {
+        return HeadRead::NoFacility;
+    };
+    let TypeRead::Read(kind) = MessageType::read(&line[16..18]) else {
+        return HeadRead::NoType;
+    };
+    HeadRead::Read(Head {
+        sequence,
+        stamp,
+        facility,
+        kind,
+    })
+}
+
+// An FZ over 439 bytes, counted from its type; n is the line's length.
+pub fn is_long_plan(kind: MessageType, n: usize) -> bool
+    ensures { λ r. ⌜ r ≡ isLongPlan kind n ⌝ }
+{
+    match kind {
+        MessageType::Fz => n > 455,
+        _ => false,
+    }
+}
+
+// The body after a head.
+fn read_rest(head: Head, line: &[u8]) -> LineRead
+    requires { ⌜ 18 ≤ length (now line) ⌝ }
+    ensures { λ r. ⌜ r ≡ restOf head (now (line .entry)) ⌝ }
+{
+    let kind = head.kind;
+    if is_long_plan(kind, line.len()) {
+        return LineRead::LongPlan;
+    }
+    let read = read_body(kind, &line[18..]);
+    match read {
+        BodyRead::Read(body, trailing) => {
+            let sequence = head.sequence;
+            let stamp = head.stamp;
+            let facility = head.facility;
+            LineRead::Read(Message {
+                sequence,
+                stamp,
+                facility,
+                body,
+                trailing,
+            })
+        }
+        BodyRead::Spacing => LineRead::Spacing,
+        BodyRead::Field(place) => LineRead::Field(place),
+        BodyRead::Number(place) => LineRead::Number(place),
+        BodyRead::Two(place) => LineRead::Two(place),
+    }
+}
+
+// Reads a line: any bytes, of any length.
+pub fn read(line: &[u8]) -> LineRead
+    ensures { λ r. ⌜ r ≡ readOf (now (line .entry)) ⌝ }
+{
+    if line.len() < 18 {
+        return LineRead::Short;
+    }
+    if line.len() > 2048 {
+        return LineRead::Long;
+    }
+    if !shapes::each_within(32, 126, line) {
+        return LineRead::Unprintable;
+    }
+    let head = read_head(line);
+    match head {
+        HeadRead::Read(head) => read_rest(head, line),
+        HeadRead::NoSequence => LineRead::NoSequence,
+        HeadRead::NoStamp => LineRead::NoStamp,
+        HeadRead::NoFacility => LineRead::NoFacility,
+        HeadRead::NoType => LineRead::NoType,
+    }
+}
+
+// The body of an RT, TO or HB, the route of an FZ, a UZ and of an AF with number 10, as that part of the line; of any other
+// line an empty part.
+pub fn free(line: &[u8]) -> &[u8]
+    ensures { λ r. ⌜ now r ≡ freeOf (now (line .entry)) ⌝ }
+{
+    if line.len() < 18 {
+        return &line[..0];
+    }
+    let TypeRead::Read(kind) = MessageType::read(&line[16..18]) else {
+        return &line[..0];
+    };
+    match kind {
+        MessageType::Rt => &line[18..],
+        MessageType::To => &line[18..],
+        MessageType::Hb => &line[18..],
+        _ => route(kind, &line[18..]),
+    }
+}
