@@ -24,7 +24,7 @@ use Rattle.table.proofs.Marks.{times}
 use Rattle.table.proofs.Theorems.{Sound, sound, complete, allowed-taken, body-printable}
 use Rattle.table.proofs.Routes.{Back, route-back, written-back}
 use Rattle.table.proofs.Amends.{marks-count}
-use Rattle.messages.specs.Table.{tableOf, isCount, kindsOf, countIn, answerBy, valuesBy, routeBy, freeIn}
+use Rattle.messages.specs.Table.{tableOf, hasFields, isCount, kindsOf, countIn, answerBy, valuesBy, routeBy, freeIn}
 use Rattle.messages.specs.Body.{typeIn, marksIn, fieldCount, valuesIn, spare, bodyFrom, typedOf, bodyRead}
 use Rattle.messages.specs.Allowed.{isWhole, hasRoute, kindsIn, bodyText, allNone, isFielded, isBody}
 use Rattle.messages.specs.declared.Body.{Body}
@@ -148,19 +148,6 @@ fields-held t s b u e = rw (← (x .is)) (record { type = same; good = good; tex
 
     text : bodyOf (textsFrom (kindsOf (typeIn c) (fieldCount c)) 0 r (valuesIn c)) u ≡ s
     text = rw (same, count, v .0) back
-
--- a type with fields
-abbrev hasFields : MessageType → Bool
-hasFields type.Rt = false
-hasFields type.To = false
-hasFields type.Hb = false
-hasFields type.Af = true
-hasFields type.Az = true
-hasFields type.Dz = true
-hasFields type.Fz = true
-hasFields type.Rz = true
-hasFields type.Tz = true
-hasFields type.Uz = true
 
 whole-not : (b : Body) → hasFields (typeIn b) ≡ true → isWhole b ≡ false
 whole-not (body.Af m) e = refl

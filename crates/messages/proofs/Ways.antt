@@ -101,7 +101,7 @@ pub count-dotted : (t : MessageType) (n : ℕ) → isCount t n ≡ true → n �
 unfolding dotted
 count-dotted t n e = rw length-append (omega (arith, count-kinds t n e))
 
-dotted-kinds : (t : MessageType) (n : ℕ) → isCount t n ≡ true → take n (dotted t) ≡ kindsOf t n
+pub dotted-kinds : (t : MessageType) (n : ℕ) → isCount t n ≡ true → take n (dotted t) ≡ kindsOf t n
 unfolding dotted kindsOf
 dotted-kinds t n e = take-append-le n (tableOf t) _ (count-kinds t n e)
 

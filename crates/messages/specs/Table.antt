@@ -1,7 +1,7 @@
 -- Document 01's table, "type, fields in order", and a body read by it. Assumes nothing.
 use Prim.Native.Nat.{ℕ, zero, suc, _-_, _%_}
 use Prim.Native.Char.{code}
-use mathlib.Core.Bool.{Bool, cond, _&&_}
+use mathlib.Core.Bool.{Bool, true, false, cond, _&&_}
 use mathlib.Core.List.{List, [], _∷_, _++_}
 use lib.Dec.{eqb, leb}
 use lib.ListN.{length, take, replicate}
@@ -49,6 +49,19 @@ isCount Uz n = eqb n 7
 isCount Rt n = eqb n 0
 isCount To n = eqb n 0
 isCount Hb n = eqb n 0
+
+-- the types whose body is fields; "RT, TO and HB bodies are kept whole"
+abbrev pub hasFields : MessageType → Bool
+hasFields Af = true
+hasFields Az = true
+hasFields Dz = true
+hasFields Fz = true
+hasFields Rz = true
+hasFields Tz = true
+hasFields Uz = true
+hasFields Rt = false
+hasFields To = false
+hasFields Hb = false
 
 -- the kinds of n fields
 unfoldable pub kindsOf : MessageType → ℕ → List ℕ

@@ -20,7 +20,6 @@ ghost use lib.Count.{ones};
 ghost use Rattle.messages.specs.Body.{planLevel};
 
 pub mod from;
-pub mod values;
 
 pub struct Az {
     pub ident: Ident,

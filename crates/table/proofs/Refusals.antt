@@ -12,6 +12,7 @@ use Rattle.spacing.proofs.Laws.{fields-text, fields-body}
 use Rattle.kinds.specs.Field.{readIn, leftOf, marksOf}
 use Rattle.kinds.specs.declared.read.FieldRead.{FieldRead}
 use Rattle.kinds.specs.declared.read.FieldRead.the-variants as field
+use Rattle.table.specs.Fault.{leftAfter, marksAfter, First}
 use Rattle.table.specs.Read.{more, valuesFrom, faultAt, orElse, answerFrom, counted, answers, answerOf}
 use Rattle.table.specs.declared.Answer.{Answer}
 use Rattle.table.specs.declared.Answer.the-variants.{Taken, Spacing, Field, Number, Two}
@@ -48,23 +49,6 @@ spacing-only ks body h = go (fieldsOf body) refl
         at : (b : Bool) → counted ks fs ≡ b → answerOf ks body ≡ Spacing
         at true c = let x = fields-text body fs t q in absurd (h fs t (x .1) (counted-known ks fs c .0) (x .0))
         at false c = rw (q, c)
-
--- what the fields leave, and the marks that are set after them
-unfoldable pub leftAfter : List ℕ → ℕ → List (List ℕ) → ℕ
-leftAfter [] p fs = p
-leftAfter (k ∷ ks) p [] = p
-leftAfter (k ∷ ks) p (f ∷ fs) = leftAfter ks (leftOf k f) fs
-
-unfoldable pub marksAfter : List ℕ → ℕ → List (List ℕ) → ℕ
-marksAfter [] m fs = m
-marksAfter (k ∷ ks) m [] = m
-marksAfter (k ∷ ks) m (f ∷ fs) = marksAfter ks (marksOf k m f) fs
-
--- 4. a fault is that of the first field that is not read: the field i is answered a, and all before it are read
-pub record First (ks : List ℕ) (p m : ℕ) (fs : List (List ℕ)) (i : ℕ) (a : FieldRead) : Type 0 where
-  pub inside : i < length ks
-  pub earlier : length (valuesFrom (take i ks) p m (take i fs)) ≡ i
-  pub here : readIn (getD ks i 0) (leftAfter (take i ks) p (take i fs)) (marksAfter (take i ks) m (take i fs)) (getD fs i []) ≡ a
 
 -- an answer that is no value
 abbrev pub isFault : FieldRead → Bool
@@ -108,6 +92,7 @@ or-fault n field.Nothing rest h = refl
 or-fault n field.Number rest h = refl
 or-fault n field.Two rest h = refl
 
+-- 4. a fault is that of the first field that is not read
 fault-first : (n : ℕ) (t : Bool) (ks : List ℕ) (p m : ℕ) (fs : List (List ℕ)) (j : ℕ) (a : FieldRead) → isFault a ≡ true → answerFrom n t ks p m fs ≡ faultAt j a
     → let i = length (valuesFrom ks p m fs) in (j ≡ n + i) × First ks p m fs i a
 unfolding answerFrom valuesFrom leftAfter marksAfter
@@ -180,3 +165,12 @@ unfolding answerOf answers
 bad-only ks body i a few h b =
     let z : i + 1 ≡ 1 + i = omega arith in
     rw (b .split, counted-is ks (b .fields) (b .count) few, z) (first-fault 1 (b .trailing) ks 0 0 (b .fields) i a h (b .count) (b .first))
+
+-- a place is one more than an index
+pub bad-at : (ks body : List ℕ) (j : ℕ) (a : FieldRead) → isFault a ≡ true → answerOf ks body ≡ faultAt j a → (i : ℕ) × (j ≡ i + 1) × Bad ks body i a
+bad-at ks body j a h e =
+    let s = parted ks body (faultAt j a) e (fault-spacing j a h) in
+    let i = length (valuesFrom ks 0 0 (s .fields)) in
+    let x = fault-first 1 (s .trailing) ks 0 0 (s .fields) j a h (s .answer) in
+    let z : j ≡ i + 1 = omega (arith, x .0) in
+    (i, z, bad ks body i a h (e ∙ ap (λ n. faultAt n a) z))

@@ -1,0 +1,70 @@
+-- THE CASES of document 01's answer numbers for a line, one for each row of its table, with the place that the row gives (0
+-- where it gives none). `proofs/Cases` shows that each line has the number and the place of its case, and of no other.
+-- Assumes nothing.
+use Prim.Native.Nat.{ℕ, suc, _-_, _≤_, _<_}
+use mathlib.Core.Path.{_≡_}
+use mathlib.Core.Bool.{Bool, true, false}
+use mathlib.Core.List.{List}
+use lib.ListN.{length, drop}
+use Rattle.text.specs.Place.{allIn}
+use Rattle.shapes.specs.Picture.{part}
+use Rattle.forms.specs.Form.{isSequence, isStamp, isFacility}
+use Rattle.heads.specs.Message.{typeText}
+use Rattle.heads.specs.declared.MessageType.{MessageType}
+use Rattle.heads.specs.declared.MessageType.the-variants as type
+use Rattle.spacing.specs.Body.{bodyOf, allFields}
+use Rattle.kinds.specs.declared.read.FieldRead.{FieldRead}
+use Rattle.kinds.specs.declared.read.FieldRead.the-variants as field
+use Rattle.table.specs.Fault.{First}
+use Rattle.messages.specs.Table.{hasFields, isCount, kindsOf}
+use Rattle.messages.specs.declared.Message.{Message}
+use Rattle.line.specs.Line.{lineOf, isAllowed, isLongPlan}
+
+-- 18 to 2,048 bytes, each 32 to 126
+pub record Framed (s : List ℕ) : Type 0 where
+  pub enough : 18 ≤ length s
+  pub few : length s ≤ 2048
+  pub printable : allIn 32 126 s ≡ true
+
+-- and a head of the type t
+pub record Headed (s : List ℕ) (t : MessageType) : Type 0 where
+  pub framed : Framed s
+  pub sequence : isSequence (part 0 4 s) ≡ true
+  pub stamp : isStamp (part 4 8 s) ≡ true
+  pub facility : isFacility (part 12 4 s) ≡ true
+  pub type : part 16 2 s ≡ typeText t
+
+-- a body whose spacing and count are right: its field i is answered a, and all fields before it are read
+pub record Faulty (t : MessageType) (b : List ℕ) (i : ℕ) (a : FieldRead) : Type 0 where
+  pub fields : List (List ℕ)
+  pub trailing : Bool
+  pub text : bodyOf fields trailing ≡ b
+  pub every : allFields fields ≡ true
+  pub count : isCount t (length fields) ≡ true
+  pub first : First (kindsOf t (length fields)) 0 0 fields i a
+
+-- Case s n p: the line s is in the case of the number n, with the place p
+pub data Case (s : List ℕ) : ℕ → ℕ → Type 0 where
+  -- 0: taken
+  Taken : (m : Message) (r : List ℕ) → isAllowed m r ≡ true → lineOf m r ≡ s → Case s 0 0
+  -- 1: line under 18 bytes
+  Short : length s < 18 → Case s 1 0
+  -- 2: line over 2,048 bytes
+  Long : 2048 < length s → Case s 2 0
+  -- 3: a byte outside 32 to 126
+  Unprintable : 18 ≤ length s → length s ≤ 2048 → allIn 32 126 s ≡ false → Case s 3 0
+  -- 4, 5, 6, 7: sequence, stamp, facility, type wrong
+  NoSequence : Framed s → isSequence (part 0 4 s) ≡ false → Case s 4 0
+  NoStamp : Framed s → isSequence (part 0 4 s) ≡ true → isStamp (part 4 8 s) ≡ false → Case s 5 0
+  NoFacility : Framed s → isSequence (part 0 4 s) ≡ true → isStamp (part 4 8 s) ≡ true → isFacility (part 12 4 s) ≡ false → Case s 6 0
+  NoType : Framed s → isSequence (part 0 4 s) ≡ true → isStamp (part 4 8 s) ≡ true → isFacility (part 12 4 s) ≡ true → ((t : MessageType) → part 16 2 s ≡ typeText t → ⊥) → Case s 7 0
+  -- 8: body spacing or field count wrong
+  Spacing : (t : MessageType) → Headed s t → isLongPlan t (length s) ≡ false → hasFields t ≡ true → ((fs : List (List ℕ)) (u : Bool) → allFields fs ≡ true → isCount t (length fs) ≡ true → bodyOf fs u ≡ drop 18 s → ⊥) → Case s 8 0
+  -- 9: a field without a reading; its place is given, 1 for the ident
+  Field : (t : MessageType) (i : ℕ) → Headed s t → isLongPlan t (length s) ≡ false → Faulty t (drop 18 s) i field.Nothing → Case s 9 (suc i)
+  -- 10: an AF number field that is none of the eight, or come twice; its place
+  Number : (t : MessageType) (i : ℕ) → Headed s t → isLongPlan t (length s) ≡ false → Faulty t (drop 18 s) i field.Number → Case s 10 (suc i)
+  -- 11: FZ over 439 bytes, counted from its type
+  LongPlan : Headed s type.Fz → 439 < length s - 16 → Case s 11 0
+  -- 18: an aircraft field with two different readings; its place
+  Two : (t : MessageType) (i : ℕ) → Headed s t → isLongPlan t (length s) ≡ false → Faulty t (drop 18 s) i field.Two → Case s 18 (suc i)

@@ -1,0 +1,25 @@
+-- The first field that is not read. Assumes nothing.
+use Prim.Native.Nat.{ℕ, _<_}
+use mathlib.Core.Path.{_≡_}
+use mathlib.Core.List.{List, [], _∷_}
+use lib.ListN.{length, take, getD}
+use Rattle.kinds.specs.Field.{readIn, leftOf, marksOf}
+use Rattle.kinds.specs.declared.read.FieldRead.{FieldRead}
+use Rattle.table.specs.Read.{valuesFrom}
+
+-- what the fields leave for the next one, and the marks that are set after them
+unfoldable pub leftAfter : List ℕ → ℕ → List (List ℕ) → ℕ
+leftAfter [] p fs = p
+leftAfter (k ∷ ks) p [] = p
+leftAfter (k ∷ ks) p (f ∷ fs) = leftAfter ks (leftOf k f) fs
+
+unfoldable pub marksAfter : List ℕ → ℕ → List (List ℕ) → ℕ
+marksAfter [] m fs = m
+marksAfter (k ∷ ks) m [] = m
+marksAfter (k ∷ ks) m (f ∷ fs) = marksAfter ks (marksOf k m f) fs
+
+-- the field i is answered a, and all before it are read
+pub record First (ks : List ℕ) (p m : ℕ) (fs : List (List ℕ)) (i : ℕ) (a : FieldRead) : Type 0 where
+  pub inside : i < length ks
+  pub earlier : length (valuesFrom (take i ks) p m (take i fs)) ≡ i
+  pub here : readIn (getD ks i 0) (leftAfter (take i ks) p (take i fs)) (marksAfter (take i ks) m (take i fs)) (getD fs i []) ≡ a

@@ -1,0 +1,207 @@
+-- Writing a line part by part: the rest of a buffer lent on, a writer that has room, and fields one after the other. Assumes
+-- nothing.
+use mathlib.Core.Path.{_≡_, refl, sym, ap, _∙_}
+use mathlib.Core.Bool.{Bool, true, false, and-false}
+use mathlib.Core.List.{List, [], _∷_, _++_, append-nil, append-assoc}
+use Prim.Native.Nat.{ℕ, _+_, _-_, _≤_, _<_}
+use native.Mathlib.Nat.{zero-add, add-zero, le-of-eq}
+use native.Mathlib.Omega.{arith}
+use lib.ListN.{length, take, drop, set, length-set, length-drop, length-append, drop-of-length-le, take-append-drop}
+use lib.Seq.{drop-drop}
+use borrow.Rule.Slice.PartMut.{putMid}
+use Rattle.text.specs.Text.{spliced, writtenNext, writtenBytes}
+use Rattle.text.specs.declared.Sized.the-variants as sized
+use Rattle.text.specs.declared.Written.the-variants.{Next}
+use Rattle.text.proofs.Logic.{true-false, not-fails}
+use Rattle.text.proofs.Laws.{has-room, next-known}
+use Rattle.text.proofs.Splice.{set-spliced, spliced-next, next-store, length-spliced, take-spliced}
+use Rattle.shapes.proofs.Laws.{rest-all}
+use Rattle.spacing.specs.Body.{space, bodyOf}
+use Rattle.kinds.specs.Field.{leftOf, shown}
+use Rattle.kinds.specs.declared.Value.{Value}
+use Rattle.heads.specs.declared.MessageType.{MessageType}
+use Rattle.table.specs.Show.{textsFrom, allowedFrom}
+use Rattle.messages.specs.Table.{isCount}
+use Rattle.messages.specs.Body.{typeIn, fieldCount, valuesIn}
+use Rattle.messages.specs.Allowed.{isWhole, kindsIn, bodyText, isFielded, isBody}
+use Rattle.messages.specs.declared.Body.{Body}
+use Rattle.messages.specs.declared.Message.{Message}
+use Rattle.messages.proofs.Tables.{table-few}
+use Rattle.line.specs.Line.{lineOf, isAllowed}
+use Rattle.writer.specs.Size.{fieldsText, sizedLine, PutAsks, BodyAsks}
+use Rattle.writer.proofs.Lines.{Has, has-kinds, has-values, has-length, bytes-known, bytes-unknown}
+
+-- ---- bytes
+
+-- what is written at the start of the rest that is lent on, from m, is written at m
+pub lend-on : (l us : List ℕ) (m : ℕ) {ys : List ℕ} → ys ≡ spliced (take (length l - m) (drop m l)) 0 us → putMid m (length l - m) l ys ≡ spliced l m us
+unfolding spliced
+lend-on l us m e =
+    let after = us ++ drop (0 + length us) (drop m l) in
+    rw (e, rest-all l m, drop-of-length-le (drop m l) (le-of-eq (length-drop m l)), append-nil after, zero-add, drop-drop (length us) m l)
+    (sym (append-assoc (take m l) us (drop (m + length us) l)))
+
+-- a writer that has a text, and room for it, writes it
+pub wrote : (vs out : List ℕ) (at : ℕ) {ok : Bool} {o : List ℕ} → ok ≡ true → at + length vs ≤ length out → o ≡ writtenBytes ok vs out at → o ≡ spliced out at vs
+wrote vs out at e h is = is ∙ sym (has-room vs out at e h .1)
+
+-- the same, at the start, where it answered a place
+module _ (ok : Bool) (vs out : List ℕ) {n : ℕ} {o : List ℕ} (told : writtenNext ok vs out 0 ≡ Next n) (is : o ≡ writtenBytes ok vs out 0) where
+  pub next-size : n ≡ length vs
+  next-size = omega (arith, next-known vs out 0 told .1)
+
+  pub next-bytes : o ≡ spliced out 0 vs
+  next-bytes = let k = next-known vs out 0 told in wrote vs out 0 (k .0) (k .2) is
+
+  pub next-inside : n ≤ length o
+  next-inside =
+      let k = next-known vs out 0 told in
+      omega (arith, next-size, ap length next-bytes, length-spliced out vs 0 (k .2), k .2)
+
+  pub next-text : take n o ≡ vs
+  next-text = ap (take n) next-bytes ∙ take-spliced out vs n next-size
+
+pub spliced-none : (l : List ℕ) (i : ℕ) → spliced l i [] ≡ l
+unfolding spliced
+spliced-none l i = rw (append-nil, add-zero) (take-append-drop i l)
+
+-- a byte stored, and bytes after it
+pub stored-next : (l us : List ℕ) (i b : ℕ) → i < length l → spliced (set l i b) (i + 1) us ≡ spliced l i (b ∷ us)
+stored-next l us i b h = rw (set-spliced l i b h) (spliced-next l (b ∷ []) us i (omega arith))
+
+-- ---- fields
+
+pub fields-none : (p : ℕ) (r : List ℕ) (vs : List Value) → bodyOf (textsFrom [] p r vs) false ≡ []
+unfolding bodyOf textsFrom
+fields-none p r vs = refl
+
+module _ (k : ℕ) (ks : List ℕ) (p : ℕ) (r : List ℕ) (v : Value) (vs : List Value) where
+  -- what is left after the first field
+  abbrev pub fieldsAfter : List ℕ
+  fieldsAfter = bodyOf (textsFrom ks (leftOf k (shown k p r v)) r vs) false
+
+  pub fields-next : bodyOf (textsFrom (k ∷ ks) p r (v ∷ vs)) false ≡ space ∷ (shown k p r v ++ fieldsAfter)
+  unfolding bodyOf textsFrom
+  fields-next = refl
+
+  pub fields-length : length (bodyOf (textsFrom (k ∷ ks) p r (v ∷ vs)) false) ≡ 1 + length (shown k p r v) + length fieldsAfter
+  fields-length = omega (arith, ap length fields-next, length-append (shown k p r v) fieldsAfter)
+
+-- a space stored and a field after it, and what is left written after both, is what is left before
+pub fields-turn : (out f us : List ℕ) (at : ℕ) → at + 1 + length f ≤ length out
+    → spliced (spliced (set out at space) (at + 1) f) (at + 1 + length f) us ≡ spliced out at (space ∷ (f ++ us))
+fields-turn out f us at h =
+    let k : at + 1 + length f ≤ length (set out at space) = simp length-set (omega arith) in
+    spliced-next (set out at space) f us (at + 1) k ∙ stored-next out (f ++ us) at space (omega arith)
+
+-- ---- a body
+
+body-space : (fs : List (List ℕ)) → bodyOf fs true ≡ bodyOf fs false ++ space ∷ []
+unfolding bodyOf
+body-space [] = refl
+body-space (f ∷ fs) = rw (body-space fs) (ap (λ (l : List ℕ). space ∷ l) (sym (append-assoc f (bodyOf fs false) (space ∷ []))))
+
+module _ (b : Body) (r : List ℕ) (t : Bool) (out : List ℕ) (a : BodyAsks b r t out) where
+  pub whole-wrote : isWhole b ≡ true → {o : List ℕ} → o ≡ writtenBytes true r out 0 → o ≡ spliced out 0 (bodyText b r t)
+  unfolding bodyText
+  whole-wrote e w =
+      let h : length r ≤ length out = rw e at (a .room) in
+      rw e (wrote r out 0 refl (omega arith) w)
+
+  module _ (parted : isWhole b ≡ false) where
+    fielded : isFielded b r ≡ true
+    unfolding isBody
+    fielded = rw parted at (a .good)
+
+    pub right-count : isCount (typeIn b) (fieldCount b) ≡ true
+    unfolding isFielded
+    right-count = not-fails _ (λ q. true-false (rw q at fielded) refl)
+
+    allowed : allowedFrom (kindsIn b) 0 0 r (valuesIn b) ≡ true
+    unfolding isFielded
+    allowed = not-fails _ (λ q. true-false (rw (q, and-false) at fielded) refl)
+
+  module _ (parted : isWhole b ≡ false) {k : MessageType} {n : ℕ} {ks : List ℕ} {vs : List Value} (has : Has b k n ks vs) where
+    kinds-are : take n ks ≡ kindsIn b
+    unfolding kindsIn
+    kinds-are = has-kinds has ∙ rw (has .type, has .count)
+
+    -- what is written of it, but for a space at its end
+    abbrev pub unspaced : List ℕ
+    unspaced = fieldsText (take n ks) r (take (length (take n ks)) vs)
+
+    text-is : bodyOf (textsFrom (kindsIn b) 0 r (valuesIn b)) false ≡ unspaced
+    unfolding fieldsText
+    text-is = rw (has-values has, kinds-are)
+
+    plain-is : t ≡ false → bodyText b r t ≡ unspaced
+    unfolding bodyText
+    plain-is h = rw (parted, h) text-is
+
+    spaced-is : t ≡ true → bodyText b r t ≡ unspaced ++ space ∷ []
+    unfolding bodyText
+    spaced-is h = rw (parted, h) (body-space (textsFrom (kindsIn b) 0 r (valuesIn b)) ∙ ap (λ (l : List ℕ). l ++ space ∷ []) text-is)
+
+    fits : length unspaced ≤ length out
+    fits = go t refl
+      where
+        go : (x : Bool) → t ≡ x → length unspaced ≤ length out
+        go true h = omega (arith, a .room, ap length (spaced-is h), length-append unspaced (space ∷ []))
+        go false h = omega (arith, a .room, ap length (plain-is h))
+
+    pub all-asks : PutAsks (take n ks) r (take (length (take n ks)) vs) out
+    all-asks = record { few = rw (has-length has) (table-few k n (has .right)); good = rw (has-values has, kinds-are) (allowed parted); room = fits }
+
+    pub plain-wrote : t ≡ false → {o : List ℕ} → o ≡ spliced out 0 unspaced → o ≡ spliced out 0 (bodyText b r t)
+    plain-wrote h w = w ∙ ap (spliced out 0) (sym (plain-is h))
+
+    -- the space after the fields
+    module _ (h : t ≡ true) {end : ℕ} {o : List ℕ} (ends : end ≡ length unspaced) (w : o ≡ spliced out 0 unspaced) where
+      more : end < length out
+      more = omega (arith, ends, a .room, ap length (spaced-is h), length-append unspaced (space ∷ []))
+
+      pub space-inside : end < length o
+      space-inside = omega (arith, more, ends, ap length w, length-spliced out unspaced 0 (omega (arith, fits)))
+
+      pub spaced-wrote : set o end space ≡ spliced out 0 (bodyText b r t)
+      spaced-wrote =
+          let z : end ≡ 0 + length unspaced = omega (arith, ends) in
+          let i : 0 + length unspaced < length out = omega (arith, more, ends) in
+          rw (w, z) (next-store out unspaced 0 space i) ∙ ap (spliced out 0) (sym (spaced-is h))
+
+-- ---- the parts of a line
+
+-- what is lent on of o, from m
+abbrev pub restFrom : ℕ → List ℕ → List ℕ
+restFrom m o = take (length o - m) (drop m o)
+
+-- o, and ys in the place of what was lent on
+abbrev pub given : ℕ → List ℕ → List ℕ → List ℕ
+given m o ys = putMid m (length o - m) o ys
+
+-- vs stand at the start of o, and us are written at the start of the rest after them
+module _ (l vs us : List ℕ) (m : ℕ) {o : List ℕ} (size : length vs ≡ m) (fits : m + length us ≤ length l) (is : o ≡ spliced l 0 vs) where
+  same : length o ≡ length l
+  same = ap length is ∙ length-spliced l vs 0 (omega arith)
+
+  pub rest-long : length us ≤ length (restFrom m o)
+  rest-long = rw (rest-all o m) (omega (arith, same, length-drop m o))
+
+  pub part-next : {ys : List ℕ} → ys ≡ spliced (restFrom m o) 0 us → given m o ys ≡ spliced l 0 (vs ++ us)
+  part-next w =
+      let z : m ≡ 0 + length vs = omega arith in
+      lend-on o us m w ∙ rw (is, z) (spliced-next l vs us 0 (omega arith))
+
+  pub written-next : {ok : Bool} {ys : List ℕ} → ok ≡ true → ys ≡ writtenBytes ok us (restFrom m o) 0 → given m o ys ≡ spliced l 0 (vs ++ us)
+  written-next e w = part-next (wrote us (restFrom m o) 0 e (omega (arith, rest-long)) w)
+
+-- ---- a line by its size
+
+module _ (m : Message) (r : List ℕ) where
+  pub line-known : {n : ℕ} → sizedLine m r ≡ sized.Bytes n → (isAllowed m r ≡ true) × (n ≡ length (lineOf m r))
+  unfolding sizedLine
+  line-known e = bytes-known (isAllowed m r) (length (lineOf m r)) e
+
+  pub line-unknown : sizedLine m r ≡ sized.NotOne → isAllowed m r ≡ false
+  unfolding sizedLine
+  line-unknown e = bytes-unknown (isAllowed m r) (length (lineOf m r)) e

@@ -1,0 +1,120 @@
+// A message written as its line: what it takes is known before a byte is written.
+use kinds::Value;
+use kinds::put::put_field;
+use messages::Body;
+use messages::Message;
+use messages::from::kinds_of;
+use size::size_line;
+use text::Sized;
+use text::Written;
+use text::put_bytes;
+use values::field_count;
+use values::is_whole;
+use values::type_in;
+use values::values_in;
+ghost use mathlib.Core.Path.{_≡_};
+ghost use lib.ListN.{length, take};
+ghost use Rattle.text.specs.Text.{spliced, writtenNext, writtenBytes};
+ghost use Rattle.kinds.specs.Field.{leftOf, shown};
+ghost use Rattle.messages.specs.Allowed.{bodyText};
+ghost use Rattle.line.specs.Line.{lineOf, isAllowed};
+ghost use Rattle.writer.specs.Size.{fieldsText, FieldAsks, PutAsks, BodyAsks, LineAsks};
+
+pub mod size;
+
+// Where a field's text ends, and what it leaves for the next one.
+pub struct Put {
+    pub end: usize,
+    pub left: u8,
+}
+
+// One field, at the start of what is left of the buffer.
+fn put_one(kind: u8, left: u8, v: Value, route: &[u8], out: &mut [u8]) -> Put
+    requires { ⌜ FieldAsks kind left (now route) v (now out) ⌝ }
+    ensures { λ r. ⌜ r .end ≡ length (shown kind left (now (route .entry)) v) ⌝ }
+    ensures { λ r. ⌜ r .left ≡ leftOf kind (shown kind left (now (route .entry)) v) ⌝ }
+    ensures { λ _. ⌜ now (out .exit) ≡ spliced (now (out .entry)) 0 (shown kind left (now (route .entry)) v) ⌝ }
+{
+    let written = put_field(kind, left, v, route, out, 0);
+    match written {
+        Written::Next(n) => Put {
+            end: n,
+            left: kinds::left(kind, &out[..n]),
+        },
+        Written::NoRoom => Put { end: 0, left: 0 },
+        Written::NoText => Put { end: 0, left: 0 },
+    }
+}
+
+// The fields, each after a space and into the rest of the buffer; the place after them.
+fn put_all(kinds: &[u8], values: [Value; 19], route: &[u8], out: &mut [u8]) -> usize
+    requires { ⌜ PutAsks (now kinds) (now route) (take (length (now kinds)) values) (now out) ⌝ }
+    ensures { λ r. ⌜ r ≡ length (fieldsText (now (kinds .entry)) (now (route .entry)) (take (length (now (kinds .entry))) values)) ⌝ }
+    ensures { λ _. ⌜ now (out .exit) ≡ spliced (now (out .entry)) 0 (fieldsText (now (kinds .entry)) (now (route .entry)) (take (length (now (kinds .entry))) values)) ⌝ }
+{
+    let mut at: usize = 0;
+    let mut k: usize = 0;
+    let mut left: u8 = 0;
+    while k < kinds.len() {
+        out[at] = b' ';
+        let j = at + 1;
+        let put = put_one(kinds[k], left, values[k], route, &mut out[j..]);
+        left = put.left;
+        at = j + put.end;
+        k += 1;
+    }
+    at
+}
+
+fn put_body(b: Body, free: &[u8], trailing: bool, out: &mut [u8])
+    requires { ⌜ BodyAsks b (now free) trailing (now out) ⌝ }
+    ensures { λ _. ⌜ now (out .exit) ≡ spliced (now (out .entry)) 0 (bodyText b (now (free .entry)) trailing) ⌝ }
+{
+    if is_whole(b) {
+        put_bytes(free, out, 0);
+        return;
+    }
+    let kinds = kinds_of(type_in(b));
+    let values = values_in(b);
+    let n = field_count(b);
+    let end = put_all(&kinds[..n], values, free, out);
+    if trailing {
+        out[end] = b' ';
+    }
+}
+
+// The line, each part into the rest of the buffer.
+fn put_line(m: Message, free: &[u8], out: &mut [u8])
+    requires { ⌜ LineAsks m (now free) (now out) ⌝ }
+    ensures { λ _. ⌜ now (out .exit) ≡ spliced (now (out .entry)) 0 (lineOf m (now (free .entry))) ⌝ }
+{
+    let sequence = m.sequence;
+    let stamp = m.stamp;
+    let facility = m.facility;
+    let body = m.body;
+    let kind = type_in(body);
+    sequence.put(out, 0);
+    stamp.put(&mut out[4..], 0);
+    facility.put(&mut out[12..], 0);
+    kind.put(&mut out[16..], 0);
+    put_body(body, free, m.trailing, &mut out[18..]);
+}
+
+// Writes a message's line from place `at`: 16 for values that no line has, then 15 where it does not fit; every other byte
+// stays, and where it refuses it writes nothing. No line feed is written.
+pub fn write(m: Message, free: &[u8], out: &mut [u8], at: usize) -> Written
+    ensures { λ r. ⌜ r ≡ writtenNext (isAllowed m (now (free .entry))) (lineOf m (now (free .entry))) (now (out .entry)) at ⌝ }
+    ensures { λ _. ⌜ now (out .exit) ≡ writtenBytes (isAllowed m (now (free .entry))) (lineOf m (now (free .entry))) (now (out .entry)) at ⌝ }
+{
+    let Sized::Bytes(n) = size_line(m, free) else {
+        return Written::NoText;
+    };
+    if at > out.len() {
+        return Written::NoRoom;
+    }
+    if n > out.len() - at {
+        return Written::NoRoom;
+    }
+    put_line(m, free, &mut out[at..]);
+    Written::Next(at + n)
+}
