@@ -2,4 +2,3 @@ pub mod Ways
 pub mod Unique
 pub mod Marks
 pub mod Laws
-pub mod UniquePut

@@ -80,7 +80,7 @@ fault-not t m j field.Nothing h e = absurd (let z : _≡_ {A = ℕ} 0 1 = cc in 
 fault-not t m j field.Number h e = absurd (let z : _≡_ {A = ℕ} 0 1 = cc in omega arith)
 fault-not t m j field.Two h e = absurd (let z : _≡_ {A = ℕ} 0 1 = cc in omega arith)
 
-fault-spacing : (j : ℕ) (a : FieldRead) → isFault a ≡ true → Spacing ≡ faultAt j a → ⊥
+pub fault-spacing : (j : ℕ) (a : FieldRead) → isFault a ≡ true → Spacing ≡ faultAt j a → ⊥
 fault-spacing j (field.Read v) h e = true-false h refl
 fault-spacing j field.Nothing h e = let z : _≡_ {A = ℕ} 0 1 = cc in omega arith
 fault-spacing j field.Number h e = let z : _≡_ {A = ℕ} 0 1 = cc in omega arith

@@ -3,20 +3,24 @@ use mathlib.Core.Path.{_≡_, refl}
 use mathlib.Core.List.{map}
 use Rattle.text.specs.Class.{all, isDigit, isLetter, isAlnum}
 use Rattle.text.specs.Code.{codeOf, byteOf}
-use Rattle.text.specs.Place.{value, digits}
+use Rattle.text.specs.Place.{value, places, digits, allIn}
 use Rattle.text.specs.Text.{packed, textOf}
 use Rattle.text.specs.Number.{isDigitTo, digitOf, isNumeral, numberOf, readNumber}
 use Rattle.shapes.specs.Picture.{isOf, fits, longer, pictures, fitsAny, oneOf, run, within}
 use Rattle.shapes.specs.Cut.{upTo, has, before, after, joins}
-use Rattle.forms.specs.Form.{isKey, isIdent, isTzIdent, isClock, isPosition}
+use Rattle.forms.specs.Form.{isStamp, isKey, isIdent, isTzIdent, isClock, isPosition}
 use Rattle.forms.specs.Kind.{isForm}
 use Rattle.words.specs.Word.{wordOf}
 use Rattle.words.specs.Pair.{isPairForm, pairOf}
 use Rattle.idents.specs.Ident.{identFrom, identOf}
 use Rattle.idents.specs.Aircraft.{plainOf, prefixedOf, aircraftOf}
+use Rattle.heads.specs.Facility.{facilityText}
+use Rattle.heads.specs.Message.{typeOf}
+use Rattle.messages.specs.Body.{bodyRead}
+use Rattle.line.specs.Read.{headOf, restOf, readOf, freeOf}
 use Rattle.meanings.specs.Meaning.{decimalOf, inMinutes, minutesOf}
-use Rattle.meanings.specs.Starred.{Row, answer, table}
+use Rattle.starred.specs.Starred.{Row, answer, table}
 
 pub starred : map (λ (r : Row). answer (r .asked)) table ≡ map (λ (r : Row). r .told) table
-unfolding all isDigit isLetter isAlnum codeOf byteOf value digits packed textOf isDigitTo digitOf isNumeral numberOf readNumber isOf fits longer pictures fitsAny oneOf run within upTo has before after joins isKey isIdent isTzIdent isClock isPosition isForm wordOf isPairForm pairOf identFrom identOf plainOf prefixedOf aircraftOf decimalOf inMinutes minutesOf
+unfolding facilityText typeOf bodyRead headOf restOf readOf freeOf allIn places isStamp all isDigit isLetter isAlnum codeOf byteOf value digits packed textOf isDigitTo digitOf isNumeral numberOf readNumber isOf fits longer pictures fitsAny oneOf run within upTo has before after joins isKey isIdent isTzIdent isClock isPosition isForm wordOf isPairForm pairOf identFrom identOf plainOf prefixedOf aircraftOf decimalOf inMinutes minutesOf
 starred = refl

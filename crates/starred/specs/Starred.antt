@@ -1,4 +1,4 @@
--- The starred readings of document 01 ("Known readings") that concern fields, as one table: what is asked, and the answer that
+-- The starred readings of document 01 ("Known readings") of lines and fields, as one table: what is asked, and the answer that
 -- document 01 gives. Assumes nothing.
 use Prim.Native.Nat.{ℕ}
 use Prim.Native.String.{String}
@@ -16,25 +16,49 @@ use Rattle.idents.specs.declared.ident.IdentRead.the-variants as ident
 use Rattle.idents.specs.Aircraft.{aircraftOf}
 use Rattle.idents.specs.declared.aircraft.AircraftRead.{AircraftRead}
 use Rattle.idents.specs.declared.aircraft.AircraftRead.the-variants as aircraft
+use Rattle.heads.specs.Facility.{facilityText}
+use Rattle.heads.specs.Message.{typeText}
+use Rattle.messages.specs.Body.{typeIn}
+use Rattle.line.specs.Read.{readOf, numberOf, freeOf}
+use Rattle.line.specs.declared.LineRead.{LineRead}
+use Rattle.line.specs.declared.LineRead.the-variants as line
 use Rattle.meanings.specs.Meaning.{minutesOf}
 use Rattle.meanings.specs.declared.Minutes.{Minutes}
 use Rattle.meanings.specs.declared.Minutes.the-variants as minutes
 
 pub data Question : Type 0 where
+  Line : String → Question
   Ident : String → Question
   Aircraft : String → Question
   Position : String → Question
   Minutes-of : String → Question
   Clock : String → Question
 
--- no reading; two readings; a reading with these parts; two signed numbers
+-- no reading; two readings; a reading with these parts; two signed numbers; a line refused with this number
 pub data Answer : Type 0 where
+  Refused : ℕ → Answer
   None : Answer
   Two : Answer
   Parts : List (List ℕ) → Answer
   Signed : ℤ → ℤ → Answer
 
 -- ---- what the definitions answer
+
+-- sequence number, stamp, facility and type of a line that is read, and its free text
+abbrev ofLine : LineRead → List ℕ → Answer
+ofLine (line.Read m) r = Parts (textOf (m .sequence .0) ∷ textOf (m .stamp .0) ∷ facilityText (m .facility .0) ∷ typeText (typeIn (m .body)) ∷ r ∷ [])
+ofLine line.Short r = Refused (numberOf line.Short)
+ofLine line.Long r = Refused (numberOf line.Long)
+ofLine line.Unprintable r = Refused (numberOf line.Unprintable)
+ofLine line.NoSequence r = Refused (numberOf line.NoSequence)
+ofLine line.NoStamp r = Refused (numberOf line.NoStamp)
+ofLine line.NoFacility r = Refused (numberOf line.NoFacility)
+ofLine line.NoType r = Refused (numberOf line.NoType)
+ofLine line.Spacing r = Refused (numberOf line.Spacing)
+ofLine (line.Field i) r = Refused (numberOf (line.Field i))
+ofLine (line.Number i) r = Refused (numberOf (line.Number i))
+ofLine line.LongPlan r = Refused (numberOf line.LongPlan)
+ofLine (line.Two i) r = Refused (numberOf (line.Two i))
 
 abbrev ofIdent : IdentRead → Answer
 ofIdent (ident.Read i) = Parts (textOf (i .key .0) ∷ textOf (i .number .0) ∷ [])
@@ -54,6 +78,7 @@ ofMinutes (minutes.At y x) = Signed y x
 ofMinutes minutes.NotOne = None
 
 abbrev pub answer : Question → Answer
+answer (Line t) = ofLine (readOf (bytes t)) (freeOf (bytes t))
 answer (Ident t) = ofIdent (identOf (bytes t))
 answer (Aircraft t) = ofAircraft (aircraftOf (bytes t))
 answer (Position t) = ofWord (wordOf POSITION (bytes t))
@@ -71,7 +96,9 @@ row q a = record { asked = q; told = a }
 
 abbrev pub table : List Row
 table =
-    row (Ident "N5") (Parts (bytes "N5" ∷ [] ∷ []))
+    row (Line "000006143655KZMAHB") (Parts (bytes "0000" ∷ bytes "06143655" ∷ bytes "KZMA" ∷ bytes "HB" ∷ [] ∷ []))
+    ∷ row (Line "000006143655KZMAH") (Refused 1)
+    ∷ row (Ident "N5") (Parts (bytes "N5" ∷ [] ∷ []))
     ∷ row (Ident "N") None
     ∷ row (Ident "ABCDEFG/12Z") (Parts (bytes "ABCDEFG" ∷ bytes "12Z" ∷ []))
     ∷ row (Aircraft "C172/A") (Parts ([] ∷ bytes "C172" ∷ bytes "A" ∷ []))

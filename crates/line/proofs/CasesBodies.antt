@@ -1,0 +1,141 @@
+-- The cases of a body with fields: its spacing and count are wrong exactly if no right fields have its text, and a fault at a
+-- place is that of the first field that is not read. Assumes nothing.
+use mathlib.Core.Path.{_≡_, refl, sym, ap, _∙_}
+use mathlib.Core.Bool.{Bool, true, false}
+use mathlib.Core.List.{List, []}
+use Prim.Native.Nat.{ℕ, suc, _+_, _<_}
+use native.Mathlib.Omega.{arith}
+use lib.ListN.{length, length-take}
+use Rattle.text.proofs.Logic.{true-false}
+use Rattle.heads.specs.declared.MessageType.{MessageType}
+use Rattle.heads.specs.declared.MessageType.the-variants.{Af, Az, Dz, Fz, Rz, Tz, Uz, Rt, To, Hb}
+use Rattle.spacing.specs.Body.{bodyOf, allFields, Fields, fieldsOf}
+use Rattle.spacing.proofs.Laws.{fields-text, fields-body}
+use Rattle.kinds.specs.declared.read.FieldRead.{FieldRead}
+use Rattle.kinds.specs.declared.read.FieldRead.the-variants as field
+use Rattle.table.specs.Read.{padded, faultAt, answerOf}
+use Rattle.table.specs.declared.Answer.the-variants.{Spacing}
+use Rattle.table.proofs.Refusals.{spacing, spacing-only, isFault, Bad, bad-at, bad-only, fault-spacing}
+use Rattle.messages.specs.Table.{hasFields, tableOf, isCount, kindsOf, countIn, answerBy, valuesBy}
+use Rattle.messages.specs.Body.{typedOf, bodyRead}
+use Rattle.messages.specs.declared.Body.{Body}
+use Rattle.messages.specs.declared.Body.the-variants as body
+use Rattle.messages.specs.declared.from.BodyRead.the-variants as read
+use Rattle.messages.proofs.Tables.{table-few}
+use Rattle.messages.proofs.Bodies.{kinds-length}
+use Rattle.line.specs.Cases.{Faulty}
+
+-- ---- a body is read by its table, or kept whole
+
+pub by-table : (t : MessageType) (b : List ℕ) → hasFields t ≡ true → bodyRead t b ≡ typedOf t (padded (valuesBy t b)) (answerBy t b)
+unfolding bodyRead
+by-table Af b e = refl
+by-table Az b e = refl
+by-table Dz b e = refl
+by-table Fz b e = refl
+by-table Rz b e = refl
+by-table Tz b e = refl
+by-table Uz b e = refl
+by-table Rt b e = true-false e refl
+by-table To b e = true-false e refl
+by-table Hb b e = true-false e refl
+
+pub kept-whole : (t : MessageType) (b : List ℕ) → hasFields t ≡ false → (x : Body) × (bodyRead t b ≡ read.Read x false)
+unfolding bodyRead
+kept-whole Af b e = true-false refl e
+kept-whole Az b e = true-false refl e
+kept-whole Dz b e = true-false refl e
+kept-whole Fz b e = true-false refl e
+kept-whole Rz b e = true-false refl e
+kept-whole Tz b e = true-false refl e
+kept-whole Uz b e = true-false refl e
+kept-whole Rt b e = (body.Rt, refl)
+kept-whole To b e = (body.To, refl)
+kept-whole Hb b e = (body.Hb, refl)
+
+-- a type that is kept whole has no field that could be wrong
+none-inside : (t : MessageType) (n i : ℕ) → tableOf t ≡ [] → i < length (kindsOf t n) → ⊥
+unfolding kindsOf
+none-inside t n i e h = omega (arith, length-take n (tableOf t), ap length e)
+
+pub faulty-fields : (t : MessageType) (b : List ℕ) (i : ℕ) (a : FieldRead) → Faulty t b i a → hasFields t ≡ true
+faulty-fields Af b i a f = refl
+faulty-fields Az b i a f = refl
+faulty-fields Dz b i a f = refl
+faulty-fields Fz b i a f = refl
+faulty-fields Rz b i a f = refl
+faulty-fields Tz b i a f = refl
+faulty-fields Uz b i a f = refl
+faulty-fields Rt b i a f = absurd (none-inside Rt (length (f .fields)) i refl (f .first .inside))
+faulty-fields To b i a f = absurd (none-inside To (length (f .fields)) i refl (f .first .inside))
+faulty-fields Hb b i a f = absurd (none-inside Hb (length (f .fields)) i refl (f .first .inside))
+
+-- ---- the fields of a body are counted
+
+module _ (t : MessageType) (b : List ℕ) where
+  module _ (fs : List (List ℕ)) (u : Bool) (every : allFields fs ≡ true) (text : bodyOf fs u ≡ b) where
+    split-is : fieldsOf b ≡ Fields fs u
+    split-is = rw text at (fields-body fs u every)
+
+    count-is : countIn b ≡ length fs
+    unfolding countIn
+    count-is = rw split-is
+
+    by-kinds : isCount t (length fs) ≡ true → answerBy t b ≡ answerOf (kindsOf t (length fs)) b
+    unfolding answerBy
+    by-kinds c = rw (count-is, c)
+
+  -- ---- spacing or count wrong
+
+  pub no-fields : answerBy t b ≡ Spacing → (fs : List (List ℕ)) (u : Bool) → allFields fs ≡ true → isCount t (length fs) ≡ true → bodyOf fs u ≡ b → ⊥
+  no-fields e fs u every c text =
+      let n = kinds-length t (length fs) c in
+      spacing (kindsOf t (length fs)) b (rw n (table-few t (length fs) c)) (sym (by-kinds fs u every text c) ∙ e) fs u every (sym n) text
+
+  pub fields-none : ((fs : List (List ℕ)) (u : Bool) → allFields fs ≡ true → isCount t (length fs) ≡ true → bodyOf fs u ≡ b → ⊥) → answerBy t b ≡ Spacing
+  unfolding answerBy
+  fields-none h = go (isCount t (countIn b)) refl
+    where
+      go : (c : Bool) → isCount t (countIn b) ≡ c → answerBy t b ≡ Spacing
+      go true q = rw q (spacing-only (kindsOf t (countIn b)) b (λ fs u every n text. h fs u every (rw (count-is fs u every text) at q) text))
+      go false q = rw q
+
+  -- ---- the first field that is not read, with any fault
+
+  pub fault-faulty : (j : ℕ) (a : FieldRead) → isFault a ≡ true → answerBy t b ≡ faultAt j a → (i : ℕ) × (j ≡ suc i) × Faulty t b i a
+  unfolding answerBy
+  fault-faulty j a h e = go (isCount t (countIn b)) refl
+    where
+      from : isCount t (countIn b) ≡ true → (i : ℕ) × (j ≡ i + 1) × Bad (kindsOf t (countIn b)) b i a → (i : ℕ) × (j ≡ suc i) × Faulty t b i a
+      from q (i, z, f) =
+          let n : countIn b ≡ length (f .fields) = sym (f .count ∙ kinds-length t (countIn b) q) in (
+            i,
+            omega (arith, z),
+            record {
+              fields = f .fields;
+              trailing = f .trailing;
+              text = f .text;
+              every = fields-text b (f .fields) (f .trailing) (f .split) .1;
+              count = rw n at q;
+              first = rw n at (f .first);
+            },
+          )
+
+      go : (c : Bool) → isCount t (countIn b) ≡ c → (i : ℕ) × (j ≡ suc i) × Faulty t b i a
+      go true q = from q (bad-at (kindsOf t (countIn b)) b j a h (rw q at e))
+      go false q = absurd (fault-spacing j a h (rw q at e))
+
+  pub faulty-fault : (i : ℕ) (a : FieldRead) → isFault a ≡ true → Faulty t b i a → answerBy t b ≡ faultAt (suc i) a
+  faulty-fault i a h f =
+      let n = kinds-length t (length (f .fields)) (f .count) in
+      let z : i + 1 ≡ suc i = omega arith in
+      by-kinds (f .fields) (f .trailing) (f .every) (f .text) (f .count)
+      ∙ bad-only (kindsOf t (length (f .fields))) b i a (rw n (table-few t (length (f .fields)) (f .count))) h (record {
+        fields = f .fields;
+        trailing = f .trailing;
+        split = split-is (f .fields) (f .trailing) (f .every) (f .text);
+        text = f .text;
+        count = sym n;
+        first = f .first;
+      })
+      ∙ ap (λ m. faultAt m a) z

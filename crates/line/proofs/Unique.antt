@@ -1,0 +1,17 @@
+-- Two answers that the promise of a public function of `line` allows are equal: of each, `Post` is its `ensures` as it stands in
+-- the source, r and r′ are two results, s and s′ two states at exit. Assumes nothing.
+use mathlib.Core.Path.{_≡_, sym, _∙_}
+use denote.Ref.{now}
+use Rattle.line.proofs.read.Reads as read
+use Rattle.line.proofs.free.Reads as free
+use Rattle.line.proofs.is_long_plan.Reads as is-long-plan
+
+pub is-long-plan-one : (κs : _) (a : _) (r r′ : _) (s s′ : _) → is-long-plan.Post κs a r s → is-long-plan.Post κs a r′ s′ → r ≡ r′
+is-long-plan-one κs a r r′ s s′ p q = p ∙ sym q
+
+pub read-one : (κs : _) (a : _) (r r′ : _) (s s′ : _) → read.Post κs a r s → read.Post κs a r′ s′ → r ≡ r′
+read-one κs a r r′ s s′ p q = p ∙ sym q
+
+-- the free text is a part of the line: its bytes are those of one list
+pub free-one : (κs : _) (a : _) (r r′ : _) (s s′ : _) → free.Post κs a r s → free.Post κs a r′ s′ → now r ≡ now r′
+free-one κs a r r′ s s′ p q = p ∙ sym q
