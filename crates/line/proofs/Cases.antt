@@ -202,3 +202,7 @@ module _ (s : List ℕ) where
       let x = case-only n p c in
       let y = case-only m q d in
       (sym (x .0) ∙ y .0, sym (x .1) ∙ y .1)
+
+  -- what `line::read` promises of its answer
+  pub told : {r : LineRead} → r ≡ readOf s → (r ≡ readOf s) × Case s (numberOf r) (placeOf r)
+  told e = (e, subst (λ (x : LineRead). Case s (numberOf x) (placeOf x)) (sym e) case-of)

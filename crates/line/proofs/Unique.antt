@@ -10,7 +10,7 @@ pub is-long-plan-one : (κs : _) (a : _) (r r′ : _) (s s′ : _) → is-long-p
 is-long-plan-one κs a r r′ s s′ p q = p ∙ sym q
 
 pub read-one : (κs : _) (a : _) (r r′ : _) (s s′ : _) → read.Post κs a r s → read.Post κs a r′ s′ → r ≡ r′
-read-one κs a r r′ s s′ p q = p ∙ sym q
+read-one κs a r r′ s s′ p q = p .0 ∙ sym (q .0)
 
 -- the free text is a part of the line: its bytes are those of one list
 pub free-one : (κs : _) (a : _) (r r′ : _) (s s′ : _) → free.Post κs a r s → free.Post κs a r′ s′ → now r ≡ now r′

@@ -15,7 +15,8 @@ ghost use mathlib.Core.Path.{_≡_};
 ghost use Prim.Native.Nat.{_≤_};
 ghost use lib.ListN.{length};
 ghost use Rattle.line.specs.Line.{isLongPlan};
-ghost use Rattle.line.specs.Read.{headOf, restOf, readOf, freeOf};
+ghost use Rattle.line.specs.Cases.{Case};
+ghost use Rattle.line.specs.Read.{headOf, restOf, readOf, numberOf, placeOf, freeOf};
 
 // A line that is read, or document 01's answers 1 to 11 and 18, with the place of the field.
 pub enum LineRead {
@@ -114,9 +115,10 @@ fn read_rest(head: Head, line: &[u8]) -> LineRead
     }
 }
 
-// Reads a line: any bytes, of any length.
+// Reads a line: any bytes, of any length. Its answer has the number and the place of the line's case in document 01's table.
 pub fn read(line: &[u8]) -> LineRead
     ensures { λ r. ⌜ r ≡ readOf (now (line .entry)) ⌝ }
+    ensures { λ r. ⌜ Case (now (line .entry)) (numberOf r) (placeOf r) ⌝ }
 {
     if line.len() < 18 {
         return LineRead::Short;

@@ -3,8 +3,9 @@
 use mathlib.Core.Path.{_≡_, refl, sym, ap, _∙_, subst}
 use mathlib.Core.Bool.{Bool, true, false, cond, not, _&&_, _||_}
 use mathlib.Core.List.{List, [], _∷_}
-use Prim.Native.Nat.{ℕ, suc, _+_, _≤_}
+use Prim.Native.Nat.{ℕ, suc, _+_, _*_, _≤_}
 use native.Mathlib.Omega.{arith}
+use lib.Count.{ones}
 use lib.Dec.{eqb}
 use lib.ListN.{length, take}
 use borrow.Author.Tests.{eq-eqb, eqb-true}
@@ -27,6 +28,7 @@ use Rattle.table.proofs.Amends.{marks-count}
 use Rattle.messages.specs.Table.{tableOf, hasFields, isCount, kindsOf, countIn, answerBy, valuesBy, routeBy, freeIn}
 use Rattle.messages.specs.Body.{typeIn, marksIn, fieldCount, valuesIn, spare, bodyFrom, typedOf, bodyRead}
 use Rattle.messages.specs.Allowed.{isWhole, hasRoute, kindsIn, bodyText, allNone, isFielded, isBody}
+use Rattle.messages.specs.declared.Af.{Af}
 use Rattle.messages.specs.declared.Body.{Body}
 use Rattle.messages.specs.declared.Body.the-variants as body
 use Rattle.messages.specs.declared.from.BodyRead.{BodyRead}
@@ -79,6 +81,7 @@ typed-taken t s b u e = go (isCount t (countIn s)) refl
 -- the text and the rules of what is read
 record Held (t : MessageType) (s : List ℕ) (b : Body) (u : Bool) : Type 0 where
   type : typeIn b ≡ t
+  fields : fieldCount b ≡ countIn s
   good : isFielded b (routeBy t s) ≡ true
   text : bodyOf (textsFrom (kindsIn b) 0 (routeBy t s) (valuesIn b)) u ≡ s
 
@@ -88,7 +91,7 @@ either false b h = h refl
 
 fields-held : (t : MessageType) (s : List ℕ) (b : Body) (u : Bool) → typedOf t (padded (valuesBy t s)) (answerBy t s) ≡ read.Read b u → Held t s b u
 unfolding isFielded kindsIn
-fields-held t s b u e = rw (← (x .is)) (record { type = same; good = good; text = text })
+fields-held t s b u e = rw (← (x .is)) (record { type = same; fields = count; good = good; text = text })
   where
     x : Taken t s b u
     x = typed-taken t s b u e
@@ -190,6 +193,11 @@ body-sound type.Fz s b u h e = fielded type.Fz s b u refl (fields-held type.Fz s
 body-sound type.Rz s b u h e = fielded type.Rz s b u refl (fields-held type.Rz s b u e)
 body-sound type.Tz s b u h e = fielded type.Tz s b u refl (fields-held type.Tz s b u e)
 body-sound type.Uz s b u h e = fielded type.Uz s b u refl (fields-held type.Uz s b u e)
+
+-- "the count of marks set is the count of amendments": an AF that is read has three fields, and two more for each mark
+pub marks-amendments : (s : List ℕ) (a : Af) (u : Bool) → bodyRead type.Af s ≡ read.Read (body.Af a) u → countIn s ≡ 3 + 2 * ones (a .marks)
+unfolding bodyRead
+marks-amendments s a u e = sym (fields-held type.Af s (body.Af a) u e .fields)
 
 -- ---- what is shown
 

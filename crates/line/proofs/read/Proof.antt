@@ -1,56 +1,57 @@
 -- `line::read` meets its contract: the answers in document 01's order. Assumes nothing.
 use mathlib.Core.Path.{sym, _∙_}
 use borrow.Author.Tests.{not-true, not-false}
+use Rattle.line.proofs.Cases.{told}
 use Rattle.line.proofs.Ways.{line-short, line-long, line-byte, line-head}
 use borrow.Author.Needs.{needs}
 use Rattle.line.proofs.read.Statement.{statement}
 use Rattle.line.proofs.read.Tie as tie
 
 returns : tie.Need-returns
-returns c = line-short _ (c .if1 .taken)
+returns c = told _ (line-short _ (c .if1 .taken))
 
 returns-2 : tie.Need-returns-2
-returns-2 c = line-long _ (c .before .if1 .left) (c .if2 .taken)
+returns-2 c = told _ (line-long _ (c .before .if1 .left) (c .if2 .taken))
 
 returns-3 : tie.Need-returns-3
 returns-3 c =
     let w = c .before in
-    line-byte _ (w .before .before .if1 .left) (w .before .if2 .left) (sym (w .each-within .ensures) ∙ not-true _ (c .if3 .taken))
+    told _ (line-byte _ (w .before .before .if1 .left) (w .before .if2 .left) (sym (w .each-within .ensures) ∙ not-true _ (c .if3 .taken)))
 
 returns-4 : tie.Need-returns-4
 returns-4 c =
     let h = c .before .before .before .before in
     let i = h .before in
     let w = i .before in
-    c .read-rest .ensures ∙ line-head _ (w .before .before .if1 .left) (w .before .if2 .left) (sym (w .each-within .ensures) ∙ not-false _ (i .if3 .left)) (sym (h .read-head .ensures) ∙ c .before .before .head .given .1)
+    told _ (c .read-rest .ensures ∙ line-head _ (w .before .before .if1 .left) (w .before .if2 .left) (sym (w .each-within .ensures) ∙ not-false _ (i .if3 .left)) (sym (h .read-head .ensures) ∙ c .before .before .head .given .1))
 
 returns-5 : tie.Need-returns-5
 returns-5 c =
     let h = c .before .before in
     let i = h .before in
     let w = i .before in
-    line-head _ (w .before .before .if1 .left) (w .before .if2 .left) (sym (w .each-within .ensures) ∙ not-false _ (i .if3 .left)) (sym (h .read-head .ensures) ∙ c .enum-told .given .1)
+    told _ (line-head _ (w .before .before .if1 .left) (w .before .if2 .left) (sym (w .each-within .ensures) ∙ not-false _ (i .if3 .left)) (sym (h .read-head .ensures) ∙ c .enum-told .given .1))
 
 returns-6 : tie.Need-returns-6
 returns-6 c =
     let h = c .before .before in
     let i = h .before in
     let w = i .before in
-    line-head _ (w .before .before .if1 .left) (w .before .if2 .left) (sym (w .each-within .ensures) ∙ not-false _ (i .if3 .left)) (sym (h .read-head .ensures) ∙ c .enum-told2 .given .1)
+    told _ (line-head _ (w .before .before .if1 .left) (w .before .if2 .left) (sym (w .each-within .ensures) ∙ not-false _ (i .if3 .left)) (sym (h .read-head .ensures) ∙ c .enum-told2 .given .1))
 
 returns-7 : tie.Need-returns-7
 returns-7 c =
     let h = c .before .before in
     let i = h .before in
     let w = i .before in
-    line-head _ (w .before .before .if1 .left) (w .before .if2 .left) (sym (w .each-within .ensures) ∙ not-false _ (i .if3 .left)) (sym (h .read-head .ensures) ∙ c .enum-told3 .given .1)
+    told _ (line-head _ (w .before .before .if1 .left) (w .before .if2 .left) (sym (w .each-within .ensures) ∙ not-false _ (i .if3 .left)) (sym (h .read-head .ensures) ∙ c .enum-told3 .given .1))
 
 returns-8 : tie.Need-returns-8
 returns-8 c =
     let h = c .before .before in
     let i = h .before in
     let w = i .before in
-    line-head _ (w .before .before .if1 .left) (w .before .if2 .left) (sym (w .each-within .ensures) ∙ not-false _ (i .if3 .left)) (sym (h .read-head .ensures) ∙ c .enum-told4 .given .1)
+    told _ (line-head _ (w .before .before .if1 .left) (w .before .if2 .left) (sym (w .each-within .ensures) ∙ not-false _ (i .if3 .left)) (sym (h .read-head .ensures) ∙ c .enum-told4 .given .1))
 
 pub read-spec : {M : Type 1} → statement M
 read-spec =
