@@ -6,15 +6,13 @@ use Prim.Native.Char.{code}
 use Prim.Native.Nat.{ℕ, _+_, _*_, _/_, _%_, _^_, _≤_, _<_, zero-le}
 use native.Mathlib.Omega.{arith}
 use lib.Dec.{leb, ltb, eqb, lit≤}
-use lib.ListN.{length, getD, set}
+use lib.ListN.{length, getD}
 use borrow.Author.Tests.{lt-ltb, ltb-true, leb-true, eqb-true}
 use Rattle.text.specs.Bytes.{bytes}
 use Rattle.text.specs.Class.{all, isDigit, isLetter, isAlnum}
 use Rattle.text.specs.Place.{value, places, allIn}
-use Rattle.text.specs.Text.{spliced}
 use Rattle.text.proofs.Logic.{and-left, and-right, true-false, either-of}
 use Rattle.text.proofs.Places.{value-lt, places-value, value-places, length-places, allIn-more}
-use Rattle.text.proofs.Splice.{set-spliced, next-store}
 use Rattle.shapes.specs.Picture.{isOf, fits, longer, pictures, fitsAny, oneOf}
 use Rattle.shapes.proofs.Laws.{fits-length}
 use Rattle.forms.specs.Form.{isFacility}
@@ -117,23 +115,3 @@ facility-complete f e =
 pub length-facility : (n : ℕ) → length (facilityText n) ≡ 4
 unfolding facilityText
 length-facility n = length-places 256 4 n
-
--- a list of four by its elements
-four-list : (s : List ℕ) → length s ≡ 4 → getD s 0 0 ∷ getD s 1 0 ∷ getD s 2 0 ∷ getD s 3 0 ∷ [] ≡ s
-four-list [] e = absurd (omega arith)
-four-list (a ∷ []) e = absurd (omega arith)
-four-list (a ∷ b ∷ []) e = absurd (omega arith)
-four-list (a ∷ b ∷ c ∷ []) e = absurd (omega arith)
-four-list (a ∷ b ∷ c ∷ d ∷ []) e = refl
-four-list (a ∷ b ∷ c ∷ d ∷ x ∷ s) e = absurd (omega arith)
-
--- four stores write the four
-pub four-stores : (l s : List ℕ) (i : ℕ) → length s ≡ 4 → i + 4 ≤ length l → set (set (set (set l i (getD s 0 0)) (i + 1) (getD s 1 0)) (i + 2) (getD s 2 0)) (i + 3) (getD s 3 0) ≡ spliced l i s
-four-stores l s i e h =
-    rw (
-      set-spliced l i (getD s 0 0) (omega arith),
-      next-store l (getD s 0 0 ∷ []) i (getD s 1 0) (omega arith),
-      next-store l (getD s 0 0 ∷ getD s 1 0 ∷ []) i (getD s 2 0) (omega arith),
-      next-store l (getD s 0 0 ∷ getD s 1 0 ∷ getD s 2 0 ∷ []) i (getD s 3 0) (omega arith),
-    )
-    (ap (spliced l i) (four-list s e))

@@ -5,12 +5,10 @@ use mathlib.Core.List.{List, [], _∷_}
 use Prim.Native.Nat.{ℕ, _+_, _*_, _/_, _%_, _≤_, _<_}
 use native.Mathlib.Omega.{arith}
 use lib.Dec.{eqb, lit≤}
-use lib.ListN.{length, getD, set}
+use lib.ListN.{length, getD}
 use borrow.Author.Tests.{eq-eqb, eqb-true}
 use Rattle.text.specs.Place.{value}
-use Rattle.text.specs.Text.{spliced}
 use Rattle.text.proofs.Logic.{and-left, and-right, same-test, true-false}
-use Rattle.text.proofs.Splice.{set-spliced, next-store}
 use Rattle.shapes.specs.Picture.{isOf, fits}
 use Rattle.shapes.proofs.Laws.{fits-apart}
 use Rattle.heads.specs.Message.{typeText, typeNumber, typeOf}
@@ -138,21 +136,19 @@ length-type Rt = refl
 length-type To = refl
 length-type Hb = refl
 
-type-letters : (t : MessageType) → typeNumber t / 256 % 256 ∷ typeNumber t % 256 ∷ [] ≡ typeText t
+letters-text : (t : MessageType) → typeNumber t / 256 % 256 ∷ typeNumber t % 256 ∷ [] ≡ typeText t
 unfolding value
-type-letters Af = refl
-type-letters Az = refl
-type-letters Dz = refl
-type-letters Fz = refl
-type-letters Rz = refl
-type-letters Tz = refl
-type-letters Uz = refl
-type-letters Rt = refl
-type-letters To = refl
-type-letters Hb = refl
+letters-text Af = refl
+letters-text Az = refl
+letters-text Dz = refl
+letters-text Fz = refl
+letters-text Rz = refl
+letters-text Tz = refl
+letters-text Uz = refl
+letters-text Rt = refl
+letters-text To = refl
+letters-text Hb = refl
 
--- two stores write the two letters
-pub two-stores : (l : List ℕ) (i n : ℕ) (t : MessageType) → n ≡ typeNumber t → i + 2 ≤ length l → set (set l i (n / 256 % 256)) (i + 1) (n % 256) ≡ spliced l i (typeText t)
-two-stores l i n t e h =
-    rw (set-spliced l i (n / 256 % 256) (omega arith), next-store l (n / 256 % 256 ∷ []) i (n % 256) (omega arith))
-    (rw e (ap (spliced l i) (type-letters t)))
+-- the two bytes of a type's number are its letters
+pub type-letters : (t : MessageType) {n : ℕ} → n ≡ typeNumber t → n / 256 % 256 ∷ n % 256 ∷ [] ≡ typeText t
+type-letters t e = rw e (letters-text t)

@@ -1,5 +1,6 @@
 // The fields of a line's head that are no short text: the facility, which may begin with spaces, and the message type.
 use text::Written;
+use text::put_bytes;
 ghost use mathlib.Core.Path.{_≡_};
 ghost use mathlib.Core.Bool.{true};
 ghost use Prim.Native.Nat.{_+_, _*_};
@@ -59,18 +60,8 @@ impl Facility {
         if !self.holds() {
             return Written::NoText;
         }
-        if at > out.len() {
-            return Written::NoRoom;
-        }
-        if 4 > out.len() - at {
-            return Written::NoRoom;
-        }
         let room = self.bytes();
-        out[at] = room[0];
-        out[at + 1] = room[1];
-        out[at + 2] = room[2];
-        out[at + 3] = room[3];
-        Written::Next(at + 4)
+        put_bytes(&room, out, at)
     }
 }
 
@@ -159,15 +150,8 @@ impl MessageType {
         ensures { λ r. ⌜ r ≡ writtenNext true (typeText self) (now (out .entry)) at ⌝ }
         ensures { λ _. ⌜ now (out .exit) ≡ writtenBytes true (typeText self) (now (out .entry)) at ⌝ }
     {
-        if at > out.len() {
-            return Written::NoRoom;
-        }
-        if 2 > out.len() - at {
-            return Written::NoRoom;
-        }
         let letters = self.letters();
-        out[at] = (letters / 256 % 256) as u8;
-        out[at + 1] = (letters % 256) as u8;
-        Written::Next(at + 2)
+        let room = [(letters / 256 % 256) as u8, (letters % 256) as u8];
+        put_bytes(&room, out, at)
     }
 }

@@ -1,8 +1,8 @@
 -- THE LAWS of short texts: a text and its number give each other. What `pack`, `size` and `put` find and do. Assumes nothing.
 use mathlib.Core.Path.{_≡_, refl, sym, ap, _∙_}
-use mathlib.Core.Bool.{Bool, true, false}
+use mathlib.Core.Bool.{Bool, true, false, not}
 use mathlib.Core.List.{List, [], _∷_, map}
-use Prim.Native.Nat.{ℕ, _+_, _^_, _≤_, _<_}
+use Prim.Native.Nat.{ℕ, _+_, _-_, _^_, _≤_, _<_}
 use native.Mathlib.Omega.{arith}
 use lib.Dec.{leb, ltb, lit≤}
 use lib.ListN.{length, take, drop, length-map}
@@ -14,7 +14,7 @@ use Rattle.text.specs.Place.{value, digits, tight, allIn}
 use Rattle.text.specs.Text.{packed, textOf, isText, isPacked, sizeOf, hasRoom, spliced, writtenNext, writtenBytes}
 use Rattle.text.specs.declared.Sized.the-variants.{Bytes, NotOne}
 use Rattle.text.specs.declared.Written.the-variants.{Next, NoRoom, NoText}
-use Rattle.text.proofs.Logic.{and-left, and-right}
+use Rattle.text.proofs.Logic.{and-left, and-right, so, not-so, same-test}
 use Rattle.text.proofs.Codes.{code-byte, byte-code, text-all}
 use Rattle.text.proofs.Places.{allIn-cons, digits-value, tight-value, value-lt, value-digits, digits-in, length-digits}
 
@@ -98,6 +98,12 @@ size-none t e = go (isPacked t) refl
 
 -- ---- what a writer answers and leaves, of any bytes vs
 
+-- n bytes from place `at` fit in all exactly if they fit in what is left from there
+pub room-left : (n len at : ℕ) → at ≤ len → leb n (len - at) ≡ leb (at + n) len
+room-left n len at h =
+    same-test (leb n (len - at)) (leb (at + n) len) (λ e. le-leb (at + n) len (omega (arith, leb-true n (len - at) e)))
+    (λ e. le-leb n (len - at) (omega (arith, leb-true (at + n) len e)))
+
 module _ (vs out : List ℕ) (at : ℕ) where
   pub no-text : {ok : Bool} → ok ≡ false → (NoText ≡ writtenNext ok vs out at) × (out ≡ writtenBytes ok vs out at)
   unfolding writtenNext writtenBytes
@@ -110,6 +116,14 @@ module _ (vs out : List ℕ) (at : ℕ) where
   pub has-room : {ok : Bool} → ok ≡ true → at + length vs ≤ length out → (Next (at + length vs) ≡ writtenNext ok vs out at) × (spliced out at vs ≡ writtenBytes ok vs out at)
   unfolding writtenNext writtenBytes hasRoom
   has-room e h = let f = le-leb (at + length vs) (length out) h in (rw (e, f), rw (e, f))
+
+  -- the same from what `has_room` answered for n, the size of vs
+  module _ {n : ℕ} {r : Bool} (size : n ≡ length vs) (told : r ≡ leb (at + n) (length out)) where
+    pub no-room-told : {ok : Bool} → ok ≡ true → not r ≡ true → (NoRoom ≡ writtenNext ok vs out at) × (out ≡ writtenBytes ok vs out at)
+    no-room-told e f = no-room e (omega (arith, leb-false (at + n) (length out) (not-so told f)))
+
+    pub room-told : not r ≡ false → at + length vs ≤ length out
+    room-told f = omega (arith, leb-true (at + n) (length out) (so told f))
 
   pub next-known : {ok : Bool} {n : ℕ} → writtenNext ok vs out at ≡ Next n → (ok ≡ true) × (n ≡ at + length vs) × (at + length vs ≤ length out)
   unfolding writtenNext hasRoom

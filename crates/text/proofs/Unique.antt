@@ -5,6 +5,7 @@ use denote.Ref.{now}
 use Rattle.text.proofs.code.Reads as code
 use Rattle.text.proofs.pack.Reads as pack
 use Rattle.text.proofs.size.Reads as size
+use Rattle.text.proofs.has_room.Reads as has-room
 use Rattle.text.proofs.put.Reads as put
 use Rattle.text.proofs.put_bytes.Reads as put-bytes
 use Rattle.text.proofs.join.Reads as join
@@ -18,6 +19,9 @@ pack-one κs a r r′ s s′ p q = p ∙ sym q
 
 pub size-one : (κs : _) (a : _) (r r′ : _) (s s′ : _) → size.Post κs a r s → size.Post κs a r′ s′ → r ≡ r′
 size-one κs a r r′ s s′ p q = p ∙ sym q
+
+pub has-room-one : (κs : _) (a : _) (r r′ : _) (s s′ : _) → has-room.Post κs a r s → has-room.Post κs a r′ s′ → r ≡ r′
+has-room-one κs a r r′ s s′ p q = p ∙ sym q
 
 pub put-one : (κs : _) (a : _) (r r′ : _) (s s′ : _) → put.Post κs a r s → put.Post κs a r′ s′ → (r ≡ r′) × (now (s .1 .0) ≡ now (s′ .1 .0))
 put-one κs a r r′ s s′ p q = (p .0 ∙ sym (q .0), p .1 ∙ sym (q .1))

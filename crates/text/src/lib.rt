@@ -3,6 +3,7 @@
 ghost use mathlib.Core.Path.{_≡_};
 ghost use mathlib.Core.Bool.{true};
 ghost use Prim.Native.Nat.{_+_, _≤_};
+ghost use lib.Dec.{leb};
 ghost use lib.ListN.{length};
 ghost use Rattle.text.specs.Code.{codeOf, byteOf};
 ghost use Rattle.text.specs.Number.{readNumber};
@@ -112,6 +113,16 @@ pub fn size(t: u64) -> Sized
     Sized::Bytes(k)
 }
 
+// Whether n bytes have room from place `at` to the end of a buffer of len bytes; past that end even no bytes have.
+pub fn has_room(n: usize, len: usize, at: usize) -> bool
+    ensures { λ r. ⌜ r ≡ leb (at + n) len ⌝ }
+{
+    if at > len {
+        return false;
+    }
+    n <= len - at
+}
+
 // Writes the text of t from place `at`, where it fits.
 fn write(t: u64, out: &mut [u8], at: usize) -> usize
     requires { ⌜ isPacked t ≡ true ⌝ }
@@ -140,10 +151,7 @@ pub fn put(t: u64, out: &mut [u8], at: usize) -> Written
     match found {
         Sized::NotOne => Written::NoText,
         Sized::Bytes(n) => {
-            if at > out.len() {
-                return Written::NoRoom;
-            }
-            if n > out.len() - at {
+            if !has_room(n, out.len(), at) {
                 return Written::NoRoom;
             }
             let next = write(t, out, at);
@@ -157,10 +165,7 @@ pub fn put_bytes(s: &[u8], out: &mut [u8], at: usize) -> Written
     ensures { λ r. ⌜ r ≡ writtenNext true (now (s .entry)) (now (out .entry)) at ⌝ }
     ensures { λ _. ⌜ now (out .exit) ≡ writtenBytes true (now (s .entry)) (now (out .entry)) at ⌝ }
 {
-    if at > out.len() {
-        return Written::NoRoom;
-    }
-    if s.len() > out.len() - at {
+    if !has_room(s.len(), out.len(), at) {
         return Written::NoRoom;
     }
     let mut i = 0;

@@ -7,6 +7,7 @@ use messages::from::kinds_of;
 use size::size_line;
 use text::Sized;
 use text::Written;
+use text::has_room;
 use text::put_bytes;
 use values::field_count;
 use values::is_whole;
@@ -109,10 +110,7 @@ pub fn write(m: Message, free: &[u8], out: &mut [u8], at: usize) -> Written
     let Sized::Bytes(n) = size_line(m, free) else {
         return Written::NoText;
     };
-    if at > out.len() {
-        return Written::NoRoom;
-    }
-    if n > out.len() - at {
+    if !has_room(n, out.len(), at) {
         return Written::NoRoom;
     }
     put_line(m, free, &mut out[at..]);

@@ -11,7 +11,8 @@ use lib.Seq.{sets, sets-eq, drop-cons}
 use denote.Ref.{now}
 use Rattle.text.specs.Text.{spliced}
 use Rattle.text.specs.declared.Written.the-variants.{Next}
-use Rattle.text.proofs.Laws.{no-room, has-room}
+use Rattle.text.proofs.Laws.{has-room, no-room-told, room-told}
+use borrow.Author.Needs.{needs}
 use Rattle.text.proofs.put_bytes.Statement.{statement}
 use Rattle.text.proofs.put_bytes.Tie as tie
 
@@ -49,16 +50,13 @@ abbrev μ-loop : tie.MeasureT-loop
 μ-loop s out₀ at i₀ out i = length s - i
 
 returns : tie.Need-returns Inv-loop μ-loop
-returns c = let a = c .before .args in no-room (now (a .s)) (now (a .out)) (a .at) refl (omega arith)
-
-sub-if2 : tie.Need-sub-if2 Inv-loop μ-loop
-sub-if2 c = omega arith
-
-returns-2 : tie.Need-returns-2 Inv-loop μ-loop
-returns-2 c = let a = c .before .before .args in no-room (now (a .s)) (now (a .out)) (a .at) refl (omega arith)
+returns c = no-room-told _ _ _ refl (c .before .has-room .ensures) refl (c .if1 .taken)
 
 loop-holds : tie.Need-loop-holds Inv-loop μ-loop
-loop-holds c = record { inside = omega arith; room = omega arith; same = refl; rest = rw add-zero }
+loop-holds c =
+    let a = c .before .before .before .before .args in
+    let room = room-told (now (a .s)) (now (a .out)) (a .at) refl (c .before .has-room .ensures) (c .if1 .left) in
+    record { inside = omega arith; room = room; same = refl; rest = rw add-zero }
 
 shared-slice-read-out : tie.Need-shared-slice-read-out Inv-loop μ-loop
 shared-slice-read-out c = omega arith
@@ -78,15 +76,15 @@ loop-less c = omega arith
 loop-again : tie.Need-loop-again Inv-loop μ-loop
 loop-again c = again (c .before .before .loop .inv) (c .before .loop-test .taken)
 
-add-t5 : tie.Need-add-t5 Inv-loop μ-loop
-add-t5 c = omega arith
+add-t6 : tie.Need-add-t6 Inv-loop μ-loop
+add-t6 c = omega arith
 
 same-length : tie.Need-same-length Inv-loop μ-loop
 same-length c = c .before .loop .inv .same
 
-returns-3 : tie.Need-returns-3 Inv-loop μ-loop
-returns-3 c =
-    let a = c .before .before .before .before .args in
+returns-2 : tie.Need-returns-2 Inv-loop μ-loop
+returns-2 c =
+    let a = c .before .before .before .before .before .before .args in
     let v = c .before .loop .inv in
     let z = c .loop-test .left in
     let r = has-room (now (a .s)) (now (a .out)) (a .at) refl (v .room) in
@@ -98,9 +96,8 @@ put-bytes-spec =
     (tie.spec
     Inv-loop
     μ-loop
+    (λ c κs. search needs)
     returns
-    sub-if2
-    returns-2
     loop-holds
     shared-slice-read-out
     add-out
@@ -108,6 +105,6 @@ put-bytes-spec =
     add-i
     loop-less
     loop-again
-    add-t5
+    add-t6
     same-length
-    returns-3)
+    returns-2)
