@@ -60,8 +60,8 @@ impl Facility {
         if !self.holds() {
             return Written::NoText;
         }
-        let room = self.bytes();
-        put_bytes(&room, out, at)
+        let bytes = self.bytes();
+        put_bytes(&bytes, out, at)
     }
 }
 
@@ -150,8 +150,8 @@ impl MessageType {
         ensures { λ r. ⌜ r ≡ writtenNext true (typeText self) (now (out .entry)) at ⌝ }
         ensures { λ _. ⌜ now (out .exit) ≡ writtenBytes true (typeText self) (now (out .entry)) at ⌝ }
     {
-        let letters = self.letters();
-        let room = [(letters / 256 % 256) as u8, (letters % 256) as u8];
-        put_bytes(&room, out, at)
+        let n = self.letters();
+        let letters = [(n / 256 % 256) as u8, (n % 256) as u8];
+        put_bytes(&letters, out, at)
     }
 }
