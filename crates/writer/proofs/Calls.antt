@@ -1,6 +1,6 @@
--- THE THEOREMS of demand 2 about the calls that programs make: of each call, `Post` is its function's `ensures` as it stands in
--- the source, for any arguments, answer and state at exit. A line is any bytes; the arguments of `writer::write` are the message,
--- its free text, the buffer and the place. Assumes nothing.
+-- THE THEOREMS of demand 2 about the calls that programs make: of each call, `Post` is its function's `ensures` as it
+-- stands in the source, for any arguments, answer and state at exit. The arguments of `writer::write` are the message
+-- aw .0, its free text aw .1 .0, the buffer aw .1 .1 .0 and the place aw .1 .1 .1 .0. Assumes nothing.
 use mathlib.Core.Path.{_≡_, sym, ap, _∙_}
 use mathlib.Core.Bool.{true}
 use mathlib.Core.List.{List}
@@ -27,8 +27,8 @@ back : (s r out : List ℕ) (at : ℕ) (m : Message) → readOf s ≡ Read m →
 unfolding hasRoom
 back s r out at m e g fits = rw g (written-same s out at m e (le-leb (at + length s) (length out) fits))
 
--- what was read from a line, message and free text, and is written at a place where the line fits: the answer is taken, with the
--- place after the line, and the buffer is as it was with exactly the line's bytes at that place
+-- what was read from a line, message and free text, and is written at a place where the line fits: the answer is taken,
+-- with the place after the line, and the buffer is as it was with exactly the line's bytes at that place
 pub write-after-read : (κr : _) (ar : _) (r : _) (sr : _) → read.Post κr ar r sr
     → (κf : _) (af : _) (f : _) (sf : _) → free.Post κf af f sf
     → (κw : _) (aw : _) (w : _) (sw : _) → write.Post κw aw w sw
@@ -39,8 +39,8 @@ write-after-read κr ar r sr p κf af f sf q κw aw w sw v same is given fits =
     let t = back (now (ar .0)) (now (aw .1 .0)) (now (aw .1 .1 .0)) (aw .1 .1 .1 .0) (aw .0) (sym (p .0) ∙ is) (sym given ∙ q ∙ ap freeOf same) fits in
     (v .0 ∙ t .0, v .1 ∙ t .1)
 
--- what was written, into any buffer and at any place, is read from the bytes that were written: the answer is exactly that
--- message, and its free text is handed back
+-- what was written, into any buffer and at any place, is read from the bytes that were written: the answer is exactly
+-- that message, and its free text is handed back
 pub read-after-write : (κw : _) (aw : _) (w : _) (sw : _) → write.Post κw aw w sw
     → (κr : _) (ar : _) (r : _) (sr : _) → read.Post κr ar r sr
     → (κf : _) (af : _) (f : _) (sf : _) → free.Post κf af f sf
