@@ -10,7 +10,6 @@ use Rattle.forms.proofs.is_time.Reads as is-time
 use Rattle.forms.proofs.is_arrival.Reads as is-arrival
 use Rattle.forms.proofs.is_position.Reads as is-position
 use Rattle.forms.proofs.is_route.Reads as is-route
-use Rattle.forms.proofs.is_form.Reads as is-form
 
 pub is-stamp-one : (κs : _) (a : _) (r r′ : _) (s s′ : _) → is-stamp.Post κs a r s → is-stamp.Post κs a r′ s′ → r ≡ r′
 is-stamp-one κs a r r′ s s′ p q = p ∙ sym q
@@ -38,6 +37,3 @@ is-position-one κs a r r′ s s′ p q = p ∙ sym q
 
 pub is-route-one : (κs : _) (a : _) (r r′ : _) (s s′ : _) → is-route.Post κs a r s → is-route.Post κs a r′ s′ → r ≡ r′
 is-route-one κs a r r′ s s′ p q = p ∙ sym q
-
-pub is-form-one : (κs : _) (a : _) (r r′ : _) (s s′ : _) → is-form.Post κs a r s → is-form.Post κs a r′ s′ → r ≡ r′
-is-form-one κs a r r′ s s′ p q = p ∙ sym q

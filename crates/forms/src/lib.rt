@@ -7,7 +7,6 @@ use shapes::run;
 use shapes::within;
 ghost use mathlib.Core.Path.{_≡_};
 ghost use Rattle.forms.specs.Form.{isStamp, isFacility, isKey, isFix, isClock, isTime, isArrival, isPosition, isRoute};
-ghost use Rattle.forms.specs.Kind.{isForm};
 
 // The kinds of fields that are held as their text. (I, J, R and Z are left for what is no such field.)
 pub const SEQUENCE: u8 = b'Q';
@@ -146,31 +145,4 @@ pub fn is_route(s: &[u8]) -> bool
 {
     let n = s.len();
     run(b'v', 1, n, s)
-}
-
-// Whether s has the form of the kind.
-pub fn is_form(kind: u8, s: &[u8]) -> bool
-    ensures { λ r. ⌜ r ≡ isForm kind (now (s .entry)) ⌝ }
-{
-    match kind {
-        SEQUENCE => fits(b"hhhh", s),
-        STAMP => is_stamp(s),
-        KEY => is_key(s),
-        NUMBER => fits(b"dda", s),
-        PREFIX => one_of(b"a|da", s),
-        MODEL => run(b'a', 2, 4, s),
-        LETTER => fits(b"l", s),
-        FILED_SPEED => one_of(b"dd|ddd|dddd|lddd|SC", s),
-        GROUND_SPEED => fits(b"ddd", s),
-        POINT => run(b'a', 2, 12, s),
-        FIX => is_fix(s),
-        TIME => is_time(s),
-        CLOCK => is_clock(s),
-        ARRIVAL => is_arrival(s),
-        LEVEL => one_of(b"dd|ddd|ddBdd|ddBddd|dddBdd|dddBddd", s),
-        TRACK_LEVEL => one_of(b"ddd|dddl", s),
-        POSITION => is_position(s),
-        AMENDMENT => one_of(b"02|03|05|06|07|08|09|10", s),
-        _ => false,
-    }
 }

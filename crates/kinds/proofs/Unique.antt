@@ -1,16 +1,12 @@
 -- Two answers that the promise of a public function of `kinds` allows are equal: of each, `Post` is its `ensures` as it stands in
 -- the source, r and r′ are two results, s and s′ two states at exit. Assumes nothing.
 use mathlib.Core.Path.{_≡_, sym, _∙_}
-use denote.Ref.{now}
 use Rattle.kinds.proofs.mark.Reads as mark
 use Rattle.kinds.proofs.content.Reads as content
 use Rattle.kinds.proofs.plain.Reads as plain
 use Rattle.kinds.proofs.left.Reads as left
 use Rattle.kinds.proofs.marks_after.Reads as marks-after
 use Rattle.kinds.proofs.follows.Reads as follows
-use Rattle.kinds.proofs.read.read_kind.Reads as read-kind
-use Rattle.kinds.proofs.read.read_field.Reads as read-field
-use Rattle.kinds.proofs.put.put_field.Reads as put-field
 
 pub mark-one : (κs : _) (a : _) (r r′ : _) (s s′ : _) → mark.Post κs a r s → mark.Post κs a r′ s′ → r ≡ r′
 mark-one κs a r r′ s s′ p q = p ∙ sym q
@@ -29,13 +25,3 @@ marks-after-one κs a r r′ s s′ p q = p ∙ sym q
 
 pub follows-one : (κs : _) (a : _) (r r′ : _) (s s′ : _) → follows.Post κs a r s → follows.Post κs a r′ s′ → r ≡ r′
 follows-one κs a r r′ s s′ p q = p ∙ sym q
-
-pub read-kind-one : (κs : _) (a : _) (r r′ : _) (s s′ : _) → read-kind.Post κs a r s → read-kind.Post κs a r′ s′ → r ≡ r′
-read-kind-one κs a r r′ s s′ p q = p ∙ sym q
-
-pub read-field-one : (κs : _) (a : _) (r r′ : _) (s s′ : _) → read-field.Post κs a r s → read-field.Post κs a r′ s′ → r ≡ r′
-read-field-one κs a r r′ s s′ p q = p ∙ sym q
-
--- the answer, and every byte of the buffer
-pub put-field-one : (κs : _) (a : _) (r r′ : _) (s s′ : _) → put-field.Post κs a r s → put-field.Post κs a r′ s′ → (r ≡ r′) × (now (s .1 .1 .1 .1 .0) ≡ now (s′ .1 .1 .1 .1 .0))
-put-field-one κs a r r′ s s′ p q = (p .0 ∙ sym (q .0), p .1 ∙ sym (q .1))

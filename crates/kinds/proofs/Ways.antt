@@ -1,61 +1,79 @@
--- The ways of the functions that read a field: a text without a first byte, what is no amendment's number,
--- and the time of FZ and UZ. Assumes nothing.
-use mathlib.Core.Path.{_≡_, refl, ap, _∙_}
-use mathlib.Core.Bool.{Bool, true, false}
+-- The ways of the functions that look at a text's bytes: a text without a first byte, and the mark of a text of two bytes and of
+-- any other. Assumes nothing.
+use mathlib.Core.Path.{_≡_, refl}
+use mathlib.Core.Bool.{false}
 use mathlib.Core.List.{List, [], _∷_}
+use Prim.Native.Char.{code}
 use Prim.Native.Nat.{ℕ}
 use native.Mathlib.Omega.{arith}
 use lib.ListN.{length, getD}
-use Rattle.text.specs.declared.Packed.{Packed}
-use Rattle.text.specs.declared.Packed.the-variants as word
-use Rattle.forms.specs.Kind.{TIME, AMENDMENT}
-use Rattle.words.specs.Word.{wordOf}
-use Rattle.fields.specs.declared.plan.Time.{Time}
-use Rattle.fields.specs.declared.plan.TimeRead.{TimeRead}
-use Rattle.fields.specs.declared.plan.TimeRead.the-variants as time
-use Rattle.fields.specs.Typed.{asTime}
-use Rattle.kinds.specs.Field.{PLAN-TIME, markOf, plain, follows, valued, ofWord, readKind, readMark, barred, readIn}
-use Rattle.kinds.specs.declared.read.FieldRead.{FieldRead}
-use Rattle.kinds.specs.declared.read.FieldRead.the-variants.{Read, Nothing, Number}
+use borrow.Author.Tests.{ne-eqb}
+use Rattle.text.specs.Bytes.{bytes}
+use Rattle.shapes.specs.Picture.{isOf, fits}
+use Rattle.shapes.proofs.Laws.{fits-apart}
+use Rattle.kinds.specs.Field.{markOf}
 
 -- a text of no bytes has 0 for its first byte
 pub no-first : (s : List ℕ) → length s ≡ 0 → getD s 0 0 ≡ 0
 no-first [] e = refl
 no-first (x ∷ s) e = absurd (omega arith)
 
--- what is none of the eight numbers is refused, whatever the marks are
-pub number-none : (m : ℕ) (s : List ℕ) → markOf s ≡ 0 → Number ≡ readIn AMENDMENT 0 m s
-unfolding readIn readMark barred
-number-none m s e = go (follows AMENDMENT 0 m s) refl
+-- no number is longer or shorter than two bytes
+pub not-two : (s : List ℕ) → (length s ≡ 2 → ⊥) → 0 ≡ markOf s
+unfolding markOf
+not-two s e = rw (no (bytes "02") refl, no (bytes "03") refl, no (bytes "05") refl, no (bytes "06") refl, no (bytes "07") refl, no (bytes "08") refl, no (bytes "09") refl, no (bytes "10") refl)
   where
-    go : (b : Bool) → follows AMENDMENT 0 m s ≡ b → Number ≡ readIn AMENDMENT 0 m s
-    go true q = rw (q, e)
-    go false q = rw q
+    no : (p : List ℕ) → length p ≡ 2 → fits p s ≡ false
+    no p h = fits-apart p s (λ q. e (omega arith))
 
--- ---- the time of FZ and UZ, after what the field before it left, p
+-- the mark n of the two bytes a and b is that of a text of these
+pub two-bytes : (s : List ℕ) {a b n : ℕ} → n ≡ markOf (a ∷ b ∷ []) → length s ≡ 2 → getD s 0 0 ≡ a → getD s 1 0 ≡ b → n ≡ markOf s
+two-bytes [] t e p q = absurd (omega arith)
+two-bytes (a ∷ []) t e p q = absurd (omega arith)
+two-bytes (a ∷ b ∷ []) t e p q = rw (p, q) t
+two-bytes (a ∷ b ∷ c ∷ s) t e p q = absurd (omega arith)
 
--- a time that was read, as a field
-abbrev ofTime : TimeRead → FieldRead
-ofTime (time.Read t) = Read (valued (t .0) 0 0)
-ofTime time.Nothing = Nothing
+pub is-02 : 1 ≡ markOf (code "0" ∷ code "2" ∷ [])
+unfolding markOf fits isOf
+is-02 = refl
 
-time-as : (w : Packed) → ofTime (asTime w) ≡ ofWord w
-time-as (word.Text t) = refl
-time-as word.Nothing = refl
+pub is-03 : 2 ≡ markOf (code "0" ∷ code "3" ∷ [])
+unfolding markOf fits isOf
+is-03 = refl
 
--- what is no time is refused, whatever was left
-pub plan-time-none : (p : ℕ) (s : List ℕ) → time.Nothing ≡ asTime (wordOf TIME s) → Nothing ≡ readIn PLAN-TIME p 0 s
-unfolding readIn readKind plain barred
-plan-time-none p s e = go (follows PLAN-TIME p 0 s) refl
-  where
-    go : (b : Bool) → follows PLAN-TIME p 0 s ≡ b → Nothing ≡ readIn PLAN-TIME p 0 s
-    go true q = rw q (ap ofTime e ∙ time-as (wordOf TIME s))
-    go false q = rw q
+pub is-05 : 4 ≡ markOf (code "0" ∷ code "5" ∷ [])
+unfolding markOf fits isOf
+is-05 = refl
 
-pub plan-time-barred : (p : ℕ) (s : List ℕ) → follows PLAN-TIME p 0 s ≡ false → Nothing ≡ readIn PLAN-TIME p 0 s
-unfolding readIn barred
-plan-time-barred p s q = rw q
+pub is-06 : 8 ≡ markOf (code "0" ∷ code "6" ∷ [])
+unfolding markOf fits isOf
+is-06 = refl
 
-pub plan-time-read : (p : ℕ) (s : List ℕ) {t : Time} → time.Read t ≡ asTime (wordOf TIME s) → follows PLAN-TIME p 0 s ≡ true → Read (valued (t .0) 0 0) ≡ readIn PLAN-TIME p 0 s
-unfolding readIn readKind plain
-plan-time-read p s e q = rw q (ap ofTime e ∙ time-as (wordOf TIME s))
+pub is-07 : 16 ≡ markOf (code "0" ∷ code "7" ∷ [])
+unfolding markOf fits isOf
+is-07 = refl
+
+pub is-08 : 32 ≡ markOf (code "0" ∷ code "8" ∷ [])
+unfolding markOf fits isOf
+is-08 = refl
+
+pub is-09 : 64 ≡ markOf (code "0" ∷ code "9" ∷ [])
+unfolding markOf fits isOf
+is-09 = refl
+
+pub is-10 : 128 ≡ markOf (code "1" ∷ code "0" ∷ [])
+unfolding markOf fits isOf
+is-10 = refl
+
+-- after a 1 no byte but 0 makes a number, after a 0 none but seven, and after any other byte none
+pub is-no-10 : {b : ℕ} → (b ≡ code "0" → ⊥) → 0 ≡ markOf (code "1" ∷ b ∷ [])
+unfolding markOf fits isOf
+is-no-10 h = rw (ne-eqb _ _ h)
+
+pub is-no-0 : {b : ℕ} → (b ≡ code "2" → ⊥) → (b ≡ code "3" → ⊥) → (b ≡ code "5" → ⊥) → (b ≡ code "6" → ⊥) → (b ≡ code "7" → ⊥) → (b ≡ code "8" → ⊥) → (b ≡ code "9" → ⊥) → 0 ≡ markOf (code "0" ∷ b ∷ [])
+unfolding markOf fits isOf
+is-no-0 h₂ h₃ h₅ h₆ h₇ h₈ h₉ = rw (ne-eqb _ _ h₂, ne-eqb _ _ h₃, ne-eqb _ _ h₅, ne-eqb _ _ h₆, ne-eqb _ _ h₇, ne-eqb _ _ h₈, ne-eqb _ _ h₉)
+
+pub is-none : {a : ℕ} (b : ℕ) → (a ≡ code "0" → ⊥) → (a ≡ code "1" → ⊥) → 0 ≡ markOf (a ∷ b ∷ [])
+unfolding markOf fits isOf
+is-none b h₀ h₁ = rw (ne-eqb _ _ h₀, ne-eqb _ _ h₁)

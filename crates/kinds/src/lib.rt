@@ -1,11 +1,8 @@
-// One field of document 01's table, of any kind: what an amendment's number asks for, and what one field leaves for the
-// next. `read` reads a field, `put` writes it.
+// The kinds of fields of document 01's table: what an amendment's number asks for, and what one field leaves for the next.
 use forms::is_position;
-use shapes::fits;
 ghost use mathlib.Core.Path.{_≡_};
 ghost use Rattle.kinds.specs.Field.{markOf, contentOf, plain as plainly, leftOf, marksOf, follows as following};
 
-pub mod put;
 pub mod read;
 
 // The kinds that are no single text; the others are those of `forms`.
@@ -35,31 +32,29 @@ pub struct Value {
 pub fn mark(s: &[u8]) -> u8
     ensures { λ r. ⌜ r ≡ markOf (now (s .entry)) ⌝ }
 {
-    if fits(b"02", s) {
-        return 1;
+    if s.len() != 2 {
+        return 0;
     }
-    if fits(b"03", s) {
-        return 2;
+    if s[0] == b'1' {
+        if s[1] == b'0' {
+            return 128;
+        }
+        return 0;
     }
-    if fits(b"05", s) {
-        return 4;
+    if s[0] != b'0' {
+        return 0;
     }
-    if fits(b"06", s) {
-        return 8;
+    let last = s[1];
+    match last {
+        b'2' => 1,
+        b'3' => 2,
+        b'5' => 4,
+        b'6' => 8,
+        b'7' => 16,
+        b'8' => 32,
+        b'9' => 64,
+        _ => 0,
     }
-    if fits(b"07", s) {
-        return 16;
-    }
-    if fits(b"08", s) {
-        return 32;
-    }
-    if fits(b"09", s) {
-        return 64;
-    }
-    if fits(b"10", s) {
-        return 128;
-    }
-    0
 }
 
 // The kind of content that the number with this mark asks for.

@@ -127,7 +127,7 @@ pub fn position_minutes(position: Position) -> Minutes
 fn levels_of(s: &[u8]) -> Levels
     ensures { λ r. ⌜ r ≡ levelsOf (now (s .entry)) ⌝ }
 {
-    if !forms::is_form(forms::LEVEL, s) {
+    if !rules::is_form(forms::LEVEL, s) {
         return Levels::NotOne;
     }
     let i = shapes::find(b'B', s);

@@ -63,7 +63,7 @@ fn fill(kinds: &[u8], body: &[u8], trailing: bool) -> TableRead
         let j = at + 1;
         let e = spacing::field_end(body, j);
         let kind = kinds[k];
-        let read = kinds::read::read_field(kind, left, marks, &body[j..e]);
+        let read = reading::read_field(kind, left, marks, &body[j..e]);
         let FieldRead::Read(value) = read else {
             return TableRead {
                 answer: fault(read, k + 1),

@@ -11,7 +11,7 @@ ghost use Rattle.words.specs.Pair.{pairOf, pairText, isPair, pairWord, i
 pub fn read(kind: u8, s: &[u8]) -> Packed
     ensures { λ r. ⌜ r ≡ wordOf kind (now (s .entry)) ⌝ }
 {
-    if forms::is_form(kind, s) {
+    if rules::is_form(kind, s) {
         text::pack(s)
     } else {
         Packed::Nothing
@@ -25,7 +25,7 @@ pub fn holds(kind: u8, t: u64) -> bool
     let mut room = [0u8; 12];
     let written = text::put(t, &mut room, 0);
     match written {
-        Written::Next(n) => forms::is_form(kind, &room[..n]),
+        Written::Next(n) => rules::is_form(kind, &room[..n]),
         Written::NoRoom => false,
         Written::NoText => false,
     }

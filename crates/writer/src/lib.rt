@@ -1,9 +1,9 @@
 // A message written as its line: what it takes is known before a byte is written.
 use kinds::Value;
-use kinds::put::put_field;
 use messages::Body;
 use messages::Message;
 use messages::from::kinds_of;
+use showing::put_field;
 use size::size_line;
 use text::Sized;
 use text::Written;

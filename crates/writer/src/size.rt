@@ -1,11 +1,11 @@
 // How long a message's line will be, or that no line has these values (answer 16).
 use kinds::ROUTE;
 use kinds::Value;
-use kinds::put::put_field;
 use messages::Body;
 use messages::Message;
 use messages::from::is_count;
 use messages::from::kinds_of;
+use showing::put_field;
 use text::Sized;
 use text::Written;
 use values::field_count;

@@ -1,0 +1,33 @@
+-- `showing::put_word` meets its contract. Assumes nothing.
+use mathlib.Core.Bool.{and-true, and-false}
+use borrow.Author.Tests.{eq-eqb, ne-eqb}
+use Rattle.text.proofs.Laws.{no-text}
+use Rattle.kinds.specs.Field.{isOne}
+use borrow.Author.Needs.{needs}
+use Rattle.showing.proofs.put_word.Statement.{statement}
+use Rattle.showing.proofs.put_word.Tie as tie
+
+returns : tie.Need-returns
+unfolding isOne
+returns c = no-text _ _ _ (rw (ne-eqb _ _ (c .if1 .taken), and-false))
+
+returns-2 : tie.Need-returns-2
+unfolding isOne
+returns-2 c = no-text _ _ _ (rw (eq-eqb _ _ (c .before .before .if1 .left), ne-eqb _ _ (c .if2 .taken), and-false))
+
+returns-3 : tie.Need-returns-3
+unfolding isOne
+returns-3 c =
+    let c₂ = c .before .before in
+    let c₄ = c₂ .before .before in
+    rw (eq-eqb _ _ (c₄ .before .before .if1 .left), eq-eqb _ _ (c₄ .if2 .left), and-true) (c₂ .put .ensures)
+
+pub put-word-spec : {M : Type 1} → statement M
+put-word-spec =
+    tie.close
+    (tie.spec
+    returns
+    returns-2
+    (λ c κs. search needs)
+    (λ c. search needs)
+    returns-3)
