@@ -24,29 +24,9 @@ returns-4 c = c .fits4 .ensures ∙ rw (c .before .before .match .keys4)
 
 returns-5 : tie.Need-returns-5
 unfolding isDrawn
-returns-5 c = c .one-of2 .ensures ∙ rw (c .before .before .match .keys5)
-
-returns-6 : tie.Need-returns-6
-unfolding isDrawn
-returns-6 c = c .fits5 .ensures ∙ rw (c .before .before .match .keys6)
-
-returns-7 : tie.Need-returns-7
-unfolding isDrawn
-returns-7 c = c .one-of3 .ensures ∙ rw (c .before .before .match .keys7)
-
-returns-8 : tie.Need-returns-8
-unfolding isDrawn
-returns-8 c = c .one-of4 .ensures ∙ rw (c .before .before .match .keys8)
-
-returns-9 : tie.Need-returns-9
-unfolding isDrawn
-returns-9 c = c .one-of5 .ensures ∙ rw (c .before .before .match .keys9)
-
-returns-10 : tie.Need-returns-10
-unfolding isDrawn
-returns-10 c =
-    let n = c .match .rest in
-    rw (ne-eqb _ _ (n .0 .0 .0 .0 .0 .0 .0 .0 .1), ne-eqb _ _ (n .0 .0 .0 .0 .0 .0 .0 .1), ne-eqb _ _ (n .0 .0 .0 .0 .0 .0 .1), ne-eqb _ _ (n .0 .0 .0 .0 .0 .1), ne-eqb _ _ (n .0 .0 .0 .0 .1), ne-eqb _ _ (n .0 .0 .0 .1), ne-eqb _ _ (n .0 .0 .1), ne-eqb _ _ (n .0 .1), ne-eqb _ _ (n .1))
+returns-5 c =
+    let n = c .before .match .rest in
+    c .is-figure .ensures ∙ rw (ne-eqb _ _ (n .0 .0 .0 .1), ne-eqb _ _ (n .0 .0 .1), ne-eqb _ _ (n .0 .1), ne-eqb _ _ (n .1))
 
 pub is-drawn-spec : {M : Type 1} → statement M
 is-drawn-spec =
@@ -60,23 +40,9 @@ is-drawn-spec =
     (λ c κs. search needs)
     (λ c. search needs)
     (λ c κs. search needs)
-    (λ c. search needs)
-    (λ c κs. search needs)
-    (λ c. search needs)
-    (λ c κs. search needs)
-    (λ c. search needs)
-    (λ c κs. search needs)
-    (λ c. search needs)
-    (λ c κs. search needs)
-    (λ c. search needs)
     (λ c κs. search needs)
     returns
     returns-2
     returns-3
     returns-4
-    returns-5
-    returns-6
-    returns-7
-    returns-8
-    returns-9
-    returns-10)
+    returns-5)
