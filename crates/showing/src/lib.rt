@@ -11,7 +11,8 @@ use kinds::Value;
 use text::Written;
 use text::put_bytes;
 ghost use mathlib.Core.Path.{_≡_};
-ghost use mathlib.Core.Bool.{_&&_};
+ghost use mathlib.Core.Bool.{cond, _&&_};
+ghost use mathlib.Core.List.{[], _∷_};
 ghost use lib.Dec.{eqb};
 ghost use Rattle.text.specs.Text.{textOf, writtenNext, writtenBytes};
 ghost use Rattle.forms.specs.Form.{isRoute};
@@ -98,22 +99,32 @@ fn put_kind(kind: u8, v: Value, route: &[u8], out: &mut [u8], at: usize) -> Writ
     }
 }
 
-// The number of a mark.
+// The number of a mark, or zeros for what is no mark.
+fn number(mark: u64) -> [u8; 2]
+    ensures { λ r. ⌜ r ≡ cond (isMark mark) (markText mark) (0 ∷ 0 ∷ []) ⌝ }
+{
+    match mark {
+        1 => [b'0', b'2'],
+        2 => [b'0', b'3'],
+        4 => [b'0', b'5'],
+        8 => [b'0', b'6'],
+        16 => [b'0', b'7'],
+        32 => [b'0', b'8'],
+        64 => [b'0', b'9'],
+        128 => [b'1', b'0'],
+        _ => [0, 0],
+    }
+}
+
 fn put_mark(mark: u64, out: &mut [u8], at: usize) -> Written
     ensures { λ r. ⌜ r ≡ writtenNext (isMark mark) (markText mark) (now (out .entry)) at ⌝ }
     ensures { λ _. ⌜ now (out .exit) ≡ writtenBytes (isMark mark) (markText mark) (now (out .entry)) at ⌝ }
 {
-    match mark {
-        1 => put_bytes(b"02", out, at),
-        2 => put_bytes(b"03", out, at),
-        4 => put_bytes(b"05", out, at),
-        8 => put_bytes(b"06", out, at),
-        16 => put_bytes(b"07", out, at),
-        32 => put_bytes(b"08", out, at),
-        64 => put_bytes(b"09", out, at),
-        128 => put_bytes(b"10", out, at),
-        _ => Written::NoText,
+    let digits = number(mark);
+    if digits[0] == 0 {
+        return Written::NoText;
     }
+    put_bytes(&digits, out, at)
 }
 
 // A value after what the field before it left.

@@ -1,99 +1,56 @@
--- `showing::put_mark` meets its contract: each arm is a case of the definitions. Assumes nothing.
-use borrow.Author.Tests.{ne-eqb}
+-- `showing::put_mark` meets its contract. Assumes nothing.
+use mathlib.Core.Path.{_≡_, refl, sym, ap, _∙_}
+use mathlib.Core.Bool.{Bool, true, false, cond, not}
+use mathlib.Core.List.{List, [], _∷_}
+use Prim.Native.Nat.{ℕ}
+use lib.Dec.{eqb}
+use lib.ListN.{getD}
+use borrow.Author.Tests.{eq-eqb, not-true}
+use Rattle.text.proofs.Logic.{true-false}
 use Rattle.text.proofs.Laws.{no-text}
 use Rattle.kinds.specs.Field.{isMark, markText}
+use Rattle.kinds.proofs.Marks.{each-text}
 use borrow.Author.Needs.{needs}
 use Rattle.showing.proofs.put_mark.Statement.{statement}
 use Rattle.showing.proofs.put_mark.Tie as tie
 
+-- no number begins with the byte 0
+first : (m : ℕ) → eqb (getD (markText m) 0 0) 0 ≡ false
+first m = not-true _ (each-text (λ s. not (eqb (getD s 0 0) 0)) refl refl refl refl refl refl refl refl m)
+
+-- digits that begin with 0 are those of no mark, and any others those of a mark
+none : (m : ℕ) (d : List ℕ) → d ≡ cond (isMark m) (markText m) (0 ∷ 0 ∷ []) → getD d 0 0 ≡ 0 → isMark m ≡ false
+none m d e z = go (isMark m) refl
+  where
+    go : (b : Bool) → isMark m ≡ b → isMark m ≡ false
+    go true q = true-false (eq-eqb _ _ (sym (ap (λ (s : List ℕ). getD s 0 0) (rw q at e)) ∙ z)) (first m)
+    go false q = q
+
+some : (m : ℕ) (d : List ℕ) → d ≡ cond (isMark m) (markText m) (0 ∷ 0 ∷ []) → (getD d 0 0 ≡ 0 → ⊥) → (isMark m ≡ true) × (d ≡ markText m)
+some m d e n = go (isMark m) refl
+  where
+    go : (b : Bool) → isMark m ≡ b → (isMark m ≡ true) × (d ≡ markText m)
+    go true q = (q, rw q at e)
+    go false q = absurd (n (ap (λ (s : List ℕ). getD s 0 0) (rw q at e)))
+
 returns : tie.Need-returns
-unfolding isMark markText
-returns c =
-    let c₂ = c .before .before in
-    rw (c₂ .before .before .before .match .keys1) (c₂ .put-bytes .ensures)
+returns c = no-text _ _ _ (none _ _ (c .before .number .ensures) (c .if1 .taken))
 
 returns-2 : tie.Need-returns-2
-unfolding isMark markText
 returns-2 c =
     let c₂ = c .before .before in
-    rw (c₂ .before .before .before .match .keys2) (c₂ .put-bytes2 .ensures)
-
-returns-3 : tie.Need-returns-3
-unfolding isMark markText
-returns-3 c =
-    let c₂ = c .before .before in
-    rw (c₂ .before .before .before .match .keys3) (c₂ .put-bytes3 .ensures)
-
-returns-4 : tie.Need-returns-4
-unfolding isMark markText
-returns-4 c =
-    let c₂ = c .before .before in
-    rw (c₂ .before .before .before .match .keys4) (c₂ .put-bytes4 .ensures)
-
-returns-5 : tie.Need-returns-5
-unfolding isMark markText
-returns-5 c =
-    let c₂ = c .before .before in
-    rw (c₂ .before .before .before .match .keys5) (c₂ .put-bytes5 .ensures)
-
-returns-6 : tie.Need-returns-6
-unfolding isMark markText
-returns-6 c =
-    let c₂ = c .before .before in
-    rw (c₂ .before .before .before .match .keys6) (c₂ .put-bytes6 .ensures)
-
-returns-7 : tie.Need-returns-7
-unfolding isMark markText
-returns-7 c =
-    let c₂ = c .before .before in
-    rw (c₂ .before .before .before .match .keys7) (c₂ .put-bytes7 .ensures)
-
-returns-8 : tie.Need-returns-8
-unfolding isMark markText
-returns-8 c =
-    let c₂ = c .before .before in
-    rw (c₂ .before .before .before .match .keys8) (c₂ .put-bytes8 .ensures)
-
-returns-9 : tie.Need-returns-9
-unfolding isMark
-returns-9 c =
-    let n = c .match .rest in
-    no-text _ _ _ (rw (ne-eqb _ _ (n .0 .0 .0 .0 .0 .0 .0 .1), ne-eqb _ _ (n .0 .0 .0 .0 .0 .0 .1), ne-eqb _ _ (n .0 .0 .0 .0 .0 .1), ne-eqb _ _ (n .0 .0 .0 .0 .1), ne-eqb _ _ (n .0 .0 .0 .1), ne-eqb _ _ (n .0 .0 .1), ne-eqb _ _ (n .0 .1), ne-eqb _ _ (n .1)))
+    let c₅ = c₂ .before .before .before in
+    let p = some _ _ (c₅ .before .number .ensures) (c₅ .if1 .left) in
+    rw (p .0, ← (p .1)) (c₂ .put-bytes .ensures)
 
 pub put-mark-spec : {M : Type 1} → statement M
 put-mark-spec =
     tie.close
     (tie.spec
-    (λ c. search needs)
-    (λ c κs. search needs)
-    (λ c. search needs)
-    (λ c κs. search needs)
-    (λ c. search needs)
-    (λ c κs. search needs)
-    (λ c. search needs)
-    (λ c κs. search needs)
-    (λ c. search needs)
-    (λ c κs. search needs)
-    (λ c. search needs)
-    (λ c κs. search needs)
-    (λ c. search needs)
-    (λ c κs. search needs)
-    (λ c. search needs)
     (λ c κs. search needs)
     (λ c. search needs)
     returns
     (λ c. search needs)
-    returns-2
+    (λ c κs. search needs)
     (λ c. search needs)
-    returns-3
-    (λ c. search needs)
-    returns-4
-    (λ c. search needs)
-    returns-5
-    (λ c. search needs)
-    returns-6
-    (λ c. search needs)
-    returns-7
-    (λ c. search needs)
-    returns-8
-    returns-9)
+    returns-2)
