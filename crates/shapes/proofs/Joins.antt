@@ -9,12 +9,12 @@ use native.Mathlib.Omega.{arith}
 use lib.Dec.{eqb}
 use lib.ListN.{length, take, drop, length-append, drop-of-length-le}
 use lib.Seq.{split-at, take-at, take-all, drop-at, append-snoc}
-use borrow.Author.Tests.{lt-ltb, le-ltb, eq-eqb, eqb-true, ltb-true, ltb-false, not-true}
+use borrow.Author.Tests.{lt-ltb, le-ltb, eqb-true, ltb-true, ltb-false, not-true}
 use Rattle.text.specs.Class.{all}
 use Rattle.text.proofs.Logic.{and-left, and-right, true-false}
 use Rattle.shapes.specs.Picture.{isOf, fits}
 use Rattle.shapes.specs.Cut.{upTo, has, before, after, joins}
-use Rattle.shapes.proofs.Laws.{upTo-le, upTo-at}
+use Rattle.shapes.proofs.Laws.{upTo-le, upTo-at, upTo-here}
 
 -- what is cut is the two parts with b between them
 pub cut-whole : (b : ℕ) (s : List ℕ) → has b s ≡ true → before b s ++ b ∷ after b s ≡ s
@@ -48,15 +48,18 @@ fits-no b (k ∷ p) (x ∷ s) h e =
         true-false y (not-true (isOf k b) (and-left (not (isOf k b)) (all (λ k. not (isOf k b)) p) h))
     go false q r = rw (q, r)
 
-module _ (b : ℕ) where
-  joined-at : (x y : List ℕ) → upTo b x ≡ length x → upTo b (x ++ b ∷ y) ≡ length x
-  unfolding upTo
-  joined-at [] y e = rw (eq-eqb b b refl)
-  joined-at (c ∷ x) y e = go (eqb c b) refl (joined-at x y)
-    where
-      go : (t : Bool) → eqb c b ≡ t → (upTo b x ≡ length x → upTo b (x ++ b ∷ y) ≡ length x) → upTo b (c ∷ (x ++ b ∷ y)) ≡ suc (length x)
-      go true q r = let z : 0 ≡ suc (length x) = rw q at e in absurd (omega arith)
-      go false q r = let z : suc (upTo b x) ≡ suc (length x) = rw q at e in rw (q, r (omega arith))
+-- a text with no b is passed whole
+pub upTo-past : (b : ℕ) (x y : List ℕ) → upTo b x ≡ length x → upTo b (x ++ y) ≡ length x + upTo b y
+unfolding upTo
+upTo-past b [] y e = omega arith
+upTo-past b (c ∷ x) y e = go (eqb c b) refl (upTo-past b x y)
+  where
+    go : (t : Bool) → eqb c b ≡ t → (upTo b x ≡ length x → upTo b (x ++ y) ≡ length x + upTo b y) → upTo b (c ∷ (x ++ y)) ≡ suc (length x) + upTo b y
+    go true q r = let z : 0 ≡ suc (length x) = rw q at e in absurd (omega arith)
+    go false q r = let z : suc (upTo b x) ≡ suc (length x) = rw q at e in rw (q, r (omega arith)) (omega arith)
+
+joined-at : (b : ℕ) (x y : List ℕ) → upTo b x ≡ length x → upTo b (x ++ b ∷ y) ≡ length x
+joined-at b x y e = let h : upTo b (b ∷ y) ≡ 0 = upTo-here b b y refl in omega (arith, upTo-past b x (b ∷ y) e, h)
 
 module _ (b : ℕ) (x y : List ℕ) (none : upTo b x ≡ length x) where
   pub joined-has : has b (x ++ b ∷ y) ≡ true
@@ -103,3 +106,13 @@ module _ (b : ℕ) (s : List ℕ) (none : upTo b s ≡ length s) where
 pub no-cut : (b : ℕ) (s : List ℕ) → has b s ≡ false → upTo b s ≡ length s
 unfolding has
 no-cut b s e = omega (arith, ltb-false (upTo b s) (length s) e, upTo-le b s)
+
+-- what stands before the first b has none
+pub before-none : (b : ℕ) (s : List ℕ) → upTo b (before b s) ≡ length (before b s)
+unfolding before upTo
+before-none b [] = refl
+before-none b (x ∷ s) = go (eqb x b) refl (before-none b s)
+  where
+    go : (t : Bool) → eqb x b ≡ t → upTo b (take (upTo b s) s) ≡ length (take (upTo b s) s) → upTo b (take (upTo b (x ∷ s)) (x ∷ s)) ≡ length (take (upTo b (x ∷ s)) (x ∷ s))
+    go true q r = rw q
+    go false q r = rw (q, q, r)

@@ -13,28 +13,15 @@ use Rattle.text.proofs.Logic.{and-left, and-right, true-false}
 use Rattle.text.specs.Class.{all}
 use Rattle.shapes.specs.Picture.{isOf}
 use Rattle.shapes.specs.Cut.{upTo}
+use Rattle.shapes.specs.Pieces.{grow, pieces, eachAfter}
 use Rattle.shapes.proofs.Laws.{upTo-le}
-use Rattle.spacing.specs.Body.{space, bodyOf, noSpace, isField, allFields, Split, Fields, Wrong, grow, pieces, more, ended, fieldsOf, fieldsIn, counts, countOf, endOf}
+use Rattle.shapes.proofs.Pieces.{piecesAfter, pieces-turn, pieces-text}
+use Rattle.spacing.specs.Body.{space, bodyOf, noSpace, isField, allFields, Split, Fields, Wrong, more, ended, fieldsOf, fieldsIn, counts, countOf, endOf}
 use Rattle.spacing.specs.declared.Counted.the-variants as counted
-
--- ---- a turn: the first piece goes up to the first space
-
-abbrev pub piecesAfter : List ℕ → List (List ℕ)
-piecesAfter [] = []
-piecesAfter (x ∷ s) = pieces s
-
-pub pieces-turn : (s : List ℕ) → pieces s ≡ take (upTo space s) s ∷ piecesAfter (drop (upTo space s) s)
-unfolding pieces upTo
-pieces-turn [] = refl
-pieces-turn (x ∷ s) = go (eqb x space) refl (pieces-turn s)
-  where
-    go : (b : Bool) → eqb x space ≡ b → pieces s ≡ take (upTo space s) s ∷ piecesAfter (drop (upTo space s) s) → pieces (x ∷ s) ≡ take (upTo space (x ∷ s)) (x ∷ s) ∷ piecesAfter (drop (upTo space (x ∷ s)) (x ∷ s))
-    go true q r = rw q
-    go false q r = rw (q, r)
 
 -- what is left of a body, from a space on
 unfoldable pub rest : List ℕ → Split
-rest s = ended (piecesAfter s)
+rest s = ended (piecesAfter space s)
 
 pub rest-none : rest [] ≡ Fields [] false
 unfolding rest ended
@@ -46,13 +33,13 @@ rest-space x = refl
 
 pub rest-wrong : (x y : ℕ) (s : List ℕ) → upTo space (y ∷ s) ≡ 0 → rest (x ∷ y ∷ s) ≡ Wrong
 unfolding rest ended
-rest-wrong x y s e = rw (pieces-turn (y ∷ s), e, pieces-turn s)
+rest-wrong x y s e = rw (pieces-turn space (y ∷ s), e, pieces-turn space s)
 
 pub rest-more : (x : ℕ) (s : List ℕ) → 0 < upTo space s → rest (x ∷ s) ≡ more (take (upTo space s) s) (rest (drop (upTo space s) s))
 unfolding rest ended
-rest-more x s h = rw (pieces-turn s) (go s (upTo space s) h (upTo-le space s))
+rest-more x s h = rw (pieces-turn space s) (go s (upTo space s) h (upTo-le space s))
   where
-    go : (s : List ℕ) (m : ℕ) → 0 < m → m ≤ length s → ended (take m s ∷ piecesAfter (drop m s)) ≡ more (take m s) (ended (piecesAfter (drop m s)))
+    go : (s : List ℕ) (m : ℕ) → 0 < m → m ≤ length s → ended (take m s ∷ piecesAfter space (drop m s)) ≡ more (take m s) (ended (piecesAfter space (drop m s)))
     go s zero h k = absurd (omega arith)
     go [] (suc m) h k = absurd (omega arith)
     go (y ∷ s) (suc m) h k = refl
@@ -68,7 +55,7 @@ unfolding fieldsOf rest ended
 split-rest [] fs t e = e
 split-rest (x ∷ s) fs t e = go (eqb x space) refl
   where
-    go : (b : Bool) → eqb x space ≡ b → ended (pieces s) ≡ Fields fs t
+    go : (b : Bool) → eqb x space ≡ b → ended (pieces space s) ≡ Fields fs t
     go true q = rw q at e
     go false q = let d : Wrong ≡ Fields fs t = rw q at e in cc
 
@@ -133,26 +120,18 @@ turn s at e f fs t h is =
 
 -- ---- from the fields to the body, and back
 
--- the pieces, each after a space, are the text after a space
-texts-pieces : (s : List ℕ) → bodyOf (pieces s) false ≡ space ∷ s
-unfolding pieces bodyOf
-texts-pieces [] = refl
-texts-pieces (x ∷ s) = go (eqb x space) refl (texts-pieces s)
-  where
-    grown : (ps : List (List ℕ)) → bodyOf ps false ≡ space ∷ s → bodyOf (grow x ps) false ≡ space ∷ x ∷ s
-    grown [] e = cc
-    grown (p ∷ ps) e = let z : p ++ bodyOf ps false ≡ s = cc in rw z
-
-    go : (b : Bool) → eqb x space ≡ b → bodyOf (pieces s) false ≡ space ∷ s → bodyOf (pieces (x ∷ s)) false ≡ space ∷ x ∷ s
-    go true q r = rw (q, r, eqb-true x space q)
-    go false q r = rw q (grown (pieces s) r)
+-- the body of pieces is their text, each after a space
+body-after : (ps : List (List ℕ)) → bodyOf ps false ≡ eachAfter space ps
+unfolding bodyOf eachAfter
+body-after [] = refl
+body-after (p ∷ ps) = rw (body-after ps)
 
 -- no piece has a space
 unfoldable clean : List (List ℕ) → Bool
 clean [] = true
 clean (p ∷ ps) = noSpace p && clean ps
 
-clean-pieces : (s : List ℕ) → clean (pieces s) ≡ true
+clean-pieces : (s : List ℕ) → clean (pieces space s) ≡ true
 unfolding pieces clean noSpace
 clean-pieces [] = refl
 clean-pieces (x ∷ s) = go (eqb x space) refl (clean-pieces s)
@@ -161,9 +140,9 @@ clean-pieces (x ∷ s) = go (eqb x space) refl (clean-pieces s)
     grown [] q e = rw q
     grown (p ∷ ps) q e = rw (q, e)
 
-    go : (b : Bool) → eqb x space ≡ b → clean (pieces s) ≡ true → clean (pieces (x ∷ s)) ≡ true
+    go : (b : Bool) → eqb x space ≡ b → clean (pieces space s) ≡ true → clean (pieces space (x ∷ s)) ≡ true
     go true q r = rw (q, r)
-    go false q r = rw q (grown (pieces s) q r)
+    go false q r = rw q (grown (pieces space s) q r)
 
 -- what `ended` finds
 ended-text : (ps fs : List (List ℕ)) (t : Bool) → ended ps ≡ Fields fs t → clean ps ≡ true → (bodyOf ps false ≡ bodyOf fs t) × (allFields fs ≡ true)
@@ -203,9 +182,9 @@ fields-text (x ∷ s) fs t e = go (eqb x space) refl
   where
     go : (b : Bool) → eqb x space ≡ b → (bodyOf fs t ≡ x ∷ s) × (allFields fs ≡ true)
     go true q =
-        let d : ended (pieces s) ≡ Fields fs t = rw q at e in
-        let p = ended-text (pieces s) fs t d (clean-pieces s) in
-        (sym (p .0) ∙ texts-pieces s ∙ rw (eqb-true x space q), p .1)
+        let d : ended (pieces space s) ≡ Fields fs t = rw q at e in
+        let p = ended-text (pieces space s) fs t d (clean-pieces s) in
+        (sym (p .0) ∙ body-after (pieces space s) ∙ pieces-text space s ∙ rw (eqb-true x space q), p .1)
     go false q = let d : Wrong ≡ Fields fs t = rw q at e in ((cc), (cc))
 
 -- the text of fields begins with a space, where it is not empty

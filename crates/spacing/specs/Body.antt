@@ -7,6 +7,7 @@ use mathlib.Core.List.{List, [], _∷_, _++_}
 use lib.Dec.{eqb}
 use lib.ListN.{length, drop}
 use Rattle.shapes.specs.Cut.{upTo}
+use Rattle.shapes.specs.Pieces.{pieces}
 use Rattle.spacing.specs.declared.Counted.{Counted}
 use Rattle.spacing.specs.declared.Counted.the-variants as counted
 
@@ -44,20 +45,11 @@ pub data Split : Type 0 where
   Fields : List (List ℕ) → Bool → Split
   Wrong : Split
 
-abbrev pub grow : ℕ → List (List ℕ) → List (List ℕ)
-grow x [] = (x ∷ []) ∷ []
-grow x (p ∷ ps) = (x ∷ p) ∷ ps
-
--- the pieces between the spaces
-unfoldable pub pieces : List ℕ → List (List ℕ)
-pieces [] = [] ∷ []
-pieces (x ∷ s) = cond (eqb x space) ([] ∷ pieces s) (grow x (pieces s))
-
 abbrev pub more : List ℕ → Split → Split
 more f Wrong = Wrong
 more f (Fields fs t) = Fields (f ∷ fs) t
 
--- only the last piece may be empty: then a space stands at the end
+-- of the pieces between the spaces only the last may be empty: then a space stands at the end
 unfoldable pub ended : List (List ℕ) → Split
 ended [] = Fields [] false
 ended ([] ∷ []) = Fields [] true
@@ -66,7 +58,7 @@ ended ((x ∷ f) ∷ ps) = more (x ∷ f) (ended ps)
 
 unfoldable pub fieldsOf : List ℕ → Split
 fieldsOf [] = Fields [] false
-fieldsOf (x ∷ s) = cond (eqb x space) (ended (pieces s)) Wrong
+fieldsOf (x ∷ s) = cond (eqb x space) (ended (pieces space s)) Wrong
 
 abbrev pub fieldsIn : Split → List (List ℕ)
 fieldsIn Wrong = []
