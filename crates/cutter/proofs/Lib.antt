@@ -1,0 +1,7 @@
+pub mod Ways
+pub mod States
+pub mod Cases
+pub mod Feeds
+pub mod Runs
+pub mod Theorems
+pub mod Unique

@@ -1,0 +1,5 @@
+pub mod Feed
+pub mod State
+pub mod Calls
+pub mod Cases
+pub mod Run
