@@ -22,10 +22,11 @@ use Rattle.kinds.specs.declared.read.FieldRead.the-variants as field
 use Rattle.table.specs.Read.{padded}
 use Rattle.table.specs.declared.Answer.{Answer}
 use Rattle.table.specs.declared.Answer.the-variants as answer
-use Rattle.messages.specs.Table.{hasFields, answerBy, valuesBy}
+use Rattle.layout.specs.Table.{hasFields, answerBy, valuesBy}
 use Rattle.messages.specs.Body.{typedOf, bodyRead}
 use Rattle.messages.specs.declared.Message.{Message}
 use Rattle.messages.specs.declared.from.BodyRead.{BodyRead}
+use Rattle.messages.proofs.Ways.{by-table, kept-whole}
 use Rattle.line.specs.Cases.{Framed, Headed, Case, Taken, Short, Long, Unprintable, NoSequence, NoStamp, NoFacility, NoType, Spacing, Field, Number, LongPlan, Two}
 use Rattle.line.specs.Line.{isLongPlan}
 use Rattle.line.specs.Read.{headOf, withBody, restOf, byHead, readOf, numberOf, placeOf, freeOf}
@@ -36,7 +37,7 @@ use Rattle.line.specs.declared.LineRead.{LineRead}
 use Rattle.line.specs.declared.LineRead.the-variants as read
 use Rattle.line.proofs.Ways.{line-short, line-long, line-byte, line-head, rest-long}
 use Rattle.line.proofs.Theorems.{reads-allowed, allowed-reads}
-use Rattle.line.proofs.CasesBodies.{by-table, kept-whole, faulty-fields, no-fields, fields-none, fault-faulty, faulty-fault}
+use Rattle.line.proofs.CasesBodies.{faulty-fields, no-fields, fields-none, fault-faulty, faulty-fault}
 
 -- the line is in the case of the answer that it reads as
 abbrev Own : List ℕ → Type 0
@@ -121,7 +122,7 @@ module _ (s : List ℕ) where
 
       go : (c : Bool) → hasFields t ≡ c → Own s
       go true h = by h (answerBy t (drop 18 s)) refl
-      go false h = taken-at _ (body-reads t k l (kept-whole t (drop 18 s) h .1))
+      go false h = taken-at _ (body-reads t k l (kept-whole t (drop 18 s) h))
 
   headed-case : (t : MessageType) → Headed s t → Own s
   headed-case t k = go (isLongPlan t (length s)) refl

@@ -2,73 +2,34 @@
 -- place is that of the first field that is not read. Assumes nothing.
 use mathlib.Core.Path.{_≡_, refl, sym, ap, _∙_}
 use mathlib.Core.Bool.{Bool, true, false}
-use mathlib.Core.List.{List, []}
+use mathlib.Core.List.{List}
 use Prim.Native.Nat.{ℕ, suc, _+_, _<_}
 use native.Mathlib.Omega.{arith}
+use lib.Dec.{eqb}
 use lib.ListN.{length, length-take}
-use Rattle.text.proofs.Logic.{true-false}
+use borrow.Author.Tests.{eqb-true, not-false}
+use Rattle.text.proofs.Logic.{not-fails}
 use Rattle.heads.specs.declared.MessageType.{MessageType}
-use Rattle.heads.specs.declared.MessageType.the-variants.{Af, Az, Dz, Fz, Rz, Tz, Uz, Rt, To, Hb}
 use Rattle.spacing.specs.Body.{bodyOf, allFields, Fields, fieldsOf}
 use Rattle.spacing.proofs.Laws.{fields-text, fields-body}
 use Rattle.kinds.specs.declared.read.FieldRead.{FieldRead}
-use Rattle.kinds.specs.declared.read.FieldRead.the-variants as field
-use Rattle.table.specs.Read.{padded, faultAt, answerOf}
+use Rattle.table.specs.Read.{faultAt, answerOf}
 use Rattle.table.specs.declared.Answer.the-variants.{Spacing}
 use Rattle.table.proofs.Refusals.{spacing, spacing-only, isFault, Bad, bad-at, bad-only, fault-spacing}
-use Rattle.messages.specs.Table.{hasFields, tableOf, isCount, kindsOf, countIn, answerBy, valuesBy}
-use Rattle.messages.specs.Body.{typedOf, bodyRead}
-use Rattle.messages.specs.declared.Body.{Body}
-use Rattle.messages.specs.declared.Body.the-variants as body
-use Rattle.messages.specs.declared.from.BodyRead.the-variants as read
-use Rattle.messages.proofs.Tables.{table-few}
-use Rattle.messages.proofs.Bodies.{kinds-length}
+use Rattle.layout.specs.Table.{hasFields, tableOf, isCount, kindsOf, countIn, answerBy}
+use Rattle.layout.proofs.Ways.{kinds-length}
+use Rattle.layout.proofs.Tables.{table-few}
 use Rattle.line.specs.Cases.{Faulty}
 
--- ---- a body is read by its table, or kept whole
-
-pub by-table : (t : MessageType) (b : List ℕ) → hasFields t ≡ true → bodyRead t b ≡ typedOf t (padded (valuesBy t b)) (answerBy t b)
-unfolding bodyRead
-by-table Af b e = refl
-by-table Az b e = refl
-by-table Dz b e = refl
-by-table Fz b e = refl
-by-table Rz b e = refl
-by-table Tz b e = refl
-by-table Uz b e = refl
-by-table Rt b e = true-false e refl
-by-table To b e = true-false e refl
-by-table Hb b e = true-false e refl
-
-pub kept-whole : (t : MessageType) (b : List ℕ) → hasFields t ≡ false → (x : Body) × (bodyRead t b ≡ read.Read x false)
-unfolding bodyRead
-kept-whole Af b e = true-false refl e
-kept-whole Az b e = true-false refl e
-kept-whole Dz b e = true-false refl e
-kept-whole Fz b e = true-false refl e
-kept-whole Rz b e = true-false refl e
-kept-whole Tz b e = true-false refl e
-kept-whole Uz b e = true-false refl e
-kept-whole Rt b e = (body.Rt, refl)
-kept-whole To b e = (body.To, refl)
-kept-whole Hb b e = (body.Hb, refl)
+-- ---- a body with a fault has fields
 
 -- a type that is kept whole has no field that could be wrong
-none-inside : (t : MessageType) (n i : ℕ) → tableOf t ≡ [] → i < length (kindsOf t n) → ⊥
+none-inside : (t : MessageType) (n i : ℕ) → hasFields t ≡ false → i < length (kindsOf t n) → ⊥
 unfolding kindsOf
-none-inside t n i e h = omega (arith, length-take n (tableOf t), ap length e)
+none-inside t n i e h = omega (arith, length-take n (tableOf t), eqb-true (length (tableOf t)) 0 (not-false (eqb (length (tableOf t)) 0) e))
 
 pub faulty-fields : (t : MessageType) (b : List ℕ) (i : ℕ) (a : FieldRead) → Faulty t b i a → hasFields t ≡ true
-faulty-fields Af b i a f = refl
-faulty-fields Az b i a f = refl
-faulty-fields Dz b i a f = refl
-faulty-fields Fz b i a f = refl
-faulty-fields Rz b i a f = refl
-faulty-fields Tz b i a f = refl
-faulty-fields Uz b i a f = refl
-faulty-fields Rt b i a f = absurd (none-inside Rt (length (f .fields)) i refl (f .first .inside))
-faulty-fields To b i a f = absurd (none-inside To (length (f .fields)) i refl (f .first .inside))
-faulty-fields Hb b i a f = absurd (none-inside Hb (length (f .fields)) i refl (f .first .inside))
+faulty-fields t b i a f = not-fails (hasFields t) (λ e. none-inside t (length (f .fields)) i e (f .first .inside))
 
 -- ---- the fields of a body are counted
 

@@ -30,7 +30,7 @@ use Rattle.heads.specs.declared.MessageType.{MessageType}
 use Rattle.heads.specs.declared.MessageType.the-variants.{Af, Az, Dz, Fz, Rz, Tz, Uz, Rt, To, Hb}
 use Rattle.heads.specs.declared.TypeRead.the-variants as type
 use Rattle.heads.proofs.MessageType.{the-type}
-use Rattle.messages.specs.Table.{routeBy, freeIn}
+use Rattle.layout.specs.Table.{hasFields, routeBy, freeIn}
 use Rattle.messages.specs.Body.{bodyRead}
 use Rattle.messages.specs.declared.from.BodyRead.{BodyRead}
 use Rattle.line.specs.Line.{isLongPlan}
@@ -190,19 +190,13 @@ module _ (s : List ℕ) where
     unfolding freeOf
     free-none e = rw (le-ltb (length s) 18 enough, e)
 
-    pub free-is : (t : MessageType) → typeOf (part 16 2 s) ≡ type.Read t → freeIn t (drop 18 s) ≡ freeOf s
+    free-is : (t : MessageType) → typeOf (part 16 2 s) ≡ type.Read t → freeIn t (drop 18 s) ≡ freeOf s
     unfolding freeOf
     free-is t e = rw (le-ltb (length s) 18 enough, e)
 
--- the types whose free text is the route are those before RT, of which the code tells only the variant's number
-pub free-route : (t : MessageType) (b : List ℕ) → OneOf (0 ∷ 1 ∷ 2 ∷ 3 ∷ 4 ∷ 5 ∷ 6 ∷ []) (tagOf the-type t) → routeBy t b ≡ freeIn t b
-free-route Af b h = refl
-free-route Az b h = refl
-free-route Dz b h = refl
-free-route Fz b h = refl
-free-route Rz b h = refl
-free-route Tz b h = refl
-free-route Uz b h = refl
-free-route Rt b h = absurd (miss (0 ∷ 1 ∷ 2 ∷ 3 ∷ 4 ∷ 5 ∷ 6 ∷ []) 7 tt h)
-free-route To b h = absurd (miss (0 ∷ 1 ∷ 2 ∷ 3 ∷ 4 ∷ 5 ∷ 6 ∷ []) 8 tt h)
-free-route Hb b h = absurd (miss (0 ∷ 1 ∷ 2 ∷ 3 ∷ 4 ∷ 5 ∷ 6 ∷ []) 9 tt h)
+    module _ (t : MessageType) (e : typeOf (part 16 2 s) ≡ type.Read t) where
+      pub free-whole : hasFields t ≡ false → drop 18 s ≡ freeOf s
+      free-whole f = let z : drop 18 s ≡ freeIn t (drop 18 s) = rw f in z ∙ free-is t e
+
+      pub free-route : hasFields t ≡ true → routeBy t (drop 18 s) ≡ freeOf s
+      free-route f = let z : routeBy t (drop 18 s) ≡ freeIn t (drop 18 s) = rw f in z ∙ free-is t e

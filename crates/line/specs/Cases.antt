@@ -16,7 +16,7 @@ use Rattle.spacing.specs.Body.{bodyOf, allFields}
 use Rattle.kinds.specs.declared.read.FieldRead.{FieldRead}
 use Rattle.kinds.specs.declared.read.FieldRead.the-variants as field
 use Rattle.table.specs.Fault.{First}
-use Rattle.messages.specs.Table.{hasFields, isCount, kindsOf}
+use Rattle.layout.specs.Table.{hasFields, isCount, kindsOf}
 use Rattle.messages.specs.declared.Message.{Message}
 use Rattle.line.specs.Line.{lineOf, isAllowed, isLongPlan}
 

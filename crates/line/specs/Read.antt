@@ -12,7 +12,7 @@ use Rattle.forms.specs.Form.{isSequence, isStamp, isFacility}
 use Rattle.heads.specs.Message.{typeOf}
 use Rattle.heads.specs.declared.TypeRead.{TypeRead}
 use Rattle.heads.specs.declared.TypeRead.the-variants as type
-use Rattle.messages.specs.Table.{freeIn}
+use Rattle.layout.specs.Table.{freeIn}
 use Rattle.messages.specs.Body.{bodyRead}
 use Rattle.messages.specs.declared.from.BodyRead.{BodyRead}
 use Rattle.messages.specs.declared.from.BodyRead.the-variants as body

@@ -10,7 +10,6 @@ use heads::TypeRead;
 use messages::Message;
 use messages::from::BodyRead;
 use messages::from::read_body;
-use messages::from::route;
 ghost use mathlib.Core.Path.{_≡_};
 ghost use Prim.Native.Nat.{_≤_};
 ghost use lib.ListN.{length};
@@ -150,10 +149,8 @@ pub fn free(line: &[u8]) -> &[u8]
     let TypeRead::Read(kind) = MessageType::read(&line[16..18]) else {
         return &line[..0];
     };
-    match kind {
-        MessageType::Rt => &line[18..],
-        MessageType::To => &line[18..],
-        MessageType::Hb => &line[18..],
-        _ => route(kind, &line[18..]),
+    if !layout::has_fields(kind) {
+        return &line[18..];
     }
+    layout::route(kind, &line[18..])
 }

@@ -8,7 +8,7 @@ use native.Mathlib.Nat.{le-of-suc-le-suc}
 use native.Mathlib.Omega.{arith}
 use lib.Dec.{eqb, leb}
 use lib.ListN.{length, take, drop, replicate, length-append, length-take, length-drop, length-replicate, take-append-drop}
-use lib.Seq.{length-take-le, take-at, drop-at}
+use lib.Seq.{take-at, drop-at}
 use borrow.Author.Tests.{eqb-true, leb-true}
 use Rattle.text.proofs.Logic.{and-left, and-right, true-false}
 use Rattle.forms.specs.Form.{isRoute}
@@ -23,8 +23,10 @@ use Rattle.kinds.specs.declared.Value.{Value}
 use Rattle.kinds.proofs.Marks.{each-mark, mark-text}
 use Rattle.table.specs.Read.{none, padded}
 use Rattle.table.specs.Show.{allowedFrom}
-use Rattle.messages.specs.Table.{amendments, tableOf, isCount, kindsOf}
-use Rattle.messages.specs.Body.{at, amendedIn, afFrom, planFrom, bodyFrom, typeIn, ofWord, markIn, contentIn, slots, fieldCount, valuesIn, spare, marksIn}
+use Rattle.layout.specs.Table.{amendments, countWith, isCount, kindsOf}
+use Rattle.layout.proofs.Ways.{kinds-length}
+use Rattle.layout.proofs.Tables.{marksKept}
+use Rattle.messages.specs.Body.{at, amendedIn, afFrom, planFrom, bodyFrom, typeIn, valueOfWord, markIn, contentIn, slots, fieldCount, valuesIn, spare, marksIn}
 use Rattle.messages.specs.Allowed.{allNone}
 use Rattle.messages.specs.declared.Amended.{Amended}
 use Rattle.messages.specs.declared.Amended.the-variants as amended
@@ -45,7 +47,7 @@ unfolding isTwo
 two-is v e = λ x. record { a = v .a; b = v .b; c = sym (eqb-true (v .c) 0 e) x }
 
 pub none-is : (v : Value) → eqb (v .a) 0 ≡ true → isOne v ≡ true → none ≡ v
-none-is v e f = ap ofWord (sym (eqb-true (v .a) 0 e)) ∙ one-is v f
+none-is v e f = ap valueOfWord (sym (eqb-true (v .a) 0 e)) ∙ one-is v f
 
 -- what is kept of a value of the kind k
 abbrev pub canon : ℕ → Value → Value
@@ -71,7 +73,7 @@ is-canon k r v = go (eqb k IDENT) (eqb k TZ-IDENT) (eqb k AIRCRAFT) (eqb k ROUTE
 
 -- ---- amendments
 
-pub amended-back : (x : Amended) → amendedIn (ofWord (markIn x)) (contentIn x) ≡ x
+pub amended-back : (x : Amended) → amendedIn (valueOfWord (markIn x)) (contentIn x) ≡ x
 unfolding amendedIn
 amended-back (amended.Ident i) = refl
 amended-back (amended.Aircraft x) = refl
@@ -84,10 +86,10 @@ amended-back amended.Route = refl
 amended-back amended.Nothing = refl
 
 -- an amendment that is made of a mark and a content for which the mark asks keeps both
-mark-kept : (v : Value) (r : List ℕ) (m : ℕ) → isMark m ≡ true → isKindValue (contentOf m) r v ≡ true → (markIn (amendedIn (ofWord m) v) ≡ m) × (contentIn (amendedIn (ofWord m) v) ≡ v)
+mark-kept : (v : Value) (r : List ℕ) (m : ℕ) → isMark m ≡ true → isKindValue (contentOf m) r v ≡ true → (markIn (amendedIn (valueOfWord m) v) ≡ m) × (contentIn (amendedIn (valueOfWord m) v) ≡ v)
 unfolding amendedIn contentOf
 mark-kept v r =
-    each-mark (λ (m : ℕ). isKindValue (contentOf m) r v ≡ true → (markIn (amendedIn (ofWord m) v) ≡ m) × (contentIn (amendedIn (ofWord m) v) ≡ v))
+    each-mark (λ (m : ℕ). isKindValue (contentOf m) r v ≡ true → (markIn (amendedIn (valueOfWord m) v) ≡ m) × (contentIn (amendedIn (valueOfWord m) v) ≡ v))
     (λ q. (refl, is-canon (contentOf 1) r v q))
     (λ q. (refl, is-canon (contentOf 2) r v q))
     (λ q. (refl, is-canon (contentOf 4) r v q))
@@ -97,12 +99,12 @@ mark-kept v r =
     (λ q. (refl, is-canon (contentOf 64) r v q))
     (λ q. (refl, is-canon (contentOf 128) r v q))
 
-pub amended-on : (n v : Value) (r : List ℕ) → isMark (n .a) ≡ true → isOne n ≡ true → isKindValue (contentOf (n .a)) r v ≡ true → (ofWord (markIn (amendedIn n v)) ≡ n) × (contentIn (amendedIn n v) ≡ v)
+pub amended-on : (n v : Value) (r : List ℕ) → isMark (n .a) ≡ true → isOne n ≡ true → isKindValue (contentOf (n .a)) r v ≡ true → (valueOfWord (markIn (amendedIn n v)) ≡ n) × (contentIn (amendedIn n v) ≡ v)
 unfolding amendedIn
-amended-on n v r e f g = let h = mark-kept v r (n .a) e g in (ap ofWord (h .0) ∙ one-is n f, h .1)
+amended-on n v r e f g = let h = mark-kept v r (n .a) e g in (ap valueOfWord (h .0) ∙ one-is n f, h .1)
 
 -- and so does one of nothing
-pub amended-none : (ofWord (markIn (amendedIn none none)) ≡ none) × (contentIn (amendedIn none none) ≡ none)
+pub amended-none : (valueOfWord (markIn (amendedIn none none)) ≡ none) × (contentIn (amendedIn none none) ≡ none)
 unfolding amendedIn
 amended-none = (refl, refl)
 
@@ -193,18 +195,6 @@ type-from type.To m w = refl
 type-from type.Hb m w = refl
 
 -- only an AF keeps the marks
-abbrev pub marksKept : MessageType → ℕ → ℕ
-marksKept type.Af m = m
-marksKept type.Az m = 0
-marksKept type.Dz m = 0
-marksKept type.Fz m = 0
-marksKept type.Rz m = 0
-marksKept type.Tz m = 0
-marksKept type.Uz m = 0
-marksKept type.Rt m = 0
-marksKept type.To m = 0
-marksKept type.Hb m = 0
-
 pub marks-from : (t : MessageType) (m : ℕ) (w : List Value) → marksIn (bodyFrom t m w) ≡ marksKept t m
 unfolding bodyFrom afFrom
 marks-from type.Af m w = refl
@@ -299,12 +289,12 @@ take-amendments (suc j) (suc t) h = ap (λ (l : List ℕ). AMENDMENT ∷ CONTENT
 -- the numbers and contents of t amendments that are made of the values f 0, f 1, ..
 abbrev pairsFrom : ℕ → (ℕ → Value) → List Value
 pairsFrom zero f = []
-pairsFrom (suc t) f = ofWord (markIn (amendedIn (f 0) (f 1))) ∷ contentIn (amendedIn (f 0) (f 1)) ∷ pairsFrom t (λ i. f (suc (suc i)))
+pairsFrom (suc t) f = valueOfWord (markIn (amendedIn (f 0) (f 1))) ∷ contentIn (amendedIn (f 0) (f 1)) ∷ pairsFrom t (λ i. f (suc (suc i)))
 
-none-kept : (n v : Value) → none ≡ n → none ≡ v → (ofWord (markIn (amendedIn n v)) ≡ n) × (contentIn (amendedIn n v) ≡ v)
+none-kept : (n v : Value) → none ≡ n → none ≡ v → (valueOfWord (markIn (amendedIn n v)) ≡ n) × (contentIn (amendedIn n v) ≡ v)
 none-kept n v p q =
-    subst (λ (u : Value). (ofWord (markIn (amendedIn n u)) ≡ n) × (contentIn (amendedIn n u) ≡ u)) q
-    (subst (λ (u : Value). (ofWord (markIn (amendedIn u none)) ≡ u) × (contentIn (amendedIn u none) ≡ none)) p amended-none)
+    subst (λ (u : Value). (valueOfWord (markIn (amendedIn n u)) ≡ n) × (contentIn (amendedIn n u) ≡ u)) q
+    (subst (λ (u : Value). (valueOfWord (markIn (amendedIn u none)) ≡ u) × (contentIn (amendedIn u none) ≡ none)) p amended-none)
 
 pairs-none : (t : ℕ) (l : List Value) → length l ≡ double t → allNone l ≡ true → pairsFrom t (at l) ≡ l
 pairs-none zero [] h e = refl
@@ -324,7 +314,7 @@ mark-value p r n e =
     let m = and-left (isMark (n .a)) (isOne n) e in
     (m, and-right (isMark (n .a)) (isOne n) e, mark-text (n .a) m)
 
-pair-kept : (p : ℕ) (r : List ℕ) (n v : Value) → isValue AMENDMENT p r n ≡ true → isValue CONTENT (leftOf AMENDMENT (shown AMENDMENT p r n)) r v ≡ true → (ofWord (markIn (amendedIn n v)) ≡ n) × (contentIn (amendedIn n v) ≡ v)
+pair-kept : (p : ℕ) (r : List ℕ) (n v : Value) → isValue AMENDMENT p r n ≡ true → isValue CONTENT (leftOf AMENDMENT (shown AMENDMENT p r n)) r v ≡ true → (valueOfWord (markIn (amendedIn n v)) ≡ n) × (contentIn (amendedIn n v) ≡ v)
 unfolding isValue plain
 pair-kept p r n v e f =
     let g = mark-value p r n e in
@@ -371,29 +361,10 @@ af-slots j m r (i ∷ a ∷ b ∷ vs) h e =
     let ps = pairs-back 8 j _ _ r vs more l (nones-none (19 - suc (suc (suc (length vs))))) k in
     λ x. is-canon IDENT r i (allowed-first IDENT (POINT ∷ POINT ∷ amendments j) 0 0 r i (a ∷ b ∷ vs) e) x ∷ is-canon POINT r a (allowed-first POINT (POINT ∷ amendments j) _ _ r a (b ∷ vs) f) x ∷ is-canon POINT r b (allowed-first POINT (amendments j) _ _ r b vs g) x ∷ ps x
 
--- as many kinds as the count says
-fixed-length : (t : MessageType) (k n : ℕ) → length (kindsOf t k) ≡ k → eqb n k ≡ true → length (kindsOf t n) ≡ n
-fixed-length t k n h c = subst (λ (i : ℕ). length (kindsOf t i) ≡ i) (sym (eqb-true n k c)) h
-
-pub kinds-length : (t : MessageType) (n : ℕ) → isCount t n ≡ true → length (kindsOf t n) ≡ n
-unfolding isCount kindsOf
-kinds-length type.Af n c =
-    let b = and-left (leb 5 n && leb n 19) (eqb (n % 2) 1) c in
-    length-take-le n (tableOf type.Af) (leb-true n 19 (and-right (leb 5 n) (leb n 19) b))
-kinds-length type.Az n c = fixed-length type.Az 4 n refl c
-kinds-length type.Dz n c = fixed-length type.Dz 6 n refl c
-kinds-length type.Fz n c = fixed-length type.Fz 7 n refl c
-kinds-length type.Rz n c = fixed-length type.Rz 3 n refl c
-kinds-length type.Tz n c = fixed-length type.Tz 4 n refl c
-kinds-length type.Uz n c = fixed-length type.Uz 7 n refl c
-kinds-length type.Rt n c = fixed-length type.Rt 0 n refl c
-kinds-length type.To n c = fixed-length type.To 0 n refl c
-kinds-length type.Hb n c = fixed-length type.Hb 0 n refl c
-
 -- ---- THE LAWS: from values to a body and back
 
 pub slots-back : (t : MessageType) (n m : ℕ) (r : List ℕ) (vs : List Value) → isCount t n ≡ true → allowedFrom (kindsOf t n) 0 0 r vs ≡ true → slots (bodyFrom t m (padded vs)) ≡ padded vs
-unfolding isCount kindsOf slots bodyFrom planFrom plain
+unfolding isCount countWith kindsOf slots bodyFrom planFrom plain
 slots-back type.Af n m r vs c e =
     let h = count-pairs n c in
     let f = subst (λ (i : ℕ). allowedFrom (kindsOf type.Af i) 0 0 r vs ≡ true) (h .0) e in

@@ -1,9 +1,9 @@
 -- THE THEOREMS of bodies by their types: what reads is a body that a line can have, and its text is what was read; the text of
 -- every such body reads as it. Assumes nothing.
-use mathlib.Core.Path.{_≡_, refl, sym, ap, _∙_, subst}
+use mathlib.Core.Path.{_≡_, refl, sym, ap, _∙_}
 use mathlib.Core.Bool.{Bool, true, false, cond, not, _&&_, _||_}
 use mathlib.Core.List.{List, [], _∷_}
-use Prim.Native.Nat.{ℕ, suc, _+_, _*_, _≤_}
+use Prim.Native.Nat.{ℕ, _+_, _*_, _≤_}
 use native.Mathlib.Omega.{arith}
 use lib.Count.{ones}
 use lib.Dec.{eqb}
@@ -11,30 +11,30 @@ use lib.ListN.{length, take}
 use borrow.Author.Tests.{eq-eqb, eqb-true}
 use Rattle.text.specs.Place.{allIn}
 use Rattle.text.proofs.Logic.{and-left, and-right, true-false}
-use Rattle.forms.specs.Kind.{AMENDMENT}
 use Rattle.heads.specs.declared.MessageType.{MessageType}
 use Rattle.heads.specs.declared.MessageType.the-variants as type
 use Rattle.spacing.specs.Body.{Fields, bodyOf, fieldsOf, fieldsIn}
-use Rattle.kinds.specs.Field.{ROUTE, plain, leftOf, marksOf}
+use Rattle.kinds.specs.Field.{leftOf}
 use Rattle.kinds.specs.declared.Value.{Value}
 use Rattle.table.specs.Read.{padded, answerOf, valuesOf, routeIn, routeOf}
 use Rattle.table.specs.Show.{textsFrom, allowedFrom, marksFrom, routed}
 use Rattle.table.specs.declared.Answer.{Answer}
 use Rattle.table.specs.declared.Answer.the-variants as answer
-use Rattle.table.proofs.Marks.{times}
-use Rattle.table.proofs.Theorems.{Sound, sound, complete, allowed-taken, body-printable}
+use Rattle.table.proofs.Theorems.{complete, allowed-taken, body-printable}
 use Rattle.table.proofs.Routes.{Back, route-back, written-back}
 use Rattle.table.proofs.Amends.{marks-count}
-use Rattle.messages.specs.Table.{tableOf, hasFields, isCount, kindsOf, countIn, answerBy, valuesBy, routeBy, freeIn}
+use Rattle.layout.specs.Table.{tableOf, countWith, isCount, hasFields, kindsOf, countIn, answerBy, valuesBy, routeBy, freeIn}
+use Rattle.layout.proofs.Ways.{kinds-length}
+use Rattle.layout.proofs.Tables.{table-few, table-one}
 use Rattle.messages.specs.Body.{typeIn, marksIn, fieldCount, valuesIn, spare, bodyFrom, typedOf, bodyRead}
 use Rattle.messages.specs.Allowed.{isWhole, hasRoute, kindsIn, bodyText, allNone, isFielded, isBody}
 use Rattle.messages.specs.declared.Af.{Af}
 use Rattle.messages.specs.declared.Body.{Body}
 use Rattle.messages.specs.declared.Body.the-variants as body
-use Rattle.messages.specs.declared.from.BodyRead.{BodyRead}
 use Rattle.messages.specs.declared.from.BodyRead.the-variants as read
-use Rattle.messages.proofs.Bodies.{kinds-length, type-from, body-back, values-back}
-use Rattle.messages.proofs.Tables.{table-few, table-one, count-from, marks-kept, has-route}
+use Rattle.messages.proofs.Ways.{by-table, kept-whole}
+use Rattle.messages.proofs.Bodies.{type-from, body-back, values-back}
+use Rattle.messages.proofs.Tables.{count-from, marks-kept, has-route}
 
 -- kinds after the last field find no route
 route-take : (ks : List ℕ) (p : ℕ) (fs : List (List ℕ)) → routeIn (take (length fs) ks) p fs ≡ routeIn ks p fs
@@ -153,16 +153,8 @@ fields-held t s b u e = rw (← (x .is)) (record { type = same; fields = count; 
     text = rw (same, count, v .0) back
 
 whole-not : (b : Body) → hasFields (typeIn b) ≡ true → isWhole b ≡ false
-whole-not (body.Af m) e = refl
-whole-not (body.Az m) e = refl
-whole-not (body.Dz m) e = refl
-whole-not (body.Fz p) e = refl
-whole-not (body.Rz m) e = refl
-whole-not (body.Tz m) e = refl
-whole-not (body.Uz p) e = refl
-whole-not body.Rt e = sym e
-whole-not body.To e = sym e
-whole-not body.Hb e = sym e
+unfolding isWhole
+whole-not b e = rw e
 
 fielded : (t : MessageType) (s : List ℕ) (b : Body) (u : Bool) → hasFields t ≡ true → Held t s b u → (typeIn b ≡ t) × (isBody b (routeBy t s) u ≡ true) × (bodyText b (routeBy t s) u ≡ s)
 unfolding isBody bodyText
@@ -170,34 +162,29 @@ fielded t s b u f h =
     let q : isWhole b ≡ false = whole-not b (rw (h .type) f) in
     (h .type, rw q (h .good), rw q (h .text))
 
+-- a body that is kept whole
+whole-held : (t : MessageType) (s : List ℕ) → hasFields t ≡ false → allIn 32 126 s ≡ true
+    → let b = bodyFrom t 0 (padded []) in (typeIn b ≡ t) × (isBody b s false ≡ true) × (bodyText b s false ≡ s)
+unfolding isBody bodyText isWhole
+whole-held t s f h = let k = type-from t 0 (padded []) in (k, rw (k, f, h), rw (k, f))
+
 -- what reads is a body that a line can have, and its text is what was read
 pub body-sound : (t : MessageType) (s : List ℕ) (b : Body) (u : Bool) → allIn 32 126 s ≡ true → bodyRead t s ≡ read.Read b u
     → (typeIn b ≡ t) × (isBody b (freeIn t s) u ≡ true) × (bodyText b (freeIn t s) u ≡ s)
-unfolding bodyRead isBody bodyText
-body-sound type.Rt s b u h e =
-    let z : body.Rt ≡ b = cc in
-    let y : false ≡ u = cc in
-    rw (← z, ← y) (refl, rw h, refl)
-body-sound type.To s b u h e =
-    let z : body.To ≡ b = cc in
-    let y : false ≡ u = cc in
-    rw (← z, ← y) (refl, rw h, refl)
-body-sound type.Hb s b u h e =
-    let z : body.Hb ≡ b = cc in
-    let y : false ≡ u = cc in
-    rw (← z, ← y) (refl, rw h, refl)
-body-sound type.Af s b u h e = fielded type.Af s b u refl (fields-held type.Af s b u e)
-body-sound type.Az s b u h e = fielded type.Az s b u refl (fields-held type.Az s b u e)
-body-sound type.Dz s b u h e = fielded type.Dz s b u refl (fields-held type.Dz s b u e)
-body-sound type.Fz s b u h e = fielded type.Fz s b u refl (fields-held type.Fz s b u e)
-body-sound type.Rz s b u h e = fielded type.Rz s b u refl (fields-held type.Rz s b u e)
-body-sound type.Tz s b u h e = fielded type.Tz s b u refl (fields-held type.Tz s b u e)
-body-sound type.Uz s b u h e = fielded type.Uz s b u refl (fields-held type.Uz s b u e)
+body-sound t s b u h e = go (hasFields t) refl
+  where
+    go : (c : Bool) → hasFields t ≡ c → (typeIn b ≡ t) × (isBody b (freeIn t s) u ≡ true) × (bodyText b (freeIn t s) u ≡ s)
+    go true f = rw f (fielded t s b u f (fields-held t s b u (sym (by-table t s f) ∙ e)))
+    go false f =
+        let d : read.Read (bodyFrom t 0 (padded [])) false ≡ read.Read b u = sym (kept-whole t s f) ∙ e in
+        let z : bodyFrom t 0 (padded []) ≡ b = cc in
+        let y : false ≡ u = cc in
+        rw (f, ← z, ← y) (whole-held t s f h)
 
 -- "the count of marks set is the count of amendments": an AF that is read has three fields, and two more for each mark
 pub marks-amendments : (s : List ℕ) (a : Af) (u : Bool) → bodyRead type.Af s ≡ read.Read (body.Af a) u → countIn s ≡ 3 + 2 * ones (a .marks)
-unfolding bodyRead
-marks-amendments s a u e = sym (fields-held type.Af s (body.Af a) u e .fields)
+unfolding fieldCount countWith
+marks-amendments s a u e = sym (fields-held type.Af s (body.Af a) u (sym (by-table type.Af s refl) ∙ e) .fields)
 
 -- ---- what is shown
 
@@ -295,17 +282,36 @@ whole-complete : (r : List ℕ) (u : Bool) → (allIn 32 126 r && not u) ≡ tru
 whole-complete r true e = let z = and-right (allIn 32 126 r) false e in (sym z, true-false z refl)
 whole-complete r false e = (refl, and-left (allIn 32 126 r) true e)
 
+whole-is : (b : Body) → hasFields (typeIn b) ≡ false → isWhole b ≡ true
+unfolding isWhole
+whole-is b e = rw e
+
+-- it is its type alone
+whole-back : (b : Body) → hasFields (typeIn b) ≡ false → bodyFrom (typeIn b) 0 (padded []) ≡ b
+unfolding bodyFrom
+whole-back (body.Af m) e = true-false refl e
+whole-back (body.Az m) e = true-false refl e
+whole-back (body.Dz m) e = true-false refl e
+whole-back (body.Fz p) e = true-false refl e
+whole-back (body.Rz m) e = true-false refl e
+whole-back (body.Tz m) e = true-false refl e
+whole-back (body.Uz p) e = true-false refl e
+whole-back body.Rt e = refl
+whole-back body.To e = refl
+whole-back body.Hb e = refl
+
 -- the text of every body that a line can have reads as it, and its free text is handed back
 pub body-complete : (b : Body) (r : List ℕ) (u : Bool) → isBody b r u ≡ true
     → (bodyRead (typeIn b) (bodyText b r u) ≡ read.Read b u) × (freeIn (typeIn b) (bodyText b r u) ≡ r) × (allIn 32 126 (bodyText b r u) ≡ true)
-unfolding bodyRead isBody bodyText
-body-complete (body.Af m) r u e = (shown-read (body.Af m) r u e, shown-free (body.Af m) r u e, shown-printable (body.Af m) r u e)
-body-complete (body.Az m) r u e = (shown-read (body.Az m) r u e, shown-free (body.Az m) r u e, shown-printable (body.Az m) r u e)
-body-complete (body.Dz m) r u e = (shown-read (body.Dz m) r u e, shown-free (body.Dz m) r u e, shown-printable (body.Dz m) r u e)
-body-complete (body.Fz p) r u e = (shown-read (body.Fz p) r u e, shown-free (body.Fz p) r u e, shown-printable (body.Fz p) r u e)
-body-complete (body.Rz m) r u e = (shown-read (body.Rz m) r u e, shown-free (body.Rz m) r u e, shown-printable (body.Rz m) r u e)
-body-complete (body.Tz m) r u e = (shown-read (body.Tz m) r u e, shown-free (body.Tz m) r u e, shown-printable (body.Tz m) r u e)
-body-complete (body.Uz p) r u e = (shown-read (body.Uz p) r u e, shown-free (body.Uz p) r u e, shown-printable (body.Uz p) r u e)
-body-complete body.Rt r u e = let h = whole-complete r u e in (rw (h .0), refl, h .1)
-body-complete body.To r u e = let h = whole-complete r u e in (rw (h .0), refl, h .1)
-body-complete body.Hb r u e = let h = whole-complete r u e in (rw (h .0), refl, h .1)
+unfolding isBody bodyText
+body-complete b r u e = go (hasFields (typeIn b)) refl
+  where
+    go : (c : Bool) → hasFields (typeIn b) ≡ c → (bodyRead (typeIn b) (bodyText b r u) ≡ read.Read b u) × (freeIn (typeIn b) (bodyText b r u) ≡ r) × (allIn 32 126 (bodyText b r u) ≡ true)
+    go true f =
+        let q = whole-not b f in
+        let g : isFielded b r ≡ true = rw q at e in
+        rw (q, f) (by-table (typeIn b) (bodyOf (textsFrom (kindsIn b) 0 r (valuesIn b)) u) f ∙ shown-read b r u g, shown-free b r u g, shown-printable b r u g)
+    go false f =
+        let q = whole-is b f in
+        let h = whole-complete r u (rw q at e) in
+        rw (q, f) (kept-whole (typeIn b) r f ∙ rw (whole-back b f, h .0), refl, h .1)

@@ -1,37 +1,28 @@
--- The ways of the functions: when a word begins with P, an AF of its parts, a body by the table, and its route. Assumes nothing.
-use mathlib.Core.Path.{_≡_, refl, sym, _∙_}
-use mathlib.Core.Bool.{Bool, true, false, _&&_}
-use mathlib.Core.List.{List, [], _∷_, _++_, map}
+-- The ways of the functions: when a word begins with P, an AF of its parts, and a body by the table or kept whole. Assumes nothing.
+use mathlib.Core.Path.{_≡_, refl}
+use mathlib.Core.Bool.{Bool, true, false}
+use mathlib.Core.List.{List, [], map}
 use Prim.Native.Char.{code}
-use Prim.Native.Nat.{ℕ, zero, suc, _+_, _-_, _/_, _%_, _^_, _≤_, _<_}
+use Prim.Native.Nat.{ℕ, suc, _+_, _/_, _^_, _<_}
 use native.Mathlib.Omega.{arith}
 use lib.Dec.{eqb, leb}
-use denote.Enum.Declared.{tagOf}
-use types.Run.{OneOf, miss}
-use lib.ListN.{length, getD, take, replicate, length-append}
-use lib.Seq.{take-append-le}
+use lib.ListN.{getD}
 use borrow.Author.Tests.{eq-eqb, ne-eqb, eqb-true, eqb-false, leb-true, leb-false}
 use Rattle.text.specs.Code.{byteOf}
 use Rattle.text.specs.Place.{digits}
 use Rattle.text.specs.Text.{textOf}
-use Rattle.text.proofs.Logic.{and-left, and-right, same-test}
+use Rattle.text.proofs.Logic.{same-test}
 use Rattle.text.proofs.Places.{digits-zero, digits-suc}
 use Rattle.idents.specs.declared.ident.Ident.{Ident}
 use Rattle.heads.specs.declared.MessageType.{MessageType}
-use Rattle.heads.specs.declared.MessageType.the-variants as type
-use Rattle.heads.proofs.MessageType.{the-type}
-use Rattle.spacing.specs.Body.{fieldsOf, fieldsIn, countOf}
-use Rattle.spacing.specs.declared.Counted.the-variants as counted
-use Rattle.spacing.proofs.Laws.{count-known}
-use Rattle.kinds.specs.Field.{plain, leftOf, identIn}
+use Rattle.kinds.specs.Field.{identIn}
 use Rattle.kinds.specs.declared.Value.{Value}
-use Rattle.table.specs.Read.{padded, answerOf, valuesOf, routeIn, routeOf}
-use Rattle.table.specs.declared.Answer.the-variants as answer
-use Rattle.table.proofs.Ways.{read-wrong, route-no-kinds, route-no-fields, route-later}
-use Rattle.messages.specs.Table.{tableOf, dotted, isCount, kindsOf, countIn, answerBy, valuesBy, routeBy}
-use Rattle.messages.specs.Body.{at, amendedIn, afFrom, typedOf, bodyRead}
+use Rattle.table.specs.Read.{padded}
+use Rattle.layout.specs.Table.{hasFields, answerBy, valuesBy}
+use Rattle.messages.specs.Body.{at, amendedIn, afFrom, bodyFrom, typedOf, bodyRead}
 use Rattle.messages.specs.declared.Amended.{Amended}
 use Rattle.messages.specs.declared.Af.{Af}
+use Rattle.messages.specs.declared.from.BodyRead.the-variants as read
 
 -- ---- the first letter of a word
 
@@ -81,81 +72,13 @@ af-is m w i a b c d e f g h pi pa pb pc pd pe pf pg ph = λ x. record {
   eighth = ph x;
 }
 
--- ---- a body read by as many kinds as it has fields
-
--- a right count asks for no more kinds than the table has
-pub count-kinds : (t : MessageType) (n : ℕ) → isCount t n ≡ true → n ≤ length (tableOf t)
-unfolding isCount
-count-kinds type.Af n e = leb-true n 19 (and-right (leb 5 n) (leb n 19) (and-left (leb 5 n && leb n 19) (eqb (n % 2) 1) e))
-count-kinds type.Az n e = omega (arith, eqb-true n 4 e)
-count-kinds type.Dz n e = omega (arith, eqb-true n 6 e)
-count-kinds type.Fz n e = omega (arith, eqb-true n 7 e)
-count-kinds type.Rz n e = omega (arith, eqb-true n 3 e)
-count-kinds type.Tz n e = omega (arith, eqb-true n 4 e)
-count-kinds type.Uz n e = omega (arith, eqb-true n 7 e)
-count-kinds type.Rt n e = omega (arith, eqb-true n 0 e)
-count-kinds type.To n e = omega (arith, eqb-true n 0 e)
-count-kinds type.Hb n e = omega (arith, eqb-true n 0 e)
-
-pub count-dotted : (t : MessageType) (n : ℕ) → isCount t n ≡ true → n ≤ length (dotted t)
-unfolding dotted
-count-dotted t n e = rw length-append (omega (arith, count-kinds t n e))
-
-pub dotted-kinds : (t : MessageType) (n : ℕ) → isCount t n ≡ true → take n (dotted t) ≡ kindsOf t n
-unfolding dotted kindsOf
-dotted-kinds t n e = take-append-le n (tableOf t) _ (count-kinds t n e)
+-- ---- a body by the table, or kept whole
 
 module _ (t : MessageType) (s : List ℕ) where
-  pub by-wrong : countOf s ≡ counted.Wrong → (answer.Spacing ≡ answerBy t s) × (padded [] ≡ padded (valuesBy t s))
-  unfolding answerBy valuesBy
-  by-wrong e = go (isCount t (countIn s)) refl
-    where
-      go : (b : Bool) → isCount t (countIn s) ≡ b → (answer.Spacing ≡ answerBy t s) × (padded [] ≡ padded (valuesBy t s))
-      go true q = let r = read-wrong (kindsOf t (countIn s)) s e in (rw q (r .0), rw q (r .1))
-      go false q = (rw q, rw q)
+  pub by-table : hasFields t ≡ true → bodyRead t s ≡ typedOf t (padded (valuesBy t s)) (answerBy t s)
+  unfolding bodyRead
+  by-table e = rw e
 
-  module _ {n : ℕ} {b : Bool} (e : countOf s ≡ counted.Fields n b) where
-    count-in : countIn s ≡ n
-    unfolding countIn
-    count-in = sym (count-known s e .1)
-
-    pub by-not : isCount t n ≡ false → (answer.Spacing ≡ answerBy t s) × (padded [] ≡ padded (valuesBy t s))
-    unfolding answerBy valuesBy
-    by-not f = (rw (count-in, f), rw (count-in, f))
-
-    pub by-count : isCount t n ≡ true → (answerOf (take n (dotted t)) s ≡ answerBy t s) × (padded (valuesOf (take n (dotted t)) s) ≡ padded (valuesBy t s))
-    unfolding answerBy valuesBy
-    by-count f = let k = dotted-kinds t n f in (rw (count-in, f, k), rw (count-in, f, k))
-
--- ---- the route: a dot is no kind of a field
-
-dots-route : (n p : ℕ) (fs : List (List ℕ)) → routeIn (replicate n (code ".")) p fs ≡ []
-unfolding plain
-dots-route zero p fs = route-no-kinds p fs
-dots-route (suc n) p [] = route-no-fields (replicate (suc n) (code ".")) p
-dots-route (suc n) p (f ∷ fs) = route-later (code ".") (replicate n (code ".")) p f fs (λ e. omega arith) ∙ dots-route n (leftOf (code ".") f) fs
-
-route-dots : (ks : List ℕ) (n p : ℕ) (fs : List (List ℕ)) → routeIn (ks ++ replicate n (code ".")) p fs ≡ routeIn ks p fs
-unfolding routeIn
-route-dots [] n p fs = dots-route n p fs ∙ sym (route-no-kinds p fs)
-route-dots (k ∷ ks) n p [] = refl
-route-dots (k ∷ ks) n p (f ∷ fs) = rw (route-dots ks n (leftOf k f) fs)
-
-pub route-dotted : (t : MessageType) (s : List ℕ) → routeOf (dotted t) s ≡ routeBy t s
-unfolding dotted routeOf routeBy
-route-dotted t s = route-dots (tableOf t) (19 - length (tableOf t)) 0 (fieldsIn (fieldsOf s))
-
--- ---- the types that are read by the table are those before RT, of which the code tells only the variant's number
-
-pub body-fields : (t : MessageType) (s : List ℕ) → OneOf (0 ∷ 1 ∷ 2 ∷ 3 ∷ 4 ∷ 5 ∷ 6 ∷ []) (tagOf the-type t) → typedOf t (padded (valuesBy t s)) (answerBy t s) ≡ bodyRead t s
-unfolding bodyRead
-body-fields type.Af s h = refl
-body-fields type.Az s h = refl
-body-fields type.Dz s h = refl
-body-fields type.Fz s h = refl
-body-fields type.Rz s h = refl
-body-fields type.Tz s h = refl
-body-fields type.Uz s h = refl
-body-fields type.Rt s h = absurd (miss (0 ∷ 1 ∷ 2 ∷ 3 ∷ 4 ∷ 5 ∷ 6 ∷ []) 7 tt h)
-body-fields type.To s h = absurd (miss (0 ∷ 1 ∷ 2 ∷ 3 ∷ 4 ∷ 5 ∷ 6 ∷ []) 8 tt h)
-body-fields type.Hb s h = absurd (miss (0 ∷ 1 ∷ 2 ∷ 3 ∷ 4 ∷ 5 ∷ 6 ∷ []) 9 tt h)
+  pub kept-whole : hasFields t ≡ false → bodyRead t s ≡ read.Read (bodyFrom t 0 (padded [])) false
+  unfolding bodyRead
+  kept-whole e = rw e

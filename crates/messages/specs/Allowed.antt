@@ -1,9 +1,8 @@
 -- The text of a body and which bodies a line can have. r is the free text that stands beside the message: the route, or the
 -- body of RT, TO and HB. Assumes nothing.
 use Prim.Native.Nat.{ℕ}
-use mathlib.Core.Bool.{Bool, true, false, cond, not, _&&_, _||_}
+use mathlib.Core.Bool.{Bool, true, cond, not, _&&_, _||_}
 use mathlib.Core.List.{List, [], _∷_}
-use lib.Bits.{bitAnd}
 use lib.Dec.{eqb}
 use lib.ListN.{length}
 use Rattle.text.specs.Place.{allIn}
@@ -11,36 +10,17 @@ use Rattle.spacing.specs.Body.{bodyOf}
 use Rattle.kinds.specs.Field.{isOne}
 use Rattle.kinds.specs.declared.Value.{Value}
 use Rattle.table.specs.Show.{textsFrom, allowedFrom, marksFrom}
-use Rattle.messages.specs.Table.{isCount, kindsOf}
+use Rattle.layout.specs.Table.{isCount, hasFields, hasRouteWith, kindsOf}
 use Rattle.messages.specs.Body.{typeIn, fieldCount, valuesIn, spare, marksIn}
 use Rattle.messages.specs.declared.Body.{Body}
-use Rattle.messages.specs.declared.Body.the-variants as body
 
 -- "RT, TO and HB bodies are kept whole and may be empty"
-abbrev pub isWhole : Body → Bool
-isWhole body.Rt = true
-isWhole body.To = true
-isWhole body.Hb = true
-isWhole (body.Af m) = false
-isWhole (body.Az m) = false
-isWhole (body.Dz m) = false
-isWhole (body.Fz p) = false
-isWhole (body.Rz m) = false
-isWhole (body.Tz m) = false
-isWhole (body.Uz p) = false
+unfoldable pub isWhole : Body → Bool
+isWhole b = not (hasFields (typeIn b))
 
 -- a route is among the fields
-abbrev pub hasRoute : Body → Bool
-hasRoute (body.Fz p) = true
-hasRoute (body.Uz p) = true
-hasRoute (body.Af m) = not (eqb (bitAnd (m .marks) 128) 0)
-hasRoute (body.Az m) = false
-hasRoute (body.Dz m) = false
-hasRoute (body.Rz m) = false
-hasRoute (body.Tz m) = false
-hasRoute body.Rt = false
-hasRoute body.To = false
-hasRoute body.Hb = false
+unfoldable pub hasRoute : Body → Bool
+hasRoute b = hasRouteWith (typeIn b) (marksIn b)
 
 -- the kinds of its fields
 unfoldable pub kindsIn : Body → List ℕ
@@ -54,8 +34,8 @@ abbrev pub allNone : List Value → Bool
 allNone [] = true
 allNone (v ∷ vs) = eqb (v .a) 0 && isOne v && allNone vs
 
--- the count of fields is right; each is one that some text gives and may follow those before it; the marks are those of the amendments, and no
--- amendment comes after these; free text only where a route is
+-- the count of fields is right; each is one that some text gives and may follow those before it; the marks are those of the
+-- amendments, and no amendment comes after these; free text only where a route is
 unfoldable pub isFielded : Body → List ℕ → Bool
 isFielded b r =
     isCount (typeIn b) (fieldCount b) && allowedFrom (kindsIn b) 0 0 r (valuesIn b) && eqb (marksFrom (kindsIn b) 0 0 r (valuesIn b)) (marksIn b) && allNone (spare b) && (hasRoute b || eqb (length r) 0)

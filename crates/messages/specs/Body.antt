@@ -1,9 +1,8 @@
 -- A body by its type over the values of its fields, and back. Assumes nothing.
-use Prim.Native.Nat.{ℕ, _+_, _*_}
+use Prim.Native.Nat.{ℕ}
 use Prim.Native.Char.{code}
-use mathlib.Core.Bool.{Bool, true, false, cond}
+use mathlib.Core.Bool.{false, cond}
 use mathlib.Core.List.{List, [], _∷_}
-use lib.Count.{ones}
 use lib.Dec.{eqb}
 use lib.ListN.{getD, take, drop}
 use Rattle.text.specs.Text.{textOf}
@@ -16,7 +15,7 @@ use Rattle.kinds.specs.declared.Value.{Value}
 use Rattle.table.specs.Read.{none, padded}
 use Rattle.table.specs.declared.Answer.{Answer}
 use Rattle.table.specs.declared.Answer.the-variants as answer
-use Rattle.messages.specs.Table.{answerBy, valuesBy}
+use Rattle.layout.specs.Table.{countWith, hasFields, answerBy, valuesBy}
 use Rattle.messages.specs.declared.Plan.{Plan}
 use Rattle.messages.specs.declared.PlanLevel.{PlanLevel}
 use Rattle.messages.specs.declared.PlanLevel.the-variants as level
@@ -99,18 +98,9 @@ typedOf t w (answer.Field i) = read.Field i
 typedOf t w (answer.Number i) = read.Number i
 typedOf t w (answer.Two i) = read.Two i
 
--- "RT, TO and HB bodies are kept whole"; the others are read by the table
+-- by the table where the type has fields; "RT, TO and HB bodies are kept whole", and then no value is held
 unfoldable pub bodyRead : MessageType → List ℕ → BodyRead
-bodyRead type.Rt s = read.Read body.Rt false
-bodyRead type.To s = read.Read body.To false
-bodyRead type.Hb s = read.Read body.Hb false
-bodyRead type.Af s = typedOf type.Af (padded (valuesBy type.Af s)) (answerBy type.Af s)
-bodyRead type.Az s = typedOf type.Az (padded (valuesBy type.Az s)) (answerBy type.Az s)
-bodyRead type.Dz s = typedOf type.Dz (padded (valuesBy type.Dz s)) (answerBy type.Dz s)
-bodyRead type.Fz s = typedOf type.Fz (padded (valuesBy type.Fz s)) (answerBy type.Fz s)
-bodyRead type.Rz s = typedOf type.Rz (padded (valuesBy type.Rz s)) (answerBy type.Rz s)
-bodyRead type.Tz s = typedOf type.Tz (padded (valuesBy type.Tz s)) (answerBy type.Tz s)
-bodyRead type.Uz s = typedOf type.Uz (padded (valuesBy type.Uz s)) (answerBy type.Uz s)
+bodyRead t s = cond (hasFields t) (typedOf t (padded (valuesBy t s)) (answerBy t s)) (read.Read (bodyFrom t 0 (padded [])) false)
 
 -- ---- back: the type of a body, and the values of its fields
 
@@ -126,14 +116,14 @@ typeIn body.Rt = type.Rt
 typeIn body.To = type.To
 typeIn body.Hb = type.Hb
 
-abbrev pub ofWord : ℕ → Value
-ofWord t = valued t 0 0
+abbrev pub valueOfWord : ℕ → Value
+valueOfWord t = valued t 0 0
 
-abbrev pub ofIdent : Ident → Value
-ofIdent i = valued (i .key .0) (i .number .0) 0
+abbrev pub valueOfIdent : Ident → Value
+valueOfIdent i = valued (i .key .0) (i .number .0) 0
 
-abbrev pub ofAircraft : Aircraft → Value
-ofAircraft x = valued (x .prefix) (x .model) (x .letter)
+abbrev pub valueOfAircraft : Aircraft → Value
+valueOfAircraft x = valued (x .prefix) (x .model) (x .letter)
 
 -- the mark of an amendment's number, and the value of its content
 abbrev pub markIn : Amended → ℕ
@@ -148,13 +138,13 @@ markIn amended.Route = 128
 markIn amended.Nothing = 0
 
 abbrev pub contentIn : Amended → Value
-contentIn (amended.Ident i) = ofIdent i
-contentIn (amended.Aircraft x) = ofAircraft x
-contentIn (amended.Speed x) = ofWord (x .0)
-contentIn (amended.Fix x) = ofWord (x .0)
-contentIn (amended.Time x) = ofWord (x .0)
-contentIn (amended.Assigned x) = ofWord (x .0)
-contentIn (amended.Requested x) = ofWord (x .0)
+contentIn (amended.Ident i) = valueOfIdent i
+contentIn (amended.Aircraft x) = valueOfAircraft x
+contentIn (amended.Speed x) = valueOfWord (x .0)
+contentIn (amended.Fix x) = valueOfWord (x .0)
+contentIn (amended.Time x) = valueOfWord (x .0)
+contentIn (amended.Assigned x) = valueOfWord (x .0)
+contentIn (amended.Requested x) = valueOfWord (x .0)
 contentIn amended.Route = none
 contentIn amended.Nothing = none
 
@@ -164,44 +154,24 @@ slotsOf m = m .first ∷ m .second ∷ m .third ∷ m .fourth ∷ m .fifth ∷ m
 
 abbrev pub pairsOf : List Amended → List Value
 pairsOf [] = []
-pairsOf (x ∷ xs) = ofWord (markIn x) ∷ contentIn x ∷ pairsOf xs
+pairsOf (x ∷ xs) = valueOfWord (markIn x) ∷ contentIn x ∷ pairsOf xs
 
 abbrev pub planValues : Plan → List Value
-planValues p = ofIdent (p .ident) ∷ ofAircraft (p .aircraft) ∷ ofWord (p .speed .0) ∷ ofWord (p .fix .0) ∷ ofWord (p .time .0) ∷ ofWord (p .level .0) ∷ none ∷ []
+planValues p = valueOfIdent (p .ident) ∷ valueOfAircraft (p .aircraft) ∷ valueOfWord (p .speed .0) ∷ valueOfWord (p .fix .0) ∷ valueOfWord (p .time .0) ∷ valueOfWord (p .level .0) ∷ none ∷ []
 
 -- nineteen values, of which the first are the fields'
 unfoldable pub slots : Body → List Value
-slots (body.Af m) = ofIdent (m .ident) ∷ ofWord (m .from .0) ∷ ofWord (m .to .0) ∷ pairsOf (slotsOf m)
-slots (body.Az m) = padded (ofIdent (m .ident) ∷ ofWord (m .from .0) ∷ ofWord (m .to .0) ∷ ofWord (m .clock .0) ∷ [])
+slots (body.Af m) = valueOfIdent (m .ident) ∷ valueOfWord (m .from .0) ∷ valueOfWord (m .to .0) ∷ pairsOf (slotsOf m)
+slots (body.Az m) = padded (valueOfIdent (m .ident) ∷ valueOfWord (m .from .0) ∷ valueOfWord (m .to .0) ∷ valueOfWord (m .clock .0) ∷ [])
 slots (body.Dz m) =
-    padded (ofIdent (m .ident) ∷ ofAircraft (m .aircraft) ∷ ofWord (m .from .0) ∷ ofWord (m .time .0) ∷ ofWord (m .to .0) ∷ ofWord (m .clock .0) ∷ [])
+    padded (valueOfIdent (m .ident) ∷ valueOfAircraft (m .aircraft) ∷ valueOfWord (m .from .0) ∷ valueOfWord (m .time .0) ∷ valueOfWord (m .to .0) ∷ valueOfWord (m .clock .0) ∷ [])
 slots (body.Fz p) = padded (planValues p)
-slots (body.Rz m) = padded (ofIdent (m .ident) ∷ ofWord (m .from .0) ∷ ofWord (m .to .0) ∷ [])
-slots (body.Tz m) = padded (ofIdent (m .ident) ∷ ofWord (m .speed .0) ∷ ofWord (m .level .0) ∷ ofWord (m .position .0) ∷ [])
+slots (body.Rz m) = padded (valueOfIdent (m .ident) ∷ valueOfWord (m .from .0) ∷ valueOfWord (m .to .0) ∷ [])
+slots (body.Tz m) = padded (valueOfIdent (m .ident) ∷ valueOfWord (m .speed .0) ∷ valueOfWord (m .level .0) ∷ valueOfWord (m .position .0) ∷ [])
 slots (body.Uz p) = padded (planValues p)
 slots body.Rt = padded []
 slots body.To = padded []
 slots body.Hb = padded []
-
--- how many fields: of an AF, "the count of marks set is the count of amendments"
-abbrev pub fieldCount : Body → ℕ
-fieldCount (body.Af m) = 3 + 2 * ones (m .marks)
-fieldCount (body.Az m) = 4
-fieldCount (body.Dz m) = 6
-fieldCount (body.Fz p) = 7
-fieldCount (body.Rz m) = 3
-fieldCount (body.Tz m) = 4
-fieldCount (body.Uz p) = 7
-fieldCount body.Rt = 0
-fieldCount body.To = 0
-fieldCount body.Hb = 0
-
-unfoldable pub valuesIn : Body → List Value
-valuesIn b = take (fieldCount b) (slots b)
-
--- the values after those of the fields
-unfoldable pub spare : Body → List Value
-spare b = drop (fieldCount b) (slots b)
 
 -- the marks that a body keeps
 abbrev pub marksIn : Body → ℕ
@@ -215,3 +185,14 @@ marksIn (body.Uz p) = 0
 marksIn body.Rt = 0
 marksIn body.To = 0
 marksIn body.Hb = 0
+
+-- how many fields, by its type and its marks
+unfoldable pub fieldCount : Body → ℕ
+fieldCount b = countWith (typeIn b) (marksIn b)
+
+unfoldable pub valuesIn : Body → List Value
+valuesIn b = take (fieldCount b) (slots b)
+
+-- the values after those of the fields
+unfoldable pub spare : Body → List Value
+spare b = drop (fieldCount b) (slots b)

@@ -23,15 +23,11 @@ use heads::MessageType;
 use idents::aircraft::Aircraft;
 use idents::ident::Ident;
 use kinds::Value;
-use spacing::Counted;
 use table::Answer;
 use table::TableRead;
 ghost use mathlib.Core.Path.{_≡_};
 ghost use Rattle.kinds.specs.Field.{identIn, aircraftIn};
-ghost use Rattle.table.specs.Read.{padded};
-ghost use Rattle.messages.specs.Table.{dotted, isCount, answerBy, valuesBy, routeBy};
 ghost use Rattle.messages.specs.Body.{amendedIn, afFrom, planFrom, bodyFrom, typedOf, bodyRead};
-ghost use Rattle.heads.specs.declared.MessageType.the-variants as type;
 
 // What a body is read as: the answers 0, 8, 9, 10 and 18, with the place of the field.
 pub enum BodyRead {
@@ -40,70 +36,6 @@ pub enum BodyRead {
     Field(usize),
     Number(usize),
     Two(usize),
-}
-
-// The table: the kinds of each type's fields in order, of an AF those with eight amendments, and dots after them.
-pub fn kinds_of(t: MessageType) -> [u8; 19]
-    ensures { λ r. ⌜ r ≡ dotted t ⌝ }
-{
-    match t {
-        MessageType::Af => *b"IPPBWBWBWBWBWBWBWBW",
-        MessageType::Az => *b"IPPA...............",
-        MessageType::Dz => *b"IZPTPC.............",
-        MessageType::Fz => *b"IZSFHLR............",
-        MessageType::Rz => *b"IPP................",
-        MessageType::Tz => *b"JGMO...............",
-        MessageType::Uz => *b"IZSFHLR............",
-        MessageType::Rt => *b"...................",
-        MessageType::To => *b"...................",
-        MessageType::Hb => *b"...................",
-    }
-}
-
-// AF: even counts of fields, under 5 or over 19, are wrong.
-fn is_af_count(n: usize) -> bool
-    ensures { λ r. ⌜ r ≡ isCount type.Af n ⌝ }
-{
-    if n < 5 {
-        return false;
-    }
-    if n > 19 {
-        return false;
-    }
-    n % 2 == 1
-}
-
-// Whether the body of a type may have n fields.
-pub fn is_count(t: MessageType, n: usize) -> bool
-    ensures { λ r. ⌜ r ≡ isCount t n ⌝ }
-{
-    match t {
-        MessageType::Af => is_af_count(n),
-        MessageType::Az => n == 4,
-        MessageType::Dz => n == 6,
-        MessageType::Fz => n == 7,
-        MessageType::Rz => n == 3,
-        MessageType::Tz => n == 4,
-        MessageType::Uz => n == 7,
-        MessageType::Rt => n == 0,
-        MessageType::To => n == 0,
-        MessageType::Hb => n == 0,
-    }
-}
-
-// Reads a body by the kinds of as many fields as it has.
-fn read_by(t: MessageType, body: &[u8]) -> TableRead
-    ensures { λ r. ⌜ r .answer ≡ answerBy t (now (body .entry)) ⌝ }
-    ensures { λ r. ⌜ r .values ≡ padded (valuesBy t (now (body .entry))) ⌝ }
-{
-    let Counted::Fields(n, _) = spacing::count(body) else {
-        return table::refused();
-    };
-    if !is_count(t, n) {
-        return table::refused();
-    }
-    let kinds = kinds_of(t);
-    table::read(&kinds[..n], body)
 }
 
 fn ident_in(v: Value) -> Ident
@@ -228,22 +160,13 @@ fn typed(t: MessageType, read: TableRead) -> BodyRead
     }
 }
 
-// The route among the fields of a type's body, as a part of it; an empty part where there is none.
-pub fn route(t: MessageType, body: &[u8]) -> &[u8]
-    ensures { λ r. ⌜ now r ≡ routeBy t (now (body .entry)) ⌝ }
-{
-    let kinds = kinds_of(t);
-    table::route(&kinds, body)
-}
-
-// Reads the body of a type's line.
+// Reads the body of a type's line: by the table, or kept whole, and then no value is held.
 pub fn read_body(t: MessageType, body: &[u8]) -> BodyRead
     ensures { λ r. ⌜ r ≡ bodyRead t (now (body .entry)) ⌝ }
 {
-    match t {
-        MessageType::Rt => BodyRead::Read(Body::Rt, false),
-        MessageType::To => BodyRead::Read(Body::To, false),
-        MessageType::Hb => BodyRead::Read(Body::Hb, false),
-        _ => typed(t, read_by(t, body)),
+    if !layout::has_fields(t) {
+        let values = [Value { a: 0, b: 0, c: 0 }; 19];
+        return BodyRead::Read(body_from(t, 0, values), false);
     }
+    typed(t, layout::read(t, body))
 }

@@ -16,7 +16,6 @@ use heads::Facility;
 use idents::aircraft::Aircraft;
 use idents::ident::Ident;
 ghost use mathlib.Core.Path.{_≡_};
-ghost use lib.Count.{ones};
 ghost use Rattle.messages.specs.Body.{planLevel};
 
 pub mod from;
@@ -131,14 +130,5 @@ impl Plan {
             return PlanLevel::Requested(level);
         }
         PlanLevel::Assigned(level)
-    }
-}
-
-impl Af {
-    // How many amendments: the marks set.
-    pub fn count(self) -> u32
-        ensures { λ r. ⌜ r ≡ ones (self .marks) ⌝ }
-    {
-        u8::count_ones(self.marks)
     }
 }

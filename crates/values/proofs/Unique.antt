@@ -3,10 +3,7 @@
 use mathlib.Core.Path.{_≡_, sym, _∙_}
 use Rattle.values.proofs.values_in.Reads as values-in
 use Rattle.values.proofs.type_in.Reads as type-in
-use Rattle.values.proofs.field_count.Reads as field-count
 use Rattle.values.proofs.marks_in.Reads as marks-in
-use Rattle.values.proofs.has_route.Reads as has-route
-use Rattle.values.proofs.is_whole.Reads as is-whole
 
 pub values-in-one : (κs : _) (a : _) (r r′ : _) (s s′ : _) → values-in.Post κs a r s → values-in.Post κs a r′ s′ → r ≡ r′
 values-in-one κs a r r′ s s′ p q = p ∙ sym q
@@ -14,14 +11,5 @@ values-in-one κs a r r′ s s′ p q = p ∙ sym q
 pub type-in-one : (κs : _) (a : _) (r r′ : _) (s s′ : _) → type-in.Post κs a r s → type-in.Post κs a r′ s′ → r ≡ r′
 type-in-one κs a r r′ s s′ p q = p ∙ sym q
 
-pub field-count-one : (κs : _) (a : _) (r r′ : _) (s s′ : _) → field-count.Post κs a r s → field-count.Post κs a r′ s′ → r ≡ r′
-field-count-one κs a r r′ s s′ p q = p ∙ sym q
-
 pub marks-in-one : (κs : _) (a : _) (r r′ : _) (s s′ : _) → marks-in.Post κs a r s → marks-in.Post κs a r′ s′ → r ≡ r′
 marks-in-one κs a r r′ s s′ p q = p ∙ sym q
-
-pub has-route-one : (κs : _) (a : _) (r r′ : _) (s s′ : _) → has-route.Post κs a r s → has-route.Post κs a r′ s′ → r ≡ r′
-has-route-one κs a r r′ s s′ p q = p ∙ sym q
-
-pub is-whole-one : (κs : _) (a : _) (r r′ : _) (s s′ : _) → is-whole.Post κs a r s → is-whole.Post κs a r′ s′ → r ≡ r′
-is-whole-one κs a r r′ s s′ p q = p ∙ sym q

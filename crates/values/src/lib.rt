@@ -1,4 +1,5 @@
-// The values of a message's fields, and what the writer must know of a body: its type, its count of fields, its marks.
+// What the writer must know of a body: the values of its fields, its type and its marks. What follows from type and marks alone
+// stands in `layout`.
 use heads::MessageType;
 use idents::aircraft::Aircraft;
 use idents::ident::Ident;
@@ -10,18 +11,17 @@ use messages::Plan;
 ghost use mathlib.Core.Path.{_≡_};
 ghost use mathlib.Core.List.{[], _∷_};
 ghost use Rattle.table.specs.Read.{padded};
-ghost use Rattle.messages.specs.Body.{ofWord, ofIdent, ofAircraft, markIn, contentIn, planValues, slots, typeIn, fieldCount, marksIn};
-ghost use Rattle.messages.specs.Allowed.{isWhole, hasRoute};
+ghost use Rattle.messages.specs.Body.{valueOfWord, valueOfIdent, valueOfAircraft, markIn, contentIn, planValues, slots, typeIn, marksIn};
 ghost use Rattle.messages.specs.declared.Body.the-variants as body;
 
 fn of_word(t: u64) -> Value
-    ensures { λ r. ⌜ r ≡ ofWord t ⌝ }
+    ensures { λ r. ⌜ r ≡ valueOfWord t ⌝ }
 {
     Value { a: t, b: 0, c: 0 }
 }
 
 fn of_ident(i: Ident) -> Value
-    ensures { λ r. ⌜ r ≡ ofIdent i ⌝ }
+    ensures { λ r. ⌜ r ≡ valueOfIdent i ⌝ }
 {
     Value {
         a: i.key.0,
@@ -31,7 +31,7 @@ fn of_ident(i: Ident) -> Value
 }
 
 fn of_aircraft(x: Aircraft) -> Value
-    ensures { λ r. ⌜ r ≡ ofAircraft x ⌝ }
+    ensures { λ r. ⌜ r ≡ valueOfAircraft x ⌝ }
 {
     Value {
         a: x.prefix,
@@ -42,7 +42,7 @@ fn of_aircraft(x: Aircraft) -> Value
 
 // The mark of an amendment's number.
 fn mark_in(x: Amended) -> Value
-    ensures { λ r. ⌜ r ≡ ofWord (markIn x) ⌝ }
+    ensures { λ r. ⌜ r ≡ valueOfWord (markIn x) ⌝ }
 {
     match x {
         Amended::Ident(_) => of_word(1),
@@ -218,24 +218,6 @@ pub fn type_in(b: Body) -> MessageType
     }
 }
 
-// How many fields a body has; of an AF, the count of marks set is the count of amendments.
-pub fn field_count(b: Body) -> usize
-    ensures { λ r. ⌜ r ≡ fieldCount b ⌝ }
-{
-    match b {
-        Body::Af(m) => 3 + 2 * (m.count() as usize),
-        Body::Az(_) => 4,
-        Body::Dz(_) => 6,
-        Body::Fz(_) => 7,
-        Body::Rz(_) => 3,
-        Body::Tz(_) => 4,
-        Body::Uz(_) => 7,
-        Body::Rt => 0,
-        Body::To => 0,
-        Body::Hb => 0,
-    }
-}
-
 // The marks that a body keeps.
 pub fn marks_in(b: Body) -> u8
     ensures { λ r. ⌜ r ≡ marksIn b ⌝ }
@@ -251,41 +233,5 @@ pub fn marks_in(b: Body) -> u8
         Body::Rt => 0,
         Body::To => 0,
         Body::Hb => 0,
-    }
-}
-
-// Whether a route is among the fields.
-pub fn has_route(b: Body) -> bool
-    ensures { λ r. ⌜ r ≡ hasRoute b ⌝ }
-{
-    match b {
-        Body::Af(m) => m.marks & 128 != 0,
-        Body::Az(_) => false,
-        Body::Dz(_) => false,
-        Body::Fz(_) => true,
-        Body::Rz(_) => false,
-        Body::Tz(_) => false,
-        Body::Uz(_) => true,
-        Body::Rt => false,
-        Body::To => false,
-        Body::Hb => false,
-    }
-}
-
-// Whether the body is free text: RT, TO and HB.
-pub fn is_whole(b: Body) -> bool
-    ensures { λ r. ⌜ r ≡ isWhole b ⌝ }
-{
-    match b {
-        Body::Af(_) => false,
-        Body::Az(_) => false,
-        Body::Dz(_) => false,
-        Body::Fz(_) => false,
-        Body::Rz(_) => false,
-        Body::Tz(_) => false,
-        Body::Uz(_) => false,
-        Body::Rt => true,
-        Body::To => true,
-        Body::Hb => true,
     }
 }

@@ -1,35 +1,30 @@
 -- `messages::from::read_body` meets its contract. Assumes nothing.
-use Rattle.messages.specs.Body.{bodyRead}
-use Rattle.messages.proofs.Ways.{body-fields}
+use mathlib.Core.Path.{sym}
+use Rattle.text.proofs.Logic.{so, not-so}
+use Rattle.table.specs.Read.{padded}
+use Rattle.messages.proofs.Ways.{by-table, kept-whole}
 use borrow.Author.Needs.{needs}
 use Rattle.messages.proofs.from.read_body.Statement.{statement}
 use Rattle.messages.proofs.from.read_body.Tie as tie
 
 returns : tie.Need-returns
-unfolding bodyRead
-returns c = rw (c .enum-told .given .1)
+unfolding padded
+returns c =
+    let i = c .before in
+    rw (c .body-from .ensures) (sym (kept-whole _ _ (not-so (i .before .has-fields .ensures) (i .if1 .taken))))
 
 returns-2 : tie.Need-returns-2
-unfolding bodyRead
-returns-2 c = rw (c .enum-told2 .given .1)
-
-returns-3 : tie.Need-returns-3
-unfolding bodyRead
-returns-3 c = rw (c .enum-told3 .given .1)
-
-returns-4 : tie.Need-returns-4
-returns-4 c = rw (c .typed .ensures, c .before .read-by .ensures .0, c .before .read-by .ensures .1) (body-fields _ _ (c .before .before .match .keys4))
+returns-2 c =
+    let i = c .before .before in
+    rw (c .typed .ensures, c .before .read .ensures .0, c .before .read .ensures .1) (sym (by-table _ _ (so (i .before .has-fields .ensures) (i .if1 .left))))
 
 pub read-body-spec : {M : Type 1} → statement M
 read-body-spec =
     tie.close
     (tie.spec
-    (λ c. search needs)
-    (λ c. search needs)
-    (λ c. search needs)
     (λ c κs. search needs)
     (λ c κs. search needs)
     returns
-    returns-2
-    returns-3
-    returns-4)
+    (λ c κs. search needs)
+    (λ c κs. search needs)
+    returns-2)

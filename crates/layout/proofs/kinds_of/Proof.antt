@@ -1,8 +1,8 @@
--- `messages::from::kinds_of` meets its contract. Assumes nothing.
-use Rattle.messages.specs.Table.{dotted}
+-- `layout::kinds_of` meets its contract. Assumes nothing.
+use Rattle.layout.specs.Table.{dotted}
 use borrow.Author.Needs.{needs}
-use Rattle.messages.proofs.from.kinds_of.Statement.{statement}
-use Rattle.messages.proofs.from.kinds_of.Tie as tie
+use Rattle.layout.proofs.kinds_of.Statement.{statement}
+use Rattle.layout.proofs.kinds_of.Tie as tie
 
 returns : tie.Need-returns
 unfolding dotted

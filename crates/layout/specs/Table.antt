@@ -1,8 +1,11 @@
--- Document 01's table, "type, fields in order", and a body read by it. Assumes nothing.
-use Prim.Native.Nat.{ℕ, zero, suc, _-_, _%_}
+-- Document 01's table, "type, fields in order": how many fields a type's body has, which counts are right, where a route is, and
+-- a body read by it. Assumes nothing.
+use Prim.Native.Nat.{ℕ, zero, suc, _+_, _-_, _*_, _%_}
 use Prim.Native.Char.{code}
-use mathlib.Core.Bool.{Bool, true, false, cond, _&&_}
+use mathlib.Core.Bool.{Bool, true, false, cond, not, _&&_}
 use mathlib.Core.List.{List, [], _∷_, _++_}
+use lib.Bits.{bitAnd}
+use lib.Count.{ones}
 use lib.Dec.{eqb, leb}
 use lib.ListN.{length, take, replicate}
 use Rattle.forms.specs.Kind.{FILED-SPEED, GROUND-SPEED, POINT, FIX, TIME, CLOCK, ARRIVAL, LEVEL, TRACK-LEVEL, POSITION, AMENDMENT}
@@ -37,31 +40,49 @@ tableOf Hb = []
 unfoldable pub dotted : MessageType → List ℕ
 dotted t = tableOf t ++ replicate (19 - length (tableOf t)) (code ".")
 
+-- how many fields: as many as the table has; of an AF with the marks m three and two for each amendment, and "the count of
+-- marks set is the count of amendments"
+unfoldable pub countWith : MessageType → ℕ → ℕ
+countWith Af m = 3 + 2 * ones m
+countWith Az m = length (tableOf Az)
+countWith Dz m = length (tableOf Dz)
+countWith Fz m = length (tableOf Fz)
+countWith Rz m = length (tableOf Rz)
+countWith Tz m = length (tableOf Tz)
+countWith Uz m = length (tableOf Uz)
+countWith Rt m = length (tableOf Rt)
+countWith To m = length (tableOf To)
+countWith Hb m = length (tableOf Hb)
+
 -- wrong are: another count than the table's; "AF: even count of fields, under 5 or over 19"
 unfoldable pub isCount : MessageType → ℕ → Bool
 isCount Af n = leb 5 n && leb n 19 && eqb (n % 2) 1
-isCount Az n = eqb n 4
-isCount Dz n = eqb n 6
-isCount Rz n = eqb n 3
-isCount Tz n = eqb n 4
-isCount Fz n = eqb n 7
-isCount Uz n = eqb n 7
-isCount Rt n = eqb n 0
-isCount To n = eqb n 0
-isCount Hb n = eqb n 0
+isCount Az n = eqb n (countWith Az 0)
+isCount Dz n = eqb n (countWith Dz 0)
+isCount Fz n = eqb n (countWith Fz 0)
+isCount Rz n = eqb n (countWith Rz 0)
+isCount Tz n = eqb n (countWith Tz 0)
+isCount Uz n = eqb n (countWith Uz 0)
+isCount Rt n = eqb n (countWith Rt 0)
+isCount To n = eqb n (countWith To 0)
+isCount Hb n = eqb n (countWith Hb 0)
 
 -- the types whose body is fields; "RT, TO and HB bodies are kept whole"
 abbrev pub hasFields : MessageType → Bool
-hasFields Af = true
-hasFields Az = true
-hasFields Dz = true
-hasFields Fz = true
-hasFields Rz = true
-hasFields Tz = true
-hasFields Uz = true
-hasFields Rt = false
-hasFields To = false
-hasFields Hb = false
+hasFields t = not (eqb (length (tableOf t)) 0)
+
+-- a route is among the fields; m is the set of marks, in which 128 stands for the number 10
+abbrev pub hasRouteWith : MessageType → ℕ → Bool
+hasRouteWith Af m = not (eqb (bitAnd m 128) 0)
+hasRouteWith Az m = false
+hasRouteWith Dz m = false
+hasRouteWith Fz m = true
+hasRouteWith Rz m = false
+hasRouteWith Tz m = false
+hasRouteWith Uz m = true
+hasRouteWith Rt m = false
+hasRouteWith To m = false
+hasRouteWith Hb m = false
 
 -- the kinds of n fields
 unfoldable pub kindsOf : MessageType → ℕ → List ℕ
@@ -83,13 +104,4 @@ routeBy t s = routeOf (tableOf t) s
 
 -- its free text: "RT, TO and HB bodies are kept whole"; of the others the route
 abbrev pub freeIn : MessageType → List ℕ → List ℕ
-freeIn Rt s = s
-freeIn To s = s
-freeIn Hb s = s
-freeIn Af s = routeBy Af s
-freeIn Az s = routeBy Az s
-freeIn Dz s = routeBy Dz s
-freeIn Fz s = routeBy Fz s
-freeIn Rz s = routeBy Rz s
-freeIn Tz s = routeBy Tz s
-freeIn Uz s = routeBy Uz s
+freeIn t s = cond (hasFields t) (routeBy t s) s

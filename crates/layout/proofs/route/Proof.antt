@@ -1,9 +1,9 @@
--- `messages::from::route` meets its contract. Assumes nothing.
+-- `layout::route` meets its contract. Assumes nothing.
 use mathlib.Core.Path.{_∙_}
-use Rattle.messages.proofs.Ways.{route-dotted}
+use Rattle.layout.proofs.Ways.{route-dotted}
 use borrow.Author.Needs.{needs}
-use Rattle.messages.proofs.from.route.Statement.{statement}
-use Rattle.messages.proofs.from.route.Tie as tie
+use Rattle.layout.proofs.route.Statement.{statement}
+use Rattle.layout.proofs.route.Tie as tie
 
 returns : tie.Need-returns
 returns c = c .route .ensures ∙ rw (c .before .before .kinds-of .ensures) (route-dotted _ _)

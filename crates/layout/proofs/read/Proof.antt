@@ -1,4 +1,4 @@
--- `messages::from::read_by` meets its contract. Assumes nothing.
+-- `layout::read` meets its contract. Assumes nothing.
 use mathlib.Core.Path.{_≡_, sym, _∙_}
 use mathlib.Core.Bool.{true}
 use lib.Seq.{length-take-le}
@@ -7,11 +7,11 @@ use Rattle.text.proofs.Logic.{so, not-so}
 use Rattle.spacing.specs.Body.{countOf}
 use Rattle.spacing.specs.declared.Counted.the-variants as counted
 use Rattle.table.proofs.Ways.{through}
-use Rattle.messages.specs.Table.{isCount}
-use Rattle.messages.proofs.Ways.{by-wrong, by-not, by-count, count-dotted}
+use Rattle.layout.specs.Table.{isCount}
+use Rattle.layout.proofs.Ways.{by-wrong, by-not, by-count, count-dotted}
 use borrow.Author.Needs.{needs}
-use Rattle.messages.proofs.from.read_by.Statement.{statement}
-use Rattle.messages.proofs.from.read_by.Tie as tie
+use Rattle.layout.proofs.read.Statement.{statement}
+use Rattle.layout.proofs.read.Tie as tie
 
 -- what `count` told
 told : (c : tie.After-known-told) → countOf (now (c .before .before .before .before .before .args .body)) ≡ counted.Fields (c .before .n .given .0 .0) (c .before .n .given .0 .1 .0)
@@ -41,8 +41,8 @@ returns-3 c =
     let c₃ = c₂ .before in
     through (c .read .ensures) (rw (c₂ .kinds-of .ensures) (by-count _ _ (told (c₃ .before .before)) (right c₃)))
 
-pub read-by-spec : {M : Type 1} → statement M
-read-by-spec =
+pub read-spec : {M : Type 1} → statement M
+read-spec =
     tie.close
     (tie.spec
     (λ c κs. search needs)

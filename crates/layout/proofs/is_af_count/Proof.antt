@@ -1,8 +1,8 @@
--- `messages::from::is_af_count` meets its contract. Assumes nothing.
+-- `layout::is_af_count` meets its contract. Assumes nothing.
 use borrow.Author.Tests.{le-leb, lt-leb}
-use Rattle.messages.specs.Table.{isCount}
-use Rattle.messages.proofs.from.is_af_count.Statement.{statement}
-use Rattle.messages.proofs.from.is_af_count.Tie as tie
+use Rattle.layout.specs.Table.{isCount}
+use Rattle.layout.proofs.is_af_count.Statement.{statement}
+use Rattle.layout.proofs.is_af_count.Tie as tie
 
 returns : tie.Need-returns
 unfolding isCount

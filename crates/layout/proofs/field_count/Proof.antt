@@ -1,54 +1,58 @@
--- `messages::from::is_count` meets its contract. Assumes nothing.
-use Rattle.messages.specs.Table.{isCount}
+-- `layout::field_count` meets its contract. Assumes nothing.
+use Rattle.layout.specs.Table.{countWith}
 use borrow.Author.Needs.{needs}
-use Rattle.messages.proofs.from.is_count.Statement.{statement}
-use Rattle.messages.proofs.from.is_count.Tie as tie
+use Rattle.layout.proofs.field_count.Statement.{statement}
+use Rattle.layout.proofs.field_count.Tie as tie
 
 returns : tie.Need-returns
-returns c = rw (c .is-af-count .ensures, c .before .enum-told .given .1)
+unfolding countWith
+returns c = rw (c .amendment-count .ensures, c .before .enum-told .given .1)
 
 returns-2 : tie.Need-returns-2
-unfolding isCount
+unfolding countWith
 returns-2 c = rw (c .enum-told2 .given .1)
 
 returns-3 : tie.Need-returns-3
-unfolding isCount
+unfolding countWith
 returns-3 c = rw (c .enum-told3 .given .1)
 
 returns-4 : tie.Need-returns-4
-unfolding isCount
+unfolding countWith
 returns-4 c = rw (c .enum-told4 .given .1)
 
 returns-5 : tie.Need-returns-5
-unfolding isCount
+unfolding countWith
 returns-5 c = rw (c .enum-told5 .given .1)
 
 returns-6 : tie.Need-returns-6
-unfolding isCount
+unfolding countWith
 returns-6 c = rw (c .enum-told6 .given .1)
 
 returns-7 : tie.Need-returns-7
-unfolding isCount
+unfolding countWith
 returns-7 c = rw (c .enum-told7 .given .1)
 
 returns-8 : tie.Need-returns-8
-unfolding isCount
+unfolding countWith
 returns-8 c = rw (c .enum-told8 .given .1)
 
 returns-9 : tie.Need-returns-9
-unfolding isCount
+unfolding countWith
 returns-9 c = rw (c .enum-told9 .given .1)
 
 returns-10 : tie.Need-returns-10
-unfolding isCount
+unfolding countWith
 returns-10 c = rw (c .enum-told10 .given .1)
 
-pub is-count-spec : {M : Type 1} → statement M
-is-count-spec =
+pub field-count-spec : {M : Type 1} → statement M
+field-count-spec =
     tie.close
     (tie.spec
     (λ c. search needs)
     (λ c κs. search needs)
+    (λ c. search needs)
+    (λ c. search needs)
+    (λ c. search needs)
     (λ c. search needs)
     (λ c. search needs)
     (λ c. search needs)

@@ -1,0 +1,125 @@
+-- The ways of the functions: counts by type, a body by the table, and its route. Assumes nothing.
+use mathlib.Core.Path.{_≡_, refl, sym, _∙_}
+use mathlib.Core.Bool.{Bool, true, false, not, _&&_}
+use mathlib.Core.List.{List, [], _∷_, _++_}
+use Prim.Native.Char.{code}
+use Prim.Native.Nat.{ℕ, zero, suc, _-_, _%_, _≤_}
+use native.Mathlib.Omega.{arith}
+use denote.Enum.Declared.{tagOf}
+use types.Run.{OneOf, miss}
+use lib.Count.{ones}
+use lib.Dec.{eqb, leb}
+use lib.ListN.{length, take, replicate, length-append}
+use lib.Seq.{length-take-le, take-append-le}
+use borrow.Author.Tests.{eqb-true, leb-true}
+use Rattle.text.proofs.Logic.{and-left, and-right}
+use Rattle.heads.specs.declared.MessageType.{MessageType}
+use Rattle.heads.specs.declared.MessageType.the-variants.{Af, Az, Dz, Fz, Rz, Tz, Uz, Rt, To, Hb}
+use Rattle.heads.proofs.MessageType.{the-type}
+use Rattle.spacing.specs.Body.{fieldsOf, fieldsIn, countOf}
+use Rattle.spacing.specs.declared.Counted.the-variants as counted
+use Rattle.spacing.proofs.Laws.{count-known}
+use Rattle.kinds.specs.Field.{plain, leftOf}
+use Rattle.table.specs.Read.{padded, answerOf, valuesOf, routeIn, routeOf}
+use Rattle.table.specs.declared.Answer.the-variants as answer
+use Rattle.table.proofs.Ways.{read-wrong, route-no-kinds, route-no-fields, route-later}
+use Rattle.layout.specs.Table.{tableOf, dotted, countWith, isCount, hasFields, kindsOf, countIn, answerBy, valuesBy, routeBy}
+
+-- ---- counts by type
+
+-- a type has fields exactly if some are counted
+pub counts-fields : (t : MessageType) → not (eqb (countWith t 0) 0) ≡ hasFields t
+unfolding countWith ones
+counts-fields Af = refl
+counts-fields Az = refl
+counts-fields Dz = refl
+counts-fields Fz = refl
+counts-fields Rz = refl
+counts-fields Tz = refl
+counts-fields Uz = refl
+counts-fields Rt = refl
+counts-fields To = refl
+counts-fields Hb = refl
+
+-- the types after AF, of which the code tells only the variant's number, have one right count
+pub one-count : (t : MessageType) (n : ℕ) → OneOf (1 ∷ 2 ∷ 3 ∷ 4 ∷ 5 ∷ 6 ∷ 7 ∷ 8 ∷ 9 ∷ []) (tagOf the-type t) → eqb n (countWith t 0) ≡ isCount t n
+unfolding isCount
+one-count Af n h = absurd (miss (1 ∷ 2 ∷ 3 ∷ 4 ∷ 5 ∷ 6 ∷ 7 ∷ 8 ∷ 9 ∷ []) 0 tt h)
+one-count Az n h = refl
+one-count Dz n h = refl
+one-count Fz n h = refl
+one-count Rz n h = refl
+one-count Tz n h = refl
+one-count Uz n h = refl
+one-count Rt n h = refl
+one-count To n h = refl
+one-count Hb n h = refl
+
+-- ---- a body read by as many kinds as it has fields
+
+-- a right count asks for no more kinds than the table has
+pub count-kinds : (t : MessageType) (n : ℕ) → isCount t n ≡ true → n ≤ length (tableOf t)
+unfolding isCount countWith
+count-kinds Af n e = leb-true n 19 (and-right (leb 5 n) (leb n 19) (and-left (leb 5 n && leb n 19) (eqb (n % 2) 1) e))
+count-kinds Az n e = omega (arith, eqb-true n 4 e)
+count-kinds Dz n e = omega (arith, eqb-true n 6 e)
+count-kinds Fz n e = omega (arith, eqb-true n 7 e)
+count-kinds Rz n e = omega (arith, eqb-true n 3 e)
+count-kinds Tz n e = omega (arith, eqb-true n 4 e)
+count-kinds Uz n e = omega (arith, eqb-true n 7 e)
+count-kinds Rt n e = omega (arith, eqb-true n 0 e)
+count-kinds To n e = omega (arith, eqb-true n 0 e)
+count-kinds Hb n e = omega (arith, eqb-true n 0 e)
+
+-- as many kinds as the count says
+pub kinds-length : (t : MessageType) (n : ℕ) → isCount t n ≡ true → length (kindsOf t n) ≡ n
+unfolding kindsOf
+kinds-length t n e = length-take-le n (tableOf t) (count-kinds t n e)
+
+pub count-dotted : (t : MessageType) (n : ℕ) → isCount t n ≡ true → n ≤ length (dotted t)
+unfolding dotted
+count-dotted t n e = rw length-append (omega (arith, count-kinds t n e))
+
+pub dotted-kinds : (t : MessageType) (n : ℕ) → isCount t n ≡ true → take n (dotted t) ≡ kindsOf t n
+unfolding dotted kindsOf
+dotted-kinds t n e = take-append-le n (tableOf t) _ (count-kinds t n e)
+
+module _ (t : MessageType) (s : List ℕ) where
+  pub by-wrong : countOf s ≡ counted.Wrong → (answer.Spacing ≡ answerBy t s) × (padded [] ≡ padded (valuesBy t s))
+  unfolding answerBy valuesBy
+  by-wrong e = go (isCount t (countIn s)) refl
+    where
+      go : (b : Bool) → isCount t (countIn s) ≡ b → (answer.Spacing ≡ answerBy t s) × (padded [] ≡ padded (valuesBy t s))
+      go true q = let r = read-wrong (kindsOf t (countIn s)) s e in (rw q (r .0), rw q (r .1))
+      go false q = (rw q, rw q)
+
+  module _ {n : ℕ} {b : Bool} (e : countOf s ≡ counted.Fields n b) where
+    count-in : countIn s ≡ n
+    unfolding countIn
+    count-in = sym (count-known s e .1)
+
+    pub by-not : isCount t n ≡ false → (answer.Spacing ≡ answerBy t s) × (padded [] ≡ padded (valuesBy t s))
+    unfolding answerBy valuesBy
+    by-not f = (rw (count-in, f), rw (count-in, f))
+
+    pub by-count : isCount t n ≡ true → (answerOf (take n (dotted t)) s ≡ answerBy t s) × (padded (valuesOf (take n (dotted t)) s) ≡ padded (valuesBy t s))
+    unfolding answerBy valuesBy
+    by-count f = let k = dotted-kinds t n f in (rw (count-in, f, k), rw (count-in, f, k))
+
+-- ---- the route: a dot is no kind of a field
+
+dots-route : (n p : ℕ) (fs : List (List ℕ)) → routeIn (replicate n (code ".")) p fs ≡ []
+unfolding plain
+dots-route zero p fs = route-no-kinds p fs
+dots-route (suc n) p [] = route-no-fields (replicate (suc n) (code ".")) p
+dots-route (suc n) p (f ∷ fs) = route-later (code ".") (replicate n (code ".")) p f fs (λ e. omega arith) ∙ dots-route n (leftOf (code ".") f) fs
+
+route-dots : (ks : List ℕ) (n p : ℕ) (fs : List (List ℕ)) → routeIn (ks ++ replicate n (code ".")) p fs ≡ routeIn ks p fs
+unfolding routeIn
+route-dots [] n p fs = dots-route n p fs ∙ sym (route-no-kinds p fs)
+route-dots (k ∷ ks) n p [] = refl
+route-dots (k ∷ ks) n p (f ∷ fs) = rw (route-dots ks n (leftOf k f) fs)
+
+pub route-dotted : (t : MessageType) (s : List ℕ) → routeOf (dotted t) s ≡ routeBy t s
+unfolding dotted routeOf routeBy
+route-dotted t s = route-dots (tableOf t) (19 - length (tableOf t)) 0 (fieldsIn (fieldsOf s))
