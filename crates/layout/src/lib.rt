@@ -119,6 +119,6 @@ pub fn read(t: MessageType, body: &[u8]) -> TableRead
 pub fn route(t: MessageType, body: &[u8]) -> &[u8]
     ensures { λ r. ⌜ now r ≡ routeBy t (now (body .entry)) ⌝ }
 {
-    let kinds = kinds_of(t);
-    table::route(&kinds, body)
+    let all = kinds_of(t);
+    table::route(&all, body)
 }

@@ -1,6 +1,6 @@
 -- The ways of the line's functions: each way out is a case of the definition. Assumes nothing.
-use mathlib.Core.Path.{_≡_, refl, sym, ap, _∙_}
-use mathlib.Core.Bool.{Bool, true, false, cond}
+use mathlib.Core.Path.{_≡_, refl, _∙_}
+use mathlib.Core.Bool.{Bool, true, false}
 use mathlib.Core.List.{List, [], _∷_}
 use Prim.Native.Nat.{ℕ, _-_, _≤_, _<_}
 use native.Mathlib.Omega.{arith}
@@ -34,7 +34,7 @@ use Rattle.layout.specs.Table.{hasFields, routeBy, freeIn}
 use Rattle.messages.specs.Body.{bodyRead}
 use Rattle.messages.specs.declared.from.BodyRead.{BodyRead}
 use Rattle.line.specs.Line.{isLongPlan}
-use Rattle.line.specs.Read.{typed, headOf, withBody, restOf, byHead, readOf, freeOf}
+use Rattle.line.specs.Read.{headOf, withBody, restOf, byHead, readOf, freeOf}
 use Rattle.line.specs.declared.Head.{Head}
 use Rattle.line.specs.declared.HeadRead.{HeadRead}
 use Rattle.line.specs.declared.HeadRead.the-variants as head

@@ -16,11 +16,11 @@ use Rattle.idents.specs.Ident.{identFrom, identOf}
 use Rattle.idents.specs.Aircraft.{plainOf, prefixedOf, aircraftOf}
 use Rattle.heads.specs.Facility.{facilityText}
 use Rattle.heads.specs.Message.{typeOf}
-use Rattle.messages.specs.Body.{bodyRead}
+use Rattle.messages.specs.Body.{bodyFrom, bodyRead}
 use Rattle.line.specs.Read.{headOf, restOf, readOf, freeOf}
 use Rattle.meanings.specs.Meaning.{decimalOf, inMinutes, minutesOf}
 use Rattle.starred.specs.Starred.{Row, answer, table}
 
 pub starred : map (λ (r : Row). answer (r .asked)) table ≡ map (λ (r : Row). r .told) table
-unfolding facilityText typeOf bodyRead headOf restOf readOf freeOf allIn places isStamp all isDigit isLetter isAlnum codeOf byteOf value digits packed textOf isDigitTo digitOf isNumeral numberOf readNumber isOf fits longer pictures fitsAny oneOf run within upTo has before after joins isKey isIdent isTzIdent isClock isPosition isForm wordOf isPairForm pairOf identFrom identOf plainOf prefixedOf aircraftOf decimalOf inMinutes minutesOf
+unfolding facilityText typeOf bodyFrom bodyRead headOf restOf readOf freeOf allIn places isStamp all isDigit isLetter isAlnum codeOf byteOf value digits packed textOf isDigitTo digitOf isNumeral numberOf readNumber isOf fits longer pictures fitsAny oneOf run within upTo has before after joins isKey isIdent isTzIdent isClock isPosition isForm wordOf isPairForm pairOf identFrom identOf plainOf prefixedOf aircraftOf decimalOf inMinutes minutesOf
 starred = refl

@@ -1,12 +1,11 @@
 -- The laws of the sizes of bodies and lines: what each test of a message says of its size. Assumes nothing.
-use mathlib.Core.Path.{_≡_, refl, ap}
-use mathlib.Core.Bool.{Bool, true, false, cond, _||_, and-false}
+use mathlib.Core.Path.{_≡_, refl, sym, ap, _∙_}
+use mathlib.Core.Bool.{Bool, true, false, cond, not, _||_, and-false}
 use mathlib.Core.List.{List, [], _∷_}
 use Prim.Native.Nat.{ℕ, _+_, _*_, _≤_, _<_}
 use native.Mathlib.Omega.{arith}
 use lib.Dec.{eqb}
 use lib.ListN.{length, take, length-append}
-use lib.Seq.{take-append-le}
 use borrow.Author.Tests.{eq-eqb, ne-eqb, le-leb, lt-leb}
 use Rattle.text.specs.Place.{allIn}
 use Rattle.text.specs.declared.Sized.the-variants as sized
@@ -15,7 +14,6 @@ use Rattle.forms.specs.Kind.{SEQUENCE, STAMP}
 use Rattle.words.specs.Word.{isWord}
 use Rattle.heads.specs.Facility.{isFacilityValue}
 use Rattle.heads.specs.declared.MessageType.{MessageType}
-use Rattle.heads.specs.declared.MessageType.the-variants as type
 use Rattle.spacing.specs.Body.{Split, Fields, Wrong, bodyOf, fieldsOf, fieldsIn}
 use Rattle.spacing.proofs.Laws.{fields-text}
 use Rattle.kinds.specs.Field.{ROUTE, plain, leftOf, marksOf, shown}
@@ -23,14 +21,14 @@ use Rattle.kinds.specs.declared.Value.{Value}
 use Rattle.table.specs.Read.{routeIn, routeOf}
 use Rattle.table.specs.Show.{textsFrom, allowedFrom, marksFrom}
 use Rattle.table.proofs.Ways.{route-no-fields}
-use Rattle.messages.specs.Table.{tableOf, dotted, isCount, kindsOf, routeBy, freeIn}
+use Rattle.layout.specs.Table.{tableOf, dotted, countWith, isCount, hasFields, hasRouteWith, kindsOf, routeBy, freeIn}
+use Rattle.layout.proofs.Ways.{count-dotted, dotted-kinds, kinds-length}
+use Rattle.layout.proofs.Tables.{table-few}
 use Rattle.messages.specs.Body.{typeIn, fieldCount, slots, valuesIn, spare, marksIn}
 use Rattle.messages.specs.Allowed.{hasRoute, allNone, kindsIn, bodyText, isWhole, isFielded, isBody}
 use Rattle.messages.specs.declared.Body.{Body}
 use Rattle.messages.specs.declared.Message.{Message}
-use Rattle.messages.proofs.Ways.{count-dotted, dotted-kinds}
-use Rattle.messages.proofs.Bodies.{allowed-first, allowed-rest, kinds-length}
-use Rattle.messages.proofs.Tables.{table-few}
+use Rattle.messages.proofs.Bodies.{allowed-first, allowed-rest}
 use Rattle.messages.proofs.Theorems.{body-complete}
 use Rattle.line.specs.Line.{lineOf, isLongPlan, isHead, hasSize, isAllowed}
 use Rattle.line.proofs.Heads.{headed-parts}
@@ -65,6 +63,27 @@ module _ (ks r : List ℕ) (vs : List Value) where
       go : (b : Bool) → allowedFrom ks 0 0 r vs ≡ b → allowedFrom ks 0 0 r vs ≡ false
       go true q = let z : all.Bytes (length (fieldsText ks r vs)) (marksFrom ks 0 0 r vs) ≡ all.NotOne = rw q at e in cc
       go false q = q
+
+-- ---- what the code finds by a body's type and marks
+
+module _ (b : Body) {t : MessageType} (is : t ≡ typeIn b) where
+  module _ {r : Bool} (found : r ≡ hasFields t) where
+    pub whole-of : not r ≡ true → isWhole b ≡ true
+    unfolding isWhole
+    whole-of e = ap (λ (u : MessageType). not (hasFields u)) (sym is) ∙ ap not (sym found) ∙ e
+
+    pub parted-of : not r ≡ false → isWhole b ≡ false
+    unfolding isWhole
+    parted-of e = ap (λ (u : MessageType). not (hasFields u)) (sym is) ∙ ap not (sym found) ∙ e
+
+  module _ {m : ℕ} (marks : m ≡ marksIn b) where
+    pub count-of : {n : ℕ} → n ≡ countWith t m → n ≡ fieldCount b
+    unfolding fieldCount
+    count-of e = e ∙ rw (is, marks)
+
+    pub route-of : {r : Bool} → r ≡ hasRouteWith t m → r ≡ hasRoute b
+    unfolding hasRoute
+    route-of e = e ∙ rw (is, marks)
 
 -- ---- the kinds and the values of a body's fields, where its count is right
 
@@ -247,16 +266,11 @@ route-inside t s = go (fieldsOf s) refl
     go (Fields fs u) q = rw q (omega (arith, route-short (tableOf t) 0 fs u, ap length (fields-text s fs u q .0)))
 
 free-inside : (t : MessageType) (s : List ℕ) → length (freeIn t s) ≤ length s
-free-inside type.Af s = route-inside type.Af s
-free-inside type.Az s = route-inside type.Az s
-free-inside type.Dz s = route-inside type.Dz s
-free-inside type.Fz s = route-inside type.Fz s
-free-inside type.Rz s = route-inside type.Rz s
-free-inside type.Tz s = route-inside type.Tz s
-free-inside type.Uz s = route-inside type.Uz s
-free-inside type.Rt s = omega arith
-free-inside type.To s = omega arith
-free-inside type.Hb s = omega arith
+free-inside t s = go (hasFields t) refl
+  where
+    go : (c : Bool) → hasFields t ≡ c → length (freeIn t s) ≤ length s
+    go true q = rw q (route-inside t s)
+    go false q = rw q (omega arith)
 
 -- no body that a line can have is shorter than its free text
 free-short : (b : Body) (r : List ℕ) (t : Bool) → isBody b r t ≡ true → length r ≤ length (bodyText b r t)

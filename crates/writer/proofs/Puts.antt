@@ -21,12 +21,12 @@ use Rattle.kinds.specs.Field.{leftOf, shown}
 use Rattle.kinds.specs.declared.Value.{Value}
 use Rattle.heads.specs.declared.MessageType.{MessageType}
 use Rattle.table.specs.Show.{textsFrom, allowedFrom}
-use Rattle.messages.specs.Table.{isCount}
+use Rattle.layout.specs.Table.{isCount}
+use Rattle.layout.proofs.Tables.{table-few}
 use Rattle.messages.specs.Body.{typeIn, fieldCount, valuesIn}
 use Rattle.messages.specs.Allowed.{isWhole, kindsIn, bodyText, isFielded, isBody}
 use Rattle.messages.specs.declared.Body.{Body}
 use Rattle.messages.specs.declared.Message.{Message}
-use Rattle.messages.proofs.Tables.{table-few}
 use Rattle.line.specs.Line.{lineOf, isAllowed}
 use Rattle.writer.specs.Size.{fieldsText, sizedLine, PutAsks, BodyAsks}
 use Rattle.writer.proofs.Lines.{Has, has-kinds, has-values, has-length, bytes-known, bytes-unknown}

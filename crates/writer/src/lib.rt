@@ -1,16 +1,17 @@
 // A message written as its line: what it takes is known before a byte is written.
 use kinds::Value;
+use layout::field_count;
+use layout::has_fields;
+use layout::kinds_of;
 use messages::Body;
 use messages::Message;
-use messages::from::kinds_of;
 use showing::put_field;
 use size::size_line;
 use text::Sized;
 use text::Written;
 use text::has_room;
 use text::put_bytes;
-use values::field_count;
-use values::is_whole;
+use values::marks_in;
 use values::type_in;
 use values::values_in;
 ghost use mathlib.Core.Path.{_≡_};
@@ -71,13 +72,14 @@ fn put_body(b: Body, free: &[u8], trailing: bool, out: &mut [u8])
     requires { ⌜ BodyAsks b (now free) trailing (now out) ⌝ }
     ensures { λ _. ⌜ now (out .exit) ≡ spliced (now (out .entry)) 0 (bodyText b (now (free .entry)) trailing) ⌝ }
 {
-    if is_whole(b) {
+    let kind = type_in(b);
+    if !has_fields(kind) {
         put_bytes(free, out, 0);
         return;
     }
-    let kinds = kinds_of(type_in(b));
+    let n = field_count(kind, marks_in(b));
+    let kinds = kinds_of(kind);
     let values = values_in(b);
-    let n = field_count(b);
     let end = put_all(&kinds[..n], values, free, out);
     if trailing {
         out[end] = b' ';

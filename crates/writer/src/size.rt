@@ -1,16 +1,16 @@
 // How long a message's line will be, or that no line has these values (answer 16).
 use kinds::ROUTE;
 use kinds::Value;
+use layout::field_count;
+use layout::has_fields;
+use layout::has_route;
+use layout::is_count;
+use layout::kinds_of;
 use messages::Body;
 use messages::Message;
-use messages::from::is_count;
-use messages::from::kinds_of;
 use showing::put_field;
 use text::Sized;
 use text::Written;
-use values::field_count;
-use values::has_route;
-use values::is_whole;
 use values::marks_in;
 use values::type_in;
 use values::values_in;
@@ -127,12 +127,13 @@ fn size_fields(b: Body, free: &[u8]) -> Sized
     requires { ⌜ length (now free) ≤ 2048 ⌝ }
     ensures { λ r. ⌜ r ≡ sizedFields b (now (free .entry)) ⌝ }
 {
-    let t = type_in(b);
-    let n = field_count(b);
-    if !is_count(t, n) {
+    let kind = type_in(b);
+    let marks = marks_in(b);
+    let n = field_count(kind, marks);
+    if !is_count(kind, n) {
         return Sized::NotOne;
     }
-    if !has_route(b) {
+    if !has_route(kind, marks) {
         if free.len() != 0 {
             return Sized::NotOne;
         }
@@ -141,11 +142,11 @@ fn size_fields(b: Body, free: &[u8]) -> Sized
     if !is_none_from(values, n) {
         return Sized::NotOne;
     }
-    let kinds = kinds_of(t);
-    let SizedAll::Bytes(size, marks) = size_all(&kinds[..n], values, free) else {
+    let kinds = kinds_of(kind);
+    let SizedAll::Bytes(size, set) = size_all(&kinds[..n], values, free) else {
         return Sized::NotOne;
     };
-    if marks != marks_in(b) {
+    if set != marks {
         return Sized::NotOne;
     }
     Sized::Bytes(size)
@@ -156,7 +157,7 @@ fn size_body(b: Body, free: &[u8], trailing: bool) -> Sized
     requires { ⌜ length (now free) ≤ 2048 ⌝ }
     ensures { λ r. ⌜ r ≡ sizedBody b (now (free .entry)) trailing ⌝ }
 {
-    if is_whole(b) {
+    if !has_fields(type_in(b)) {
         if trailing {
             return Sized::NotOne;
         }
