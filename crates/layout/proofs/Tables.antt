@@ -1,4 +1,5 @@
--- Document 01's table, row by row: what holds of each row by computation holds of every type and count. Assumes nothing.
+-- Document 01's table, row by row: what holds of each row by computation holds of every type and count. Assumes
+-- nothing.
 use mathlib.Core.Path.{_≡_, refl, sym, subst}
 use mathlib.Core.Bool.{true, _&&_}
 use mathlib.Core.List.{List, [], _∷_}
@@ -111,6 +112,32 @@ marksKept Uz m = 0
 marksKept Rt m = 0
 marksKept To m = 0
 marksKept Hb m = 0
+
+-- where a type keeps no marks, neither the count of its fields nor a route goes by them
+pub kept-count : (t : MessageType) (m : ℕ) → countWith t (marksKept t m) ≡ countWith t m
+unfolding countWith
+kept-count Af m = refl
+kept-count Az m = refl
+kept-count Dz m = refl
+kept-count Fz m = refl
+kept-count Rz m = refl
+kept-count Tz m = refl
+kept-count Uz m = refl
+kept-count Rt m = refl
+kept-count To m = refl
+kept-count Hb m = refl
+
+pub kept-route : (t : MessageType) (m : ℕ) → hasRouteWith t (marksKept t m) ≡ hasRouteWith t m
+kept-route Af m = refl
+kept-route Az m = refl
+kept-route Dz m = refl
+kept-route Fz m = refl
+kept-route Rz m = refl
+kept-route Tz m = refl
+kept-route Uz m = refl
+kept-route Rt m = refl
+kept-route To m = refl
+kept-route Hb m = refl
 
 -- the fields of a type without amendments set none
 pub marks-none : (r : List ℕ) (vs : List Value) (t : MessageType) (n : ℕ) → isCount t n ≡ true → marksFrom (kindsOf t n) 0 0 r vs ≡ marksKept t (marksFrom (kindsOf t n) 0 0 r vs)

@@ -1,5 +1,5 @@
--- Document 01's table, "type, fields in order": how many fields a type's body has, which counts are right, where a route is, and
--- a body read by it. Assumes nothing.
+-- Document 01's table, "type, fields in order": how many fields a type's body has, which counts are right, where a
+-- route is, and a body read by it. Assumes nothing.
 use Prim.Native.Nat.{ℕ, zero, suc, _+_, _-_, _*_, _%_}
 use Prim.Native.Char.{code}
 use mathlib.Core.Bool.{Bool, true, false, cond, not, _&&_}
@@ -40,8 +40,8 @@ tableOf Hb = []
 unfoldable pub dotted : MessageType → List ℕ
 dotted t = tableOf t ++ replicate (19 - length (tableOf t)) (code ".")
 
--- how many fields: as many as the table has; of an AF with the marks m three and two for each amendment, and "the count of
--- marks set is the count of amendments"
+-- how many fields: as many as the table has; of an AF with the marks m three and two for each amendment, and "the count
+-- of marks set is the count of amendments"
 unfoldable pub countWith : MessageType → ℕ → ℕ
 countWith Af m = 3 + 2 * ones m
 countWith Az m = length (tableOf Az)

@@ -1,5 +1,5 @@
-// Document 01's table by type: which fields a type's body has, how many, and a body read by it. Nothing here takes a message: a
-// type and its marks are enough.
+// Document 01's table by type: which fields a type's body has, how many, and a body read by it. Nothing here takes a
+// message: a type and its marks are enough.
 use heads::MessageType;
 use spacing::Counted;
 use table::TableRead;

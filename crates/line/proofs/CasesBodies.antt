@@ -1,5 +1,5 @@
--- The cases of a body with fields: its spacing and count are wrong exactly if no right fields have its text, and a fault at a
--- place is that of the first field that is not read. Assumes nothing.
+-- The cases of a body with fields: its spacing and count are wrong exactly if no right fields have its text, and a
+-- fault at a place is that of the first field that is not read. Assumes nothing.
 use mathlib.Core.Path.{_≡_, refl, sym, ap, _∙_}
 use mathlib.Core.Bool.{Bool, true, false}
 use mathlib.Core.List.{List}

@@ -1,6 +1,6 @@
--- THE CASES of document 01's answer numbers for a line, one for each row of its table, with the place that the row gives (0
--- where it gives none). `proofs/Cases` shows that each line has the number and the place of its case, and of no other.
--- Assumes nothing.
+-- THE CASES of document 01's answer numbers for a line, one for each row of its table, with the place that the row
+-- gives (0 where it gives none). `proofs/Cases` shows that each line has the number and the place of its case, and of
+-- no other. Assumes nothing.
 use Prim.Native.Nat.{ℕ, suc, _-_, _≤_, _<_}
 use mathlib.Core.Path.{_≡_}
 use mathlib.Core.Bool.{Bool, true, false}

@@ -1,5 +1,5 @@
--- What a line is read as, in document 01's order: "1 to 7 rising, 11, 8, then fields from the left"; the answer numbers; the
--- free text. Assumes nothing.
+-- What a line is read as, in document 01's order: "1 to 7 rising, 11, 8, then fields from the left"; the answer
+-- numbers; the free text. Assumes nothing.
 use Prim.Native.Nat.{ℕ}
 use mathlib.Core.Bool.{cond}
 use mathlib.Core.List.{List, []}

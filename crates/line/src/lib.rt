@@ -114,7 +114,8 @@ fn read_rest(head: Head, line: &[u8]) -> LineRead
     }
 }
 
-// Reads a line: any bytes, of any length. Its answer has the number and the place of the line's case in document 01's table.
+// Reads a line: any bytes, of any length. Its answer has the number and the place of the line's case in document 01's
+// table.
 pub fn read(line: &[u8]) -> LineRead
     ensures { λ r. ⌜ r ≡ readOf (now (line .entry)) ⌝ }
     ensures { λ r. ⌜ Case (now (line .entry)) (numberOf r) (placeOf r) ⌝ }
@@ -138,8 +139,8 @@ pub fn read(line: &[u8]) -> LineRead
     }
 }
 
-// The body of an RT, TO or HB, the route of an FZ, a UZ and of an AF with number 10, as that part of the line; of any other
-// line an empty part.
+// The body of an RT, TO or HB, the route of an FZ, a UZ and of an AF with number 10, as that part of the line; of any
+// other line an empty part.
 pub fn free(line: &[u8]) -> &[u8]
     ensures { λ r. ⌜ now r ≡ freeOf (now (line .entry)) ⌝ }
 {

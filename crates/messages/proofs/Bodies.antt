@@ -1,5 +1,5 @@
--- A typed body and the values of its fields give each other: from a body to values and back, and from the values that some
--- text gives to a body and back. Assumes nothing.
+-- A typed body and the values of its fields give each other: from a body to values and back, and from the values that
+-- some text gives to a body and back. Assumes nothing.
 use mathlib.Core.Path.{_≡_, refl, sym, ap, _∙_, subst}
 use mathlib.Core.Bool.{Bool, true, false, cond, not, _&&_}
 use mathlib.Core.List.{List, [], _∷_, _++_}

@@ -1,5 +1,5 @@
--- THE THEOREMS of bodies by their types: what reads is a body that a line can have, and its text is what was read; the text of
--- every such body reads as it. Assumes nothing.
+-- THE THEOREMS of bodies by their types: what reads is a body that a line can have, and its text is what was read; the
+-- text of every such body reads as it. Assumes nothing.
 use mathlib.Core.Path.{_≡_, refl, sym, ap, _∙_}
 use mathlib.Core.Bool.{Bool, true, false, cond, not, _&&_, _||_}
 use mathlib.Core.List.{List, [], _∷_}

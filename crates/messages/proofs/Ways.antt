@@ -1,4 +1,5 @@
--- The ways of the functions: when a word begins with P, an AF of its parts, and a body by the table or kept whole. Assumes nothing.
+-- The ways of the functions: when a word begins with P, an AF of its parts, and a body by the table or kept whole.
+-- Assumes nothing.
 use mathlib.Core.Path.{_≡_, refl}
 use mathlib.Core.Bool.{Bool, true, false}
 use mathlib.Core.List.{List, [], map}

@@ -1,5 +1,5 @@
--- The text of a body and which bodies a line can have. r is the free text that stands beside the message: the route, or the
--- body of RT, TO and HB. Assumes nothing.
+-- The text of a body and which bodies a line can have. r is the free text that stands beside the message: the route, or
+-- the body of RT, TO and HB. Assumes nothing.
 use Prim.Native.Nat.{ℕ}
 use mathlib.Core.Bool.{Bool, true, cond, not, _&&_, _||_}
 use mathlib.Core.List.{List, [], _∷_}
@@ -34,8 +34,8 @@ abbrev pub allNone : List Value → Bool
 allNone [] = true
 allNone (v ∷ vs) = eqb (v .a) 0 && isOne v && allNone vs
 
--- the count of fields is right; each is one that some text gives and may follow those before it; the marks are those of the
--- amendments, and no amendment comes after these; free text only where a route is
+-- the count of fields is right; each is one that some text gives and may follow those before it; the marks are those of
+-- the amendments, and no amendment comes after these; free text only where a route is
 unfoldable pub isFielded : Body → List ℕ → Bool
 isFielded b r =
     isCount (typeIn b) (fieldCount b) && allowedFrom (kindsIn b) 0 0 r (valuesIn b) && eqb (marksFrom (kindsIn b) 0 0 r (valuesIn b)) (marksIn b) && allNone (spare b) && (hasRoute b || eqb (length r) 0)

@@ -1,5 +1,5 @@
-// A message: its head, its body by type, and whether a space stood at its end. A route and the body of RT, TO and HB are not
-// held: they stay a part of the line.
+// A message: its head, its body by type, and whether a space stood at its end. A route and the body of RT, TO and HB
+// are not held: they stay a part of the line.
 use fields::frame::Sequence;
 use fields::frame::Stamp;
 use fields::plan::FiledSpeed;

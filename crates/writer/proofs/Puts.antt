@@ -1,5 +1,5 @@
--- Writing a line part by part: the rest of a buffer lent on, a writer that has room, and fields one after the other. Assumes
--- nothing.
+-- Writing a line part by part: the rest of a buffer lent on, a writer that has room, and fields one after the other.
+-- Assumes nothing.
 use mathlib.Core.Path.{_≡_, refl, sym, ap, _∙_}
 use mathlib.Core.Bool.{Bool, true, false, and-false}
 use mathlib.Core.List.{List, [], _∷_, _++_, append-nil, append-assoc}

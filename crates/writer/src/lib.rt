@@ -103,8 +103,8 @@ fn put_line(m: Message, free: &[u8], out: &mut [u8])
     put_body(body, free, m.trailing, &mut out[18..]);
 }
 
-// Writes a message's line from place `at`: 16 for values that no line has, then 15 where it does not fit; every other byte
-// stays, and where it refuses it writes nothing. No line feed is written.
+// Writes a message's line from place `at`: 16 for values that no line has, then 15 where it does not fit; every other
+// byte stays, and where it refuses it writes nothing. No line feed is written.
 pub fn write(m: Message, free: &[u8], out: &mut [u8], at: usize) -> Written
     ensures { λ r. ⌜ r ≡ writtenNext (isAllowed m (now (free .entry))) (lineOf m (now (free .entry))) (now (out .entry)) at ⌝ }
     ensures { λ _. ⌜ now (out .exit) ≡ writtenBytes (isAllowed m (now (free .entry))) (lineOf m (now (free .entry))) (now (out .entry)) at ⌝ }

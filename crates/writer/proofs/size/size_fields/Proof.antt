@@ -1,5 +1,5 @@
--- `writer::size::size_fields` meets its contract: its tests are those of a body that a line can have, in another order. Assumes
--- nothing.
+-- `writer::size::size_fields` meets its contract: its tests are those of a body that a line can have, in another order.
+-- Assumes nothing.
 use mathlib.Core.Path.{_≡_, sym, _∙_}
 use mathlib.Core.Bool.{true, _||_, or-true}
 use mathlib.Core.Logic.{⊎-elim}
