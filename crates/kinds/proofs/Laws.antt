@@ -40,7 +40,7 @@ use Rattle.idents.proofs.Readings.{aircraft-one}
 use Rattle.idents.proofs.Single.{aircraft-complete}
 use Rattle.kinds.specs.Field.{IDENT, TZ-IDENT, AIRCRAFT, ROUTE, markOf, markText, isMark, follows, plain, valued, identIn, aircraftIn, isOne, isTwo, ofIdent, ofAircraft, ofRoute, ofWord, readKind, readMark, barred, readIn, isKindValue, shownKind, isValue, shown}
 use Rattle.kinds.specs.declared.Value.{Value}
-use Rattle.kinds.specs.declared.read.FieldRead.the-variants.{Read, Nothing, Number}
+use Rattle.kinds.specs.declared.FieldRead.the-variants.{Read, Nothing, Number}
 use Rattle.kinds.proofs.Marks.{mark-is, mark-some, mark-text, text-mark, each-text}
 
 -- ---- what each way of reading keeps

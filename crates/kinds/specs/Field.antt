@@ -24,8 +24,8 @@ use Rattle.idents.specs.declared.aircraft.Aircraft.{Aircraft}
 use Rattle.idents.specs.declared.aircraft.AircraftRead.{AircraftRead}
 use Rattle.idents.specs.declared.aircraft.AircraftRead.the-variants as aircraft
 use Rattle.kinds.specs.declared.Value.{Value}
-use Rattle.kinds.specs.declared.read.FieldRead.{FieldRead}
-use Rattle.kinds.specs.declared.read.FieldRead.the-variants.{Read, Nothing, Number, Two}
+use Rattle.kinds.specs.declared.FieldRead.{FieldRead}
+use Rattle.kinds.specs.declared.FieldRead.the-variants.{Read, Nothing, Number, Two}
 
 -- ---- the kinds that are no single text; the others are those of forms/specs/Kind
 

@@ -3,8 +3,6 @@ use forms::is_position;
 ghost use mathlib.Core.Path.{_≡_};
 ghost use Rattle.kinds.specs.Field.{markOf, contentOf, plain as plainly, leftOf, marksOf, follows as following};
 
-pub mod read;
-
 // The kinds that are no single text; the others are those of `forms`.
 pub const IDENT: u8 = b'I';
 
@@ -26,6 +24,15 @@ pub struct Value {
     pub a: u64,
     pub b: u64,
     pub c: u64,
+}
+
+// A field that is read; one without a reading (answer 9); a number that is none of the eight or came before (10); an
+// aircraft with two different readings (18).
+pub enum FieldRead {
+    Read(Value),
+    Nothing,
+    Number,
+    Two,
 }
 
 // The mark of an amendment's number, one of eight bits, or 0 for what is none of the eight.

@@ -18,7 +18,7 @@ use Rattle.heads.specs.declared.MessageType.the-variants.{Af, Az, Dz, Fz, Rz, T
 use Rattle.heads.specs.declared.TypeRead.{TypeRead}
 use Rattle.heads.specs.declared.TypeRead.the-variants as type
 use Rattle.heads.proofs.Messages.{type-sound, type-complete}
-use Rattle.kinds.specs.declared.read.FieldRead.the-variants as field
+use Rattle.kinds.specs.declared.FieldRead.the-variants as field
 use Rattle.table.specs.Read.{padded}
 use Rattle.table.specs.declared.Answer.{Answer}
 use Rattle.table.specs.declared.Answer.the-variants as answer

@@ -12,7 +12,7 @@ use Rattle.text.proofs.Logic.{not-fails}
 use Rattle.heads.specs.declared.MessageType.{MessageType}
 use Rattle.spacing.specs.Body.{bodyOf, allFields, Fields, fieldsOf}
 use Rattle.spacing.proofs.Laws.{fields-text, fields-body}
-use Rattle.kinds.specs.declared.read.FieldRead.{FieldRead}
+use Rattle.kinds.specs.declared.FieldRead.{FieldRead}
 use Rattle.table.specs.Read.{faultAt, answerOf}
 use Rattle.table.specs.declared.Answer.the-variants.{Spacing}
 use Rattle.table.proofs.Refusals.{spacing, spacing-only, isFault, Bad, bad-at, bad-only, fault-spacing}

@@ -13,8 +13,8 @@ use Rattle.heads.specs.Message.{typeText}
 use Rattle.heads.specs.declared.MessageType.{MessageType}
 use Rattle.heads.specs.declared.MessageType.the-variants as type
 use Rattle.spacing.specs.Body.{bodyOf, allFields}
-use Rattle.kinds.specs.declared.read.FieldRead.{FieldRead}
-use Rattle.kinds.specs.declared.read.FieldRead.the-variants as field
+use Rattle.kinds.specs.declared.FieldRead.{FieldRead}
+use Rattle.kinds.specs.declared.FieldRead.the-variants as field
 use Rattle.table.specs.Fault.{First}
 use Rattle.layout.specs.Table.{hasFields, isCount, kindsOf}
 use Rattle.messages.specs.declared.Message.{Message}

@@ -12,8 +12,8 @@ use Rattle.fields.specs.declared.plan.TimeRead.{TimeRead}
 use Rattle.fields.specs.declared.plan.TimeRead.the-variants as time
 use Rattle.fields.specs.Typed.{asTime}
 use Rattle.kinds.specs.Field.{PLAN-TIME, markOf, plain, follows, valued, ofWord, readKind, readMark, barred, readIn}
-use Rattle.kinds.specs.declared.read.FieldRead.{FieldRead}
-use Rattle.kinds.specs.declared.read.FieldRead.the-variants.{Read, Nothing, Number}
+use Rattle.kinds.specs.declared.FieldRead.{FieldRead}
+use Rattle.kinds.specs.declared.FieldRead.the-variants.{Read, Nothing, Number}
 
 -- what is none of the eight numbers is refused, whatever the marks are
 pub number-none : (m : ℕ) (s : List ℕ) → markOf s ≡ 0 → Number ≡ readIn AMENDMENT 0 m s

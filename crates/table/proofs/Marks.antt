@@ -16,7 +16,7 @@ use Rattle.forms.specs.Form.{isPosition}
 use Rattle.forms.specs.Kind.{FIX, AMENDMENT}
 use Rattle.kinds.specs.Field.{markOf, markText, isMark, isOne, readIn, leftOf, marksOf, follows, isValue, shown}
 use Rattle.kinds.specs.declared.Value.{Value}
-use Rattle.kinds.specs.declared.read.FieldRead.the-variants as field
+use Rattle.kinds.specs.declared.FieldRead.the-variants as field
 use Rattle.kinds.proofs.Laws.{in-sound}
 use Rattle.kinds.proofs.Marks.{mark-text, set-more, set-keeps, set-has, set-other}
 use Rattle.table.specs.Read.{answerFrom}

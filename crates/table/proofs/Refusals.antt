@@ -2,16 +2,16 @@
 use mathlib.Core.Path.{_≡_, refl, ap, _∙_}
 use mathlib.Core.Bool.{Bool, true, false}
 use mathlib.Core.List.{List, [], _∷_}
-use Prim.Native.Nat.{ℕ, zero, suc, _+_, _≤_, _<_}
+use Prim.Native.Nat.{ℕ, zero, suc, _+_, _≤_}
 use native.Mathlib.Nat.{suc-inj}
 use native.Mathlib.Omega.{arith}
-use lib.ListN.{length, take, getD}
+use lib.ListN.{length, take}
 use Rattle.text.proofs.Logic.{true-false}
 use Rattle.spacing.specs.Body.{bodyOf, allFields, Split, Fields, Wrong, fieldsOf}
 use Rattle.spacing.proofs.Laws.{fields-text, fields-body}
 use Rattle.kinds.specs.Field.{readIn, leftOf, marksOf}
-use Rattle.kinds.specs.declared.read.FieldRead.{FieldRead}
-use Rattle.kinds.specs.declared.read.FieldRead.the-variants as field
+use Rattle.kinds.specs.declared.FieldRead.{FieldRead}
+use Rattle.kinds.specs.declared.FieldRead.the-variants as field
 use Rattle.table.specs.Fault.{leftAfter, marksAfter, First}
 use Rattle.table.specs.Read.{more, valuesFrom, faultAt, orElse, answerFrom, counted, answers, answerOf}
 use Rattle.table.specs.declared.Answer.{Answer}

@@ -19,8 +19,8 @@ use Rattle.spacing.specs.Body.{bodyOf, allFields, Split, Fields, Wrong, fieldsO
 use Rattle.spacing.proofs.Laws.{fields-text, fields-body, visible-field}
 use Rattle.kinds.specs.Field.{ROUTE, readIn, plain, leftOf, marksOf, follows, isValue, shown}
 use Rattle.kinds.specs.declared.Value.{Value}
-use Rattle.kinds.specs.declared.read.FieldRead.{FieldRead}
-use Rattle.kinds.specs.declared.read.FieldRead.the-variants as field
+use Rattle.kinds.specs.declared.FieldRead.{FieldRead}
+use Rattle.kinds.specs.declared.FieldRead.the-variants as field
 use Rattle.kinds.proofs.Laws.{in-sound, in-complete, in-visible}
 use Rattle.table.specs.Read.{valuesFrom, answerFrom, counted, answers, values, answerOf, valuesOf}
 use Rattle.table.specs.Show.{textsFrom, allowedFrom, marksFrom}

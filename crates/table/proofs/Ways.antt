@@ -19,9 +19,9 @@ use Rattle.spacing.specs.declared.Counted.the-variants as counting
 use Rattle.spacing.proofs.Laws.{rest, Turn, turn, split-rest, count-known, count-wrong}
 use Rattle.kinds.specs.Field.{ROUTE, readIn, plain, leftOf, marksOf}
 use Rattle.kinds.specs.declared.Value.{Value}
-use Rattle.kinds.specs.declared.read.FieldRead.{FieldRead}
-use Rattle.kinds.specs.declared.read.FieldRead.the-variants as field
-use Rattle.kinds.proofs.read.FieldRead.{the-type}
+use Rattle.kinds.specs.declared.FieldRead.{FieldRead}
+use Rattle.kinds.specs.declared.FieldRead.the-variants as field
+use Rattle.kinds.proofs.FieldRead.{the-type}
 use Rattle.table.specs.Read.{none, padded, more, valuesFrom, faultAt, orElse, answerFrom, counted, answers, values, answerOf, valuesOf, Ready, routeIn, routeOf}
 use Rattle.table.specs.declared.Answer.{Answer}
 use Rattle.table.specs.declared.Answer.the-variants.{Taken, Spacing}

@@ -1,7 +1,7 @@
 // A body of fields by a list of their kinds: read, and its route found. Document 01's table is such a list for each type.
+use kinds::FieldRead;
 use kinds::ROUTE;
 use kinds::Value;
-use kinds::read::FieldRead;
 use spacing::Counted;
 ghost use mathlib.Core.Path.{_≡_};
 ghost use Rattle.spacing.specs.Body.{fieldsOf, fieldsIn};

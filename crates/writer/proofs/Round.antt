@@ -1,8 +1,8 @@
 -- THE THEOREMS of demand 2 that need the writer: writing what was read gives the same bytes; reading what was written gives the
 -- same message. `writtenNext` and `writtenBytes` are what `writer::write` promises of its answer and of the buffer, `readOf` and
 -- `freeOf` what `line::read` and `line::free` answer. Assumes nothing.
-use mathlib.Core.Path.{_≡_, refl, sym, ap, _∙_}
-use mathlib.Core.Bool.{Bool, true, false, cond, _&&_}
+use mathlib.Core.Path.{_≡_, refl}
+use mathlib.Core.Bool.{Bool, true, false}
 use mathlib.Core.List.{List, _++_, append-assoc}
 use Prim.Native.Nat.{ℕ, _+_, _-_, _≤_}
 use native.Mathlib.Omega.{arith}

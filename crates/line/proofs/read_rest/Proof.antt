@@ -1,6 +1,5 @@
 -- `line::read_rest` meets its contract. Assumes nothing.
-use mathlib.Core.Path.{sym, ap, _∙_}
-use Rattle.line.specs.Read.{withBody}
+use mathlib.Core.Path.{sym, _∙_}
 use Rattle.line.proofs.Ways.{rest-long, rest-body}
 use borrow.Author.Needs.{needs}
 use Rattle.line.proofs.read_rest.Statement.{statement}

@@ -1,7 +1,6 @@
 -- `showing::number` meets its contract: each arm is a case of the definitions. Assumes nothing.
 use borrow.Author.Tests.{ne-eqb}
 use Rattle.kinds.specs.Field.{isMark, markText}
-use borrow.Author.Needs.{needs}
 use Rattle.showing.proofs.number.Statement.{statement}
 use Rattle.showing.proofs.number.Tie as tie
 

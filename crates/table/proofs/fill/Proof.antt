@@ -17,9 +17,9 @@ use Rattle.spacing.specs.Body.{endOf}
 use Rattle.spacing.proofs.Laws.{end-from, end-le}
 use Rattle.kinds.specs.Field.{readIn, leftOf, marksOf}
 use Rattle.kinds.specs.declared.Value.{Value}
-use Rattle.kinds.specs.declared.read.FieldRead.{FieldRead}
-use Rattle.kinds.specs.declared.read.FieldRead.the-variants as field
-use Rattle.kinds.proofs.read.FieldRead.{the-type}
+use Rattle.kinds.specs.declared.FieldRead.{FieldRead}
+use Rattle.kinds.specs.declared.FieldRead.the-variants as field
+use Rattle.kinds.proofs.FieldRead.{the-type}
 use Rattle.table.specs.Read.{none, padded, valuesFrom, faultAt, answerFrom, Ready}
 use Rattle.table.specs.declared.Answer.{Answer}
 use Rattle.table.specs.declared.Answer.the-variants.{Taken}
