@@ -1,6 +1,6 @@
 -- What `cut`, `end` and `line` answer, and document 01's numbers for it. Assumes nothing.
 use Prim.Native.Nat.{ℕ, _+_}
-use mathlib.Core.Bool.{Bool, true, false, cond}
+use mathlib.Core.Bool.{Bool, false, cond}
 use mathlib.Core.List.{List, []}
 use lib.Dec.{eqb, leb}
 use lib.ListN.{length, take}
@@ -78,14 +78,6 @@ numberOf (cut.InBuffer n) = 0
 numberOf (cut.InPart n) = 0
 numberOf cut.TooLong = 2
 numberOf cut.NotAllowed = 13
-
--- at 0, "whether a line ended"
-unfoldable pub lineEnded : CutAnswer → Bool
-lineEnded (cut.InBuffer n) = true
-lineEnded (cut.InPart n) = true
-lineEnded cut.Taken = false
-lineEnded cut.TooLong = false
-lineEnded cut.NotAllowed = false
 
 unfoldable pub endNumber : EndAnswer → ℕ
 endNumber end.AtStart = 0
