@@ -3,8 +3,8 @@ use mathlib.Core.Path.{_≡_, refl}
 use mathlib.Core.List.{map}
 use Rattle.text.specs.Class.{all, isDigit, isLetter, isAlnum}
 use Rattle.text.specs.Code.{codeOf, byteOf}
-use Rattle.text.specs.Place.{value, places, digits, allIn}
-use Rattle.text.specs.Text.{packed, textOf}
+use Rattle.text.specs.Place.{value, places, digits, tight, allIn}
+use Rattle.text.specs.Text.{packed, textOf, isPacked}
 use Rattle.text.specs.Number.{isDigitTo, digitOf, isNumeral, numberOf, readNumber}
 use Rattle.shapes.specs.Picture.{isOf, fits, longer, pictures, fitsAny, oneOf, run, within}
 use Rattle.shapes.specs.Cut.{upTo, has, before, after, joins}
@@ -18,9 +18,10 @@ use Rattle.heads.specs.Facility.{facilityText}
 use Rattle.heads.specs.Message.{typeOf}
 use Rattle.messages.specs.Body.{bodyFrom, bodyRead}
 use Rattle.line.specs.Read.{headOf, restOf, readOf, freeOf}
-use Rattle.meanings.specs.Meaning.{decimalOf, inMinutes, minutesOf}
+use Rattle.meanings.specs.Meaning.{decimalOf, inMinutes, minutesOf, momentOf, momentIn}
+use Rattle.ages.specs.Age.{isLastDay, dayBefore, ageOf, ageIn}
 use Rattle.starred.specs.Starred.{Row, answer, table}
 
 pub starred : map (λ (r : Row). answer (r .asked)) table ≡ map (λ (r : Row). r .told) table
-unfolding facilityText typeOf bodyFrom bodyRead headOf restOf readOf freeOf allIn places isStamp all isDigit isLetter isAlnum codeOf byteOf value digits packed textOf isDigitTo digitOf isNumeral numberOf readNumber isOf fits longer pictures fitsAny oneOf run within upTo has before after joins isKey isIdent isTzIdent isClock isPosition isForm wordOf isPairForm pairOf identFrom identOf plainOf prefixedOf aircraftOf decimalOf inMinutes minutesOf
+unfolding facilityText typeOf bodyFrom bodyRead headOf restOf readOf freeOf allIn places isStamp all isDigit isLetter isAlnum codeOf byteOf value digits packed textOf isDigitTo digitOf isNumeral numberOf readNumber isOf fits longer pictures fitsAny oneOf run within upTo has before after joins isKey isIdent isTzIdent isClock isPosition isForm wordOf isPairForm pairOf identFrom identOf plainOf prefixedOf aircraftOf decimalOf inMinutes minutesOf tight isPacked momentOf momentIn isLastDay dayBefore ageOf ageIn
 starred = refl

@@ -1,11 +1,11 @@
--- The starred readings of document 01 ("Known readings") of lines and fields, as one table: what is asked, and the answer that
--- document 01 gives. Assumes nothing.
+-- The starred readings of document 01 ("Known readings") of lines, fields and ages, as one table: what is asked, and
+-- the answer that document 01 gives. Assumes nothing.
 use Prim.Native.Nat.{ℕ}
 use Prim.Native.String.{String}
 use mathlib.Core.List.{List, [], _∷_}
 use lib.IntN.{ℤ, pos, negsuc}
 use Rattle.text.specs.Bytes.{bytes}
-use Rattle.text.specs.Text.{textOf}
+use Rattle.text.specs.Text.{packed, textOf}
 use Rattle.forms.specs.Kind.{CLOCK, POSITION}
 use Rattle.words.specs.Word.{wordOf}
 use Rattle.text.specs.declared.Packed.{Packed}
@@ -25,6 +25,10 @@ use Rattle.line.specs.declared.LineRead.the-variants as line
 use Rattle.meanings.specs.Meaning.{minutesOf}
 use Rattle.meanings.specs.declared.Minutes.{Minutes}
 use Rattle.meanings.specs.declared.Minutes.the-variants as minutes
+use Rattle.ages.specs.Age.{ageIn}
+use Rattle.ages.specs.Age as ages
+use Rattle.ages.specs.declared.Aged.{Aged}
+use Rattle.ages.specs.declared.Aged.the-variants as aged
 
 pub data Question : Type 0 where
   Line : String → Question
@@ -33,14 +37,20 @@ pub data Question : Type 0 where
   Position : String → Question
   Minutes-of : String → Question
   Clock : String → Question
+  -- now, the last day of the previous month, the stamp
+  Age : String → ℕ → String → Question
 
--- no reading; two readings; a reading with these parts; two signed numbers; a line refused with this number
+-- no reading; two readings; a reading with these parts; two signed numbers; an age in seconds, or its word; refused
+-- with this number
 pub data Answer : Type 0 where
   Refused : ℕ → Answer
   None : Answer
   Two : Answer
   Parts : List (List ℕ) → Answer
   Signed : ℤ → ℤ → Answer
+  Seconds : ℕ → Answer
+  Ahead : Answer
+  Old : Answer
 
 -- ---- what the definitions answer
 
@@ -77,6 +87,12 @@ abbrev ofMinutes : Minutes → Answer
 ofMinutes (minutes.At y x) = Signed y x
 ofMinutes minutes.NotOne = None
 
+abbrev ofAge : Aged → Answer
+ofAge (aged.Seconds n) = Seconds n
+ofAge aged.Ahead = Ahead
+ofAge aged.Old = Old
+ofAge aged.OutOfRange = Refused (ages.numberOf aged.OutOfRange)
+
 abbrev pub answer : Question → Answer
 answer (Line t) = ofLine (readOf (bytes t)) (freeOf (bytes t))
 answer (Ident t) = ofIdent (identOf (bytes t))
@@ -84,6 +100,7 @@ answer (Aircraft t) = ofAircraft (aircraftOf (bytes t))
 answer (Position t) = ofWord (wordOf POSITION (bytes t))
 answer (Minutes-of t) = ofMinutes (minutesOf (bytes t))
 answer (Clock t) = ofWord (wordOf CLOCK (bytes t))
+answer (Age now last stamp) = ofAge (ageIn (packed (bytes now)) last (packed (bytes stamp)))
 
 -- ---- the table
 
@@ -111,4 +128,7 @@ table =
     ∷ row (Minutes-of "0000S/00000W") (Signed (pos 0) (pos 0))
     ∷ row (Clock "2359") (Parts (bytes "2359" ∷ []))
     ∷ row (Clock "2400") None
+    ∷ row (Age "06081800" 30 "06081700") (Seconds 60)
+    ∷ row (Age "01000010" 30 "30235950") (Seconds 20)
+    ∷ row (Age "06081659" 30 "06081700") Ahead
     ∷ []

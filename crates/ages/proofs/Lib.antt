@@ -1,0 +1,5 @@
+pub mod Moments
+pub mod Ways
+pub mod Cases
+pub mod Theorems
+pub mod Unique

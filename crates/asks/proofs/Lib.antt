@@ -1,0 +1,5 @@
+pub mod Ways
+pub mod Fields
+pub mod Allowed
+pub mod Answers
+pub mod Unique

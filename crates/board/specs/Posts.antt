@@ -1,0 +1,21 @@
+-- What `write` and `strike` leave, in named parts: the answer, the words, and that they are still a board. Assumes
+-- nothing.
+use mathlib.Core.Path.{_≡_}
+use mathlib.Core.Bool.{true}
+use mathlib.Core.List.{List}
+use Prim.Native.Nat.{ℕ}
+use Rattle.rows.specs.Rows.{keyOf, written, fits, struck, isListed}
+use Rattle.rows.specs.declared.Row.{Row}
+use Rattle.board.specs.declared.Done.{Done}
+use Rattle.board.specs.declared.Struck.{Struck}
+use Rattle.board.specs.Board.{rowsOf, wordsOf, isAllowed, doneOf, goneOf}
+
+pub record Wrote (l : List ℕ) (r : Row) (d : Done) (l′ : List ℕ) : Type 0 where
+  pub done : d ≡ doneOf (fits (rowsOf l) (keyOf r))
+  pub words : l′ ≡ wordsOf (written (rowsOf l) r)
+  pub still : isAllowed l′ ≡ true
+
+pub record Stricken (l : List ℕ) (k : ℕ) (d : Struck) (l′ : List ℕ) : Type 0 where
+  pub done : d ≡ goneOf (isListed (rowsOf l) k)
+  pub words : l′ ≡ wordsOf (struck (rowsOf l) k)
+  pub still : isAllowed l′ ≡ true

@@ -1,0 +1,14 @@
+pub mod Twins
+pub mod Lookup
+pub mod Rising
+pub mod Same
+pub mod Places
+pub mod Keys
+pub mod Stands
+pub mod Turns
+pub mod Shows
+pub mod Answers
+pub mod Allowed
+pub mod Boards
+pub mod Demand
+pub mod Only

@@ -1,0 +1,1 @@
+// Demand 3 over histories: definitions in specs/, theorems in proofs/, no code.

@@ -1,0 +1,5 @@
+pub mod Stores
+pub mod Cells
+pub mod Words
+pub mod Order
+pub mod Unique
