@@ -1,3 +1,5 @@
 pub mod Ways
+pub mod Numbers
+pub mod Cases
 pub mod Theorems
 pub mod Unique

@@ -20,8 +20,6 @@ use Rattle.history.proofs.Demand.{demand3}
 use Rattle.asks.specs.Asked.{askedOf, refusalNumber}
 use Rattle.asks.specs.declared.Asked.{Asked}
 use Rattle.asks.specs.declared.Asked.the-variants as asked
-use Rattle.asks.specs.declared.Refusal.{Refusal}
-use Rattle.asks.specs.declared.Refusal.the-variants as refusal
 use Rattle.planner.specs.Apply.{lineEvent, strikeEvent, room, applyOf, boardAfter, strikeOf, boardStruck, lineNumber, strikeNumber}
 use Rattle.planner.specs.Run.{Applies, Strikes, Run, fresh, applied, struck, AltersOne, OfCalls}
 use Rattle.planner.specs.declared.LineAnswer.{LineAnswer}
@@ -31,14 +29,15 @@ use Rattle.planner.specs.declared.StrikeAnswer.the-variants as strike
 use Rattle.planner.proofs.apply.Reads as apply
 use Rattle.planner.proofs.strike.Reads as struck-off
 use Rattle.planner.proofs.Ways.{line-event}
+use Rattle.planner.proofs.Numbers.{no-refusal}
 
 -- ---- the runs are made of the promises in the source
 
 pub apply-promise : (κs : _) (a : _) (r : _) (s : _) → apply.Post κs a r s → Applies (now (a .0)) (now (a .1 .0)) r (now (s .0))
-apply-promise κs a r s p = p
+apply-promise κs a r s p = (p .0, p .1 .0)
 
 pub strike-promise : (κs : _) (a : _) (r : _) (s : _) → struck-off.Post κs a r s → Strikes (now (a .0)) (now (a .1 .0)) r (now (s .0))
-strike-promise κs a r s p = p
+strike-promise κs a r s p = (p .0, p .1 .0)
 
 -- ---- one call on an allowed board
 
@@ -135,20 +134,6 @@ listed-took : NotListed ≡ Took → ⊥
 listed-took e = let z : _≡_ {A = ℕ} 0 1 = cc in omega arith
 
 -- the numbers 0 and 12 are of these answers alone
-no-refusal : (x : Refusal) (n : ℕ) → n ≡ refusalNumber x → (n ≡ 0 → ⊥) × (n ≡ 12 → ⊥)
-no-refusal refusal.Short n e = (λ z. omega arith, λ z. omega arith)
-no-refusal refusal.Long n e = (λ z. omega arith, λ z. omega arith)
-no-refusal refusal.Unprintable n e = (λ z. omega arith, λ z. omega arith)
-no-refusal refusal.NoSequence n e = (λ z. omega arith, λ z. omega arith)
-no-refusal refusal.NoStamp n e = (λ z. omega arith, λ z. omega arith)
-no-refusal refusal.NoFacility n e = (λ z. omega arith, λ z. omega arith)
-no-refusal refusal.NoType n e = (λ z. omega arith, λ z. omega arith)
-no-refusal refusal.Spacing n e = (λ z. omega arith, λ z. omega arith)
-no-refusal (refusal.Field i) n e = (λ z. omega arith, λ z. omega arith)
-no-refusal (refusal.Number i) n e = (λ z. omega arith, λ z. omega arith)
-no-refusal refusal.LongPlan n e = (λ z. omega arith, λ z. omega arith)
-no-refusal (refusal.Two i) n e = (λ z. omega arith, λ z. omega arith)
-
 line-zero : (r : LineAnswer) → (lineNumber r ≡ 0) ↔ (heardLine r ≡ Took)
 unfolding heardLine
 line-zero line.Taken = (λ e. refl, λ e. refl)

@@ -1,2 +1,3 @@
 pub mod Apply
+pub mod Cases
 pub mod Run

@@ -24,7 +24,8 @@ ghost use Rattle.board.specs.Board.{isAllowed};
 ghost use Rattle.history.specs.Events.{isEvent};
 ghost use Rattle.asks.specs.declared.Asked.the-variants as asked;
 ghost use Rattle.asks.specs.Asked.{askedOf};
-ghost use Rattle.planner.specs.Apply.{eventOf, toldOf, Entered, applyOf, boardAfter, strikeOf, boardStruck};
+ghost use Rattle.planner.specs.Apply.{eventOf, toldOf, Entered, applyOf, boardAfter, strikeOf, boardStruck, lineNumber, linePlace, strikeNumber, strikePlace};
+ghost use Rattle.planner.specs.Cases.{ApplyCase, StrikeCase};
 
 // What `apply` answers: 0; the line's own answer; 13; 12.
 pub enum LineAnswer {
@@ -131,6 +132,7 @@ pub fn apply_allowed(board: &mut [u64], line: &[u8]) -> LineAnswer
 pub fn apply(board: &mut [u64], line: &[u8]) -> LineAnswer
     ensures { λ r. ⌜ r ≡ applyOf (now (board .entry)) (now (line .entry)) ⌝ }
     ensures { λ _. ⌜ now (board .exit) ≡ boardAfter (now (board .entry)) (now (line .entry)) ⌝ }
+    ensures { λ r. ⌜ ApplyCase (now (board .entry)) (now (line .entry)) (lineNumber r) (linePlace r) (now (board .exit)) ⌝ }
 {
     let asked = asks::read(line);
     if let Asked::Refused(refusal) = asked {
@@ -146,6 +148,7 @@ pub fn apply(board: &mut [u64], line: &[u8]) -> LineAnswer
 pub fn strike(board: &mut [u64], key: &[u8]) -> StrikeAnswer
     ensures { λ r. ⌜ r ≡ strikeOf (now (board .entry)) (now (key .entry)) ⌝ }
     ensures { λ _. ⌜ now (board .exit) ≡ boardStruck (now (board .entry)) (now (key .entry)) ⌝ }
+    ensures { λ r. ⌜ StrikeCase (now (board .entry)) (now (key .entry)) (strikeNumber r) (strikePlace r) (now (board .exit)) ⌝ }
 {
     let KeyRead::Read(key) = Key::read(key) else {
         return StrikeAnswer::NoKey;

@@ -2,17 +2,18 @@
 use mathlib.Core.Path.{sym, _∙_}
 use borrow.Author.Tests.{not-true, not-false}
 use Rattle.planner.proofs.Ways.{line-event, apply-refused, apply-damaged, apply-entered}
+use Rattle.planner.proofs.Cases.{in-apply-case}
 use borrow.Author.Needs.{needs}
 use Rattle.planner.proofs.apply.Statement.{statement}
 use Rattle.planner.proofs.apply.Tie as tie
 
 returns : tie.Need-returns
-returns c = let a = c .before in apply-refused _ _ _ _ (a .before .before .read .ensures) (a .asked .given .1)
+returns c = let a = c .before in in-apply-case _ _ (apply-refused _ _ _ _ (a .before .before .read .ensures) (a .asked .given .1))
 
 returns-2 : tie.Need-returns-2
 returns-2 c =
     let m = c .before .before .before in
-    apply-damaged _ _ _ (m .before .read .ensures) (m .match .keys2) (sym (c .before .is-allowed .ensures) ∙ not-true _ (c .if1 .taken))
+    in-apply-case _ _ (apply-damaged _ _ _ (m .before .read .ensures) (m .match .keys2) (sym (c .before .is-allowed .ensures) ∙ not-true _ (c .if1 .taken)))
 
 enter-requires : tie.Need-enter-requires
 enter-requires c κs =
@@ -24,7 +25,7 @@ returns-3 c =
     let n = c .before .before in
     let e = n .before .before in
     let m = e .before .before .before in
-    apply-entered _ _ _ (m .before .read .ensures) (m .match .keys2) (sym (e .before .is-allowed .ensures) ∙ not-false _ (e .if1 .left)) _ _ (n .enter .ensures)
+    in-apply-case _ _ (apply-entered _ _ _ (m .before .read .ensures) (m .match .keys2) (sym (e .before .is-allowed .ensures) ∙ not-false _ (e .if1 .left)) _ _ (n .enter .ensures))
 
 pub apply-spec : {M : Type 1} → statement M
 apply-spec =
