@@ -2,8 +2,6 @@ pub mod Words
 pub mod Boards
 pub mod Finds
 pub mod Allowed
-pub mod Keeps
 pub mod Theorems
 pub mod Ways
-pub mod Looks
 pub mod Unique

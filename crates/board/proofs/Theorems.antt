@@ -18,7 +18,8 @@ use Rattle.board.specs.declared.Struck.the-variants.{Missing}
 use Rattle.board.specs.Posts.{Wrote, Stricken}
 use Rattle.board.proofs.Words.{length-flat, length-read, length-rows, flat-read, all-read, read-flat, hold-flat}
 use Rattle.board.proofs.Allowed.{cap-is, parts, whole, zeros-after, zero-tests}
-use Rattle.board.proofs.Keeps.{fair, board-of, keep-written, keep-struck, written-full, struck-missing}
+use Rattle.rows.proofs.Twins.{written-full}
+use Rattle.rows.proofs.Boards.{fair, board-of, keep-written, keep-struck, struck-missing}
 
 -- ---- rows, their words, and the rows that these show
 

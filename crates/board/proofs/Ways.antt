@@ -27,7 +27,7 @@ use Rattle.board.specs.Posts.{Wrote, Stricken}
 use Rattle.board.proofs.Words.{length-rows, row-there}
 use Rattle.board.proofs.Boards.{replace-board, insert-board, remove-board}
 use Rattle.board.proofs.Allowed.{parts}
-use Rattle.board.proofs.Keeps.{above-rising}
+use Rattle.rows.proofs.Lookup.{above-rising}
 use Rattle.board.proofs.Theorems.{words-rows, still-written, still-struck}
 
 -- ---- what `find` answered, as a place

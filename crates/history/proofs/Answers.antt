@@ -15,7 +15,7 @@ use Rattle.history.specs.Steps.{Took, Refused, NoRoom, NotListed, answer
 use Rattle.history.specs.Demand.{For, for-dz, for-az, for-tz, StrikeOf, the-strike, Readable, read-dz, read-az, read-tz, read-other, Senseless, no-reading, no-key, Listed, Count, MeetsFull}
 use Rattle.history.specs.Promise.{Taken}
 use Rattle.history.proofs.Keys.{keysOf, length-keys, rising-keys, keys-shown, shown-keys, keys-ext}
-use Rattle.history.proofs.Places.{full-is, is-full}
+use Rattle.rows.proofs.Places.{full-is, is-full}
 use Rattle.history.proofs.Shows.{not-both, row-is, listed-is, unlisted-is}
 use Rattle.history.proofs.Turns.{clash, cap-is, after-rising, after-room}
 

@@ -1,8 +1,3 @@
-pub mod Twins
-pub mod Lookup
-pub mod Rising
-pub mod Same
-pub mod Places
 pub mod Keys
 pub mod Stands
 pub mod Turns

@@ -21,7 +21,7 @@ use Rattle.history.specs.Demand.{StrikeOf, TakenArrival, TakenTrack, Tak
 use Rattle.history.specs.Promise.{Shows, Taken}
 use Rattle.history.specs.Steps.{after}
 use Rattle.history.proofs.Demand.{demand3}
-use Rattle.history.proofs.Same.{rows-ext}
+use Rattle.rows.proofs.Same.{rows-ext}
 use Rattle.history.proofs.Shows.{not-both}
 use Rattle.history.proofs.Turns.{clash, look-some}
 

@@ -17,7 +17,7 @@ use Rattle.history.specs.Events.{Event, dz, az, tz, other, unread, strik
 use Rattle.history.specs.Steps.{after}
 use Rattle.history.specs.Demand.{DzAz, a-dz, an-az, Dz, the-dz, Tz, the-tz, For, for-dz, for-az, for-tz, StrikeOf, TakenFor, TakenArrival, TakenTrack, TakenDz, Listed, ArrivalOf, TrackOf}
 use Rattle.history.specs.Promise.{Taken}
-use Rattle.history.proofs.Places.{shown, listed-shown}
+use Rattle.rows.proofs.Places.{shown, listed-shown}
 use Rattle.history.proofs.Stands.{Turn, hit, stop, pass, Follows, stands}
 use Rattle.history.proofs.Turns.{clash, strike-for, rowBy, after-rising, look-some, look-none, look-same, RowTurn, put, gone, kept, turned}
 

@@ -14,10 +14,10 @@ use Rattle.rows.specs.declared.Row.{Row}
 use Rattle.history.specs.Events.{Event, dz, az, tz, other, unread, strike, misnamed, History, start, _then_}
 use Rattle.history.specs.Steps.{Took, NoRoom, Ask, Put, Strike, Nothing, byDz, byAz, byTz, ask, rowsBy, answerBy, rowsAfter, answer, after}
 use Rattle.history.specs.Demand.{For, for-dz, for-az, for-tz, StrikeOf, the-strike, About}
-use Rattle.history.proofs.Lookup.{written-shown, written-others, struck-none, struck-others}
-use Rattle.history.proofs.Twins.{written-full}
-use Rattle.history.proofs.Rising.{written-rising, struck-rising}
-use Rattle.history.proofs.Places.{written-room, struck-room}
+use Rattle.rows.proofs.Lookup.{written-shown, written-others, struck-none, struck-others}
+use Rattle.rows.proofs.Twins.{written-full}
+use Rattle.rows.proofs.Rising.{written-rising, struck-rising}
+use Rattle.rows.proofs.Places.{written-room, struck-room}
 
 -- two things that cannot be equal are
 pub clash : {X : Type 0} → _≡_ {A = ℕ} 0 1 → X

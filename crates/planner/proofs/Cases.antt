@@ -17,7 +17,8 @@ use Rattle.rows.specs.declared.Row.{Row}
 use Rattle.rows.specs.declared.Arrival.{Arrival}
 use Rattle.rows.specs.declared.Track.{Track}
 use Rattle.board.specs.Board.{rowsOf, wordsOf, isAllowed}
-use Rattle.board.proofs.Keeps.{written-full, struck-missing}
+use Rattle.rows.proofs.Twins.{written-full}
+use Rattle.rows.proofs.Boards.{struck-missing}
 use Rattle.board.proofs.Theorems.{words-rows}
 use Rattle.history.specs.Steps.{byDz, byAz, byTz, rowsAfter}
 use Rattle.asks.specs.Asked.{askedOf}

@@ -29,8 +29,7 @@ use Rattle.board.specs.declared.Done.{Done}
 use Rattle.board.proofs.Theorems.{board-rows, words-rows}
 use Rattle.history.specs.Events.{isEvent}
 use Rattle.history.specs.Steps.{byAz, byTz, rowsAfter}
-use Rattle.history.proofs.Allowed.{looked-arrival, looked-track}
-use Rattle.history.proofs.Boards.{board-is}
+use Rattle.rows.proofs.Boards.{looked-arrival, looked-track, fair}
 use Rattle.asks.specs.Asked.{askedOf}
 use Rattle.asks.proofs.Allowed.{asks-dz, asks-az, asks-tz}
 use Rattle.asks.proofs.Asked.{the-type}
@@ -45,7 +44,7 @@ use Rattle.planner.specs.declared.StrikeAnswer.the-variants as struck
 -- ---- a row is written that is allowed
 
 all-rows : (l : List ℕ) → isAllowed l ≡ true → allRows (rowsOf l) ≡ true
-all-rows l e = board-is (rowsOf l) (board-rows l e) .1
+all-rows l e = fair (rowsOf l) (board-rows l e) .rows
 
 some-entry : (a : ArrivalSlot) (t : Track) → hasEntry a (track.Entry t) ≡ true
 unfolding hasEntry

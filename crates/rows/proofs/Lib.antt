@@ -2,4 +2,10 @@ pub mod Stores
 pub mod Cells
 pub mod Words
 pub mod Order
+pub mod Twins
+pub mod Lookup
+pub mod Rising
+pub mod Same
+pub mod Places
+pub mod Boards
 pub mod Unique

@@ -7,9 +7,9 @@ use mathlib.Core.List.{List, [], _∷_}
 use mathlib.Core.Option.{Option, none, some}
 use borrow.Author.Tests.{ltb-true, ltb-false, eqb-true, eq-eqb, ne-eqb}
 use lib.Dec.{ltb, eqb}
 use Rattle.rows.specs.Rows.{keyOf, Above, Rising, lookup, written, fits, struck}
 use Rattle.rows.specs.declared.Row.{Row}
-use Rattle.history.proofs.Twins.{placed, without, written-placed, struck-without}
+use Rattle.rows.proofs.Twins.{placed, without, written-placed, struck-without}
 
 -- ---- a row is written
 

@@ -8,9 +8,9 @@ use mathlib.Core.Option.{Option, none, some}
 use borrow.Author.Tests.{ltb-true, ltb-false, eqb-true, lt-ltb, le-ltb}
 use lib.ListN.{length, take, drop, length-set, length-append, length-take, length-drop}
 use lib.Dec.{ltb, eqb}
 use Rattle.rows.specs.Rows.{CAP, keyOf, Rising, lookup, Place, At, Gap, further, findIn, writtenAt, fitsAt, written, fits, struckAt, isAt, struck, isListed}
 use Rattle.rows.specs.declared.Row.{Row}
-use Rattle.history.proofs.Lookup.{none-below, above-rising}
+use Rattle.rows.proofs.Lookup.{none-below, above-rising}
 
 -- ---- never more than the rows that there is room for
 

@@ -7,9 +7,9 @@ use mathlib.Core.List.{List, [], _∷_}
 use mathlib.Core.Option.{none, some}
 use borrow.Author.Tests.{ltb-true, ltb-false, eq-eqb, ne-eqb}
 use lib.Dec.{ltb}
 use Rattle.rows.specs.Rows.{keyOf, Above, Rising, lookup}
 use Rattle.rows.specs.declared.Row.{Row}
-use Rattle.history.proofs.Lookup.{none-below, above-rising}
+use Rattle.rows.proofs.Lookup.{none-below, above-rising}
 
 head-shown : (x : Row) (xs : List Row) → lookup (keyOf x) (x ∷ xs) ≡ some x
 head-shown x xs = ap (λ (b : Bool). cond b (some x) (lookup (keyOf x) xs)) (eq-eqb (keyOf x) (keyOf x) refl)

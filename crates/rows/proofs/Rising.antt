@@ -6,10 +6,10 @@ use mathlib.Core.Bool.{Bool, true, false, cond}
 use mathlib.Core.List.{List, [], _∷_}
 use borrow.Author.Tests.{ltb-true, ltb-false, eqb-true, eqb-false}
 use lib.Dec.{ltb, eqb}
 use Rattle.rows.specs.Rows.{keyOf, Above, Rising, written, fits, struck}
 use Rattle.rows.specs.declared.Row.{Row}
-use Rattle.history.proofs.Twins.{placed, without, written-placed, written-full, struck-without}
-use Rattle.history.proofs.Lookup.{above-rising}
+use Rattle.rows.proofs.Twins.{placed, without, written-placed, written-full, struck-without}
+use Rattle.rows.proofs.Lookup.{above-rising}
 
 above-placed : (j : ℕ) (r : Row) (rs : List Row) → j < keyOf r → Above j rs → Above j (placed r rs)
 unfolding placed
