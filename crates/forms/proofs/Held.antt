@@ -14,7 +14,8 @@ use Rattle.text.specs.Class.{all, isDigit, isLetter, isAlnum, isTextByte}
 use Rattle.text.specs.Text.{isText}
 use Rattle.text.proofs.Logic.{and-left, and-right, true-false, not-fails, either-of, pick, pick-with}
 use Rattle.text.proofs.Codes.{all-between}
-use Rattle.shapes.specs.Picture.{either, isOf, fits, longer, pictures, fitsAny, oneOf, run, part}
+use Rattle.shapes.specs.Pieces.{pieces}
+use Rattle.shapes.specs.Picture.{either, isOf, fits, pictures, fitsAny, oneOf, run, part}
 use Rattle.shapes.specs.Cut.{before, after, joins}
 use Rattle.shapes.proofs.Laws.{fits-length, run-least, run-most, run-class}
 use Rattle.shapes.proofs.Joins.{joins-parts}
@@ -182,7 +183,7 @@ position-held s e = fits-held (bytes "ddddn/ddddde") s refl (not-fails _ (λ q. 
 
 -- THE LAW: one line for each kind
 pub form-held : (k : ℕ) (s : List ℕ) → isForm k s ≡ true → Held s
-unfolding isForm suits suit pictures longer textual all isTextByte isAlnum isDigit isLetter
+unfolding isForm suits suit pieces textual all isTextByte isAlnum isDigit isLetter
 form-held k s =
     pick (eqb k SEQUENCE) (isSequence s) _ (fits-held (bytes "hhhh") s refl)
     (pick (eqb k STAMP) (isStamp s) _ (stamp-held s)

@@ -13,7 +13,8 @@ use Rattle.text.specs.Class.{all, isDigit, isLetter, isAlnum}
 use Rattle.text.specs.Place.{value, places, allIn}
 use Rattle.text.proofs.Logic.{and-left, and-right, true-false, either-of}
 use Rattle.text.proofs.Places.{value-lt, places-value, value-places, length-places, allIn-more}
-use Rattle.shapes.specs.Picture.{isOf, fits, longer, pictures, fitsAny, oneOf}
+use Rattle.shapes.specs.Pieces.{pieces}
+use Rattle.shapes.specs.Picture.{isOf, fits, fitsAny, oneOf}
 use Rattle.shapes.proofs.Laws.{fits-length}
 use Rattle.forms.specs.Form.{isFacility}
 use Rattle.heads.specs.Facility.{facilityOf, facilityText, isFacilityValue}
@@ -48,7 +49,7 @@ fits-small (k ∷ p) (b ∷ s) h e =
 
 -- what follows of each of its pictures follows of a facility
 each : {X : Type 0} (s : List ℕ) → ((p : List ℕ) → length p ≡ 4 → all spaced p ≡ true → fits p s ≡ true → X) → isFacility s ≡ true → X
-unfolding oneOf pictures longer fitsAny all spaced
+unfolding oneOf pieces fitsAny all spaced
 each s f =
     either-of (fits (bytes "aaaa") s) _ (f (bytes "aaaa") refl refl)
     (either-of (fits (bytes " aaa") s) _ (f (bytes " aaa") refl refl)

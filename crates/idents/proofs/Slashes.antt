@@ -12,7 +12,8 @@ use Rattle.text.specs.Class.{all, isDigit, isLetter, isAlnum}
 use Rattle.text.specs.Text.{textOf}
 use Rattle.text.proofs.Logic.{and-left, and-right, true-false, not-fails, either-of}
 use Rattle.text.proofs.Joined.{length-slashed}
-use Rattle.shapes.specs.Picture.{isOf, fits, longer, pictures, fitsAny, oneOf, run}
+use Rattle.shapes.specs.Pieces.{pieces}
+use Rattle.shapes.specs.Picture.{isOf, fits, fitsAny, oneOf, run}
 use Rattle.shapes.specs.Cut.{upTo}
 use Rattle.shapes.proofs.Laws.{fits-length, run-class, run-most}
 use Rattle.shapes.proofs.Joins.{has-no, fits-no}
@@ -35,7 +36,7 @@ unfolding isForm
 model-slashless s e = run-slashless 2 4 s e
 
 pub prefix-slashless : (s : List ℕ) → isForm PREFIX s ≡ true → upTo slash s ≡ length s
-unfolding isForm oneOf pictures longer fitsAny all isOf isAlnum isDigit isLetter
+unfolding isForm oneOf pieces fitsAny all isOf isAlnum isDigit isLetter
 prefix-slashless s =
     either-of (fits (bytes "a") s) (fits (bytes "da") s || false) (fits-no slash (bytes "a") s refl)
     (either-of (fits (bytes "da") s) false (fits-no slash (bytes "da") s refl) (λ e. true-false e refl))
@@ -59,7 +60,7 @@ unfolding isForm
 letter-short s e = omega (arith, fits-length (bytes "l") s e)
 
 pub prefix-short : (s : List ℕ) → isForm PREFIX s ≡ true → length s ≤ 2
-unfolding isForm oneOf pictures longer fitsAny
+unfolding isForm oneOf pieces fitsAny
 prefix-short s =
     either-of (fits (bytes "a") s) (fits (bytes "da") s || false) (λ e. omega (arith, fits-length (bytes "a") s e))
     (either-of (fits (bytes "da") s) false (λ e. omega (arith, fits-length (bytes "da") s e)) (λ e. true-false e refl))

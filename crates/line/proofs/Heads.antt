@@ -16,7 +16,8 @@ use Rattle.text.specs.Place.{value, inRange, allIn}
 use Rattle.text.specs.Text.{packed, textOf, isText}
 use Rattle.text.proofs.Logic.{and-left, and-right, true-false, not-fails, either-of}
 use Rattle.text.proofs.Laws.{text-packed, packed-text, text-is}
-use Rattle.shapes.specs.Picture.{isOf, fits, longer, pictures, fitsAny, oneOf, part}
+use Rattle.shapes.specs.Pieces.{pieces}
+use Rattle.shapes.specs.Picture.{isOf, fits, fitsAny, oneOf, part}
 use Rattle.shapes.proofs.Laws.{fits-length}
 use Rattle.forms.specs.Form.{isSequence, isStamp, isFacility}
 use Rattle.forms.specs.Kind.{SEQUENCE, STAMP, isForm}
@@ -250,7 +251,7 @@ spaced-printable (k ∷ p) (b ∷ s) h e =
     )
 
 facility-printable : (s : List ℕ) → isFacility s ≡ true → allIn 32 126 s ≡ true
-unfolding oneOf pictures longer fitsAny all spaced
+unfolding oneOf pieces fitsAny all spaced
 facility-printable s =
     either-of (fits (bytes "aaaa") s) _ (spaced-printable (bytes "aaaa") s refl)
     (either-of (fits (bytes " aaa") s) _ (spaced-printable (bytes " aaa") s refl)

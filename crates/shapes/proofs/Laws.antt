@@ -4,7 +4,7 @@ use mathlib.Core.Bool.{Bool, true, false, _&&_, _||_, or-false}
 use mathlib.Core.List.{List, [], _∷_}
 use Prim.Native.Char.{code}
 use Prim.Native.Nat.{ℕ, suc, _+_, _-_, _≤_, _<_}
-use native.Mathlib.Nat.{not-suc-le-zero, suc-add}
+use native.Mathlib.Nat.{not-suc-le-zero}
 use native.Mathlib.Numerals.{add-one}
 use native.Mathlib.Omega.{arith}
 use lib.Dec.{eqb, leb}
@@ -13,8 +13,9 @@ use lib.Seq.{take-all, drop-cons}
 use borrow.Author.Tests.{lt-ltb, le-ltb, eq-eqb, ne-eqb, eqb-true, leb-true}
 use Rattle.text.specs.Class.{all}
 use Rattle.text.proofs.Logic.{and-left, and-right, true-false, not-holds}
-use Rattle.shapes.specs.Picture.{isOf, fits, longer, pictures, fitsAny, oneOf, run}
+use Rattle.shapes.specs.Picture.{isOf, fits, fitsAny, oneOf, run}
 use Rattle.shapes.specs.Cut.{upTo, has, before, after, joins}
+use Rattle.shapes.proofs.Pieces.{pieces-more, pieces-one}
 
 -- the part `&s[a..]` is what is left
 pub rest-all : (s : List ℕ) (a : ℕ) → take (length s - a) (drop a s) ≡ drop a s
@@ -72,34 +73,14 @@ fits-apart p s h = not-holds (fits p s) (λ e. h (sym (fits-length p s e)))
 abbrev pub bar : ℕ
 bar = code "|"
 
-more-pictures : (p : List ℕ) → upTo bar p < length p → pictures p ≡ take (upTo bar p) p ∷ pictures (drop (upTo bar p + 1) p)
-unfolding pictures upTo longer
-more-pictures [] h = absurd (not-suc-le-zero h)
-more-pictures (k ∷ p) h = go (eqb k bar) refl (more-pictures p)
-  where
-    go : (t : Bool) → eqb k bar ≡ t → (upTo bar p < length p → pictures p ≡ take (upTo bar p) p ∷ pictures (drop (upTo bar p + 1) p)) → pictures (k ∷ p) ≡ take (upTo bar (k ∷ p)) (k ∷ p) ∷ pictures (drop (upTo bar (k ∷ p) + 1) (k ∷ p))
-    go true q r = rw q
-    go false q r =
-        let l : suc (upTo bar p) < suc (length p) = rw q at h in
-        rw (q, r (omega arith), suc-add)
-
-last-picture : (p : List ℕ) → length p ≤ upTo bar p → pictures p ≡ p ∷ []
-unfolding pictures upTo longer
-last-picture [] h = refl
-last-picture (k ∷ p) h = go (eqb k bar) refl (last-picture p)
-  where
-    go : (t : Bool) → eqb k bar ≡ t → (length p ≤ upTo bar p → pictures p ≡ p ∷ []) → pictures (k ∷ p) ≡ (k ∷ p) ∷ []
-    go true q r = let l : suc (length p) ≤ 0 = rw q at h in absurd (not-suc-le-zero l)
-    go false q r = let l : suc (length p) ≤ suc (upTo bar p) = rw q at h in rw (q, r (omega arith))
-
 module _ (p s : List ℕ) where
   pub one-more : upTo bar p < length p → oneOf p s ≡ (fits (take (upTo bar p) p) s || oneOf (drop (upTo bar p + 1) p) s)
   unfolding oneOf fitsAny
-  one-more h = rw (more-pictures p h)
+  one-more h = rw (pieces-more bar p h)
 
   pub one-last : length p ≤ upTo bar p → oneOf p s ≡ fits (take (upTo bar p) p) s
   unfolding oneOf fitsAny
-  one-last h = rw (last-picture p h, take-all (upTo bar p) p h) (or-false (fits p s))
+  one-last h = rw (pieces-one bar p (omega (arith, upTo-le bar p)), take-all (upTo bar p) p h) (or-false (fits p s))
 
 -- ---- runs
 

@@ -1,3 +1,3 @@
-pub mod Picture
 pub mod Cut
 pub mod Pieces
+pub mod Picture

@@ -8,6 +8,7 @@ use lib.Dec.{leb, eqb}
 use lib.ListN.{length, take, drop}
 use Rattle.text.specs.Class.{all, isDigit, isLetter, isAlnum}
 use Rattle.text.specs.Number.{isNumeral, numberOf}
+use Rattle.shapes.specs.Pieces.{pieces}
 
 -- one of two bytes
 abbrev pub either : ℕ → ℕ → ℕ → Bool
@@ -35,13 +36,8 @@ fits (k ∷ p) [] = false
 fits (k ∷ p) (b ∷ s) = isOf k b && fits p s
 
 -- pictures written with a bar between them
-unfoldable pub longer : ℕ → List (List ℕ) → List (List ℕ)
-longer k [] = []
-longer k (p ∷ ps) = (k ∷ p) ∷ ps
-
-unfoldable pub pictures : List ℕ → List (List ℕ)
-pictures [] = [] ∷ []
-pictures (k ∷ p) = cond (eqb k (code "|")) ([] ∷ pictures p) (longer k (pictures p))
+abbrev pub pictures : List ℕ → List (List ℕ)
+pictures p = pieces (code "|") p
 
 unfoldable pub fitsAny : List (List ℕ) → List ℕ → Bool
 fitsAny [] s = false

@@ -6,7 +6,8 @@ use Rattle.text.specs.Code.{codeOf, byteOf}
 use Rattle.text.specs.Place.{value, places, digits, tight, allIn}
 use Rattle.text.specs.Text.{packed, textOf, isPacked}
 use Rattle.text.specs.Number.{isDigitTo, digitOf, isNumeral, numberOf, readNumber}
-use Rattle.shapes.specs.Picture.{isOf, fits, longer, pictures, fitsAny, oneOf, run, within}
+use Rattle.shapes.specs.Pieces.{pieces}
+use Rattle.shapes.specs.Picture.{isOf, fits, fitsAny, oneOf, run, within}
 use Rattle.shapes.specs.Cut.{upTo, has, before, after, joins}
 use Rattle.forms.specs.Form.{isStamp, isKey, isIdent, isTzIdent, isClock, isPosition}
 use Rattle.forms.specs.Kind.{isForm}
@@ -23,5 +24,5 @@ use Rattle.ages.specs.Age.{isLastDay, dayBefore, ageOf, ageIn}
 use Rattle.starred.specs.Starred.{Row, answer, table}
 
 pub starred : map (λ (r : Row). answer (r .asked)) table ≡ map (λ (r : Row). r .told) table
-unfolding facilityText typeOf bodyFrom bodyRead headOf restOf readOf freeOf allIn places isStamp all isDigit isLetter isAlnum codeOf byteOf value digits packed textOf isDigitTo digitOf isNumeral numberOf readNumber isOf fits longer pictures fitsAny oneOf run within upTo has before after joins isKey isIdent isTzIdent isClock isPosition isForm wordOf isPairForm pairOf identFrom identOf plainOf prefixedOf aircraftOf decimalOf inMinutes minutesOf tight isPacked momentOf momentIn isLastDay dayBefore ageOf ageIn
+unfolding facilityText typeOf bodyFrom bodyRead headOf restOf readOf freeOf allIn places isStamp all isDigit isLetter isAlnum codeOf byteOf value digits packed textOf isDigitTo digitOf isNumeral numberOf readNumber isOf fits pieces fitsAny oneOf run within upTo has before after joins isKey isIdent isTzIdent isClock isPosition isForm wordOf isPairForm pairOf identFrom identOf plainOf prefixedOf aircraftOf decimalOf inMinutes minutesOf tight isPacked momentOf momentIn isLastDay dayBefore ageOf ageIn
 starred = refl
