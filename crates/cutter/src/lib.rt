@@ -2,7 +2,7 @@
 // stand at the start of a buffer that the caller lends.
 use shapes::find;
 use text::Written;
-use text::put_bytes;
+use writing::put_bytes;
 ghost use mathlib.Core.Path.{_≡_};
 ghost use lib.ListN.{take};
 ghost use Rattle.cutter.specs.State.{isAllowed, moreIn, heldMore};

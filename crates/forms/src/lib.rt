@@ -1,4 +1,4 @@
-// The forms of document 01's fields, as tests on bytes.
+// The forms of document 01's fields, as tests on bytes; those of stamps, clocks and times stand in `clocks`.
 use shapes::find;
 use shapes::fits;
 use shapes::is_of;
@@ -6,7 +6,7 @@ use shapes::one_of;
 use shapes::run;
 use shapes::within;
 ghost use mathlib.Core.Path.{_≡_};
-ghost use Rattle.forms.specs.Form.{isStamp, isFacility, isKey, isFix, isClock, isTime, isArrival, isPosition, isRoute};
+ghost use Rattle.forms.specs.Form.{isFacility, isKey, isFix, isPosition, isRoute};
 
 // The kinds of fields that are held as their text. (I, J, R and Z are left for what is no such field.)
 pub const SEQUENCE: u8 = b'Q';
@@ -45,25 +45,6 @@ pub const POSITION: u8 = b'O';
 
 pub const AMENDMENT: u8 = b'B';
 
-// Eight digits DDHHMMSS, each pair in its range.
-pub fn is_stamp(s: &[u8]) -> bool
-    ensures { λ r. ⌜ r ≡ isStamp (now (s .entry)) ⌝ }
-{
-    if !fits(b"dddddddd", s) {
-        return false;
-    }
-    if !within(1, 31, &s[0..2]) {
-        return false;
-    }
-    if !within(0, 23, &s[2..4]) {
-        return false;
-    }
-    if !within(0, 59, &s[4..6]) {
-        return false;
-    }
-    within(0, 59, &s[6..8])
-}
-
 // Four characters, right justified.
 pub fn is_facility(s: &[u8]) -> bool
     ensures { λ r. ⌜ r ≡ isFacility (now (s .entry)) ⌝ }
@@ -91,33 +72,6 @@ pub fn is_fix(s: &[u8]) -> bool
     }
     let j = i + 1;
     run(b'a', 2, 5, &s[..i]) && run(b'a', 1, 6, &s[j..])
-}
-
-// Four digits, 0000 to 2359, minutes to 59.
-pub fn is_clock(s: &[u8]) -> bool
-    ensures { λ r. ⌜ r ≡ isClock (now (s .entry)) ⌝ }
-{
-    if !fits(b"dddd", s) {
-        return false;
-    }
-    if !within(0, 2359, s) {
-        return false;
-    }
-    within(0, 59, &s[2..4])
-}
-
-// D, E or P and a clock.
-pub fn is_time(s: &[u8]) -> bool
-    ensures { λ r. ⌜ r ≡ isTime (now (s .entry)) ⌝ }
-{
-    fits(b"tdddd", s) && is_clock(&s[1..5])
-}
-
-// A clock, and optionally A or E before it.
-pub fn is_arrival(s: &[u8]) -> bool
-    ensures { λ r. ⌜ r ≡ isArrival (now (s .entry)) ⌝ }
-{
-    is_clock(s) || (fits(b"mdddd", s) && is_clock(&s[1..5]))
 }
 
 // ddmm, N or S, slash, dddmm, E or W, in range.

@@ -1,6 +1,6 @@
 // The fields of a line's head that are no short text: the facility, which may begin with spaces, and the message type.
 use text::Written;
-use text::put_bytes;
+use writing::put_bytes;
 ghost use mathlib.Core.Path.{_≡_};
 ghost use mathlib.Core.Bool.{true};
 ghost use Prim.Native.Nat.{_+_, _*_};

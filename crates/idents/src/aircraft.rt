@@ -82,7 +82,7 @@ fn word(a: Aircraft) -> Packed
     if a.prefix == 0 {
         return Packed::Text(tail);
     }
-    text::join(a.prefix, tail)
+    writing::join(a.prefix, tail)
 }
 
 impl Aircraft {
@@ -115,7 +115,7 @@ impl Aircraft {
         }
         let whole = word(self);
         match whole {
-            Packed::Text(t) => text::put(t, out, at),
+            Packed::Text(t) => writing::put(t, out, at),
             Packed::Nothing => Written::NoText,
         }
     }

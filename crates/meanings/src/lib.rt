@@ -49,7 +49,7 @@ fn decimal(s: &[u8]) -> u64
 fn moment_of(s: &[u8]) -> When
     ensures { λ r. ⌜ r ≡ momentOf (now (s .entry)) ⌝ }
 {
-    if !forms::is_stamp(s) {
+    if !clocks::is_stamp(s) {
         return When::NotOne;
     }
     let day = decimal(&s[0..2]);
@@ -70,7 +70,7 @@ pub fn stamp_moment(stamp: Stamp) -> When
     ensures { λ r. ⌜ r ≡ momentIn (stamp .0) ⌝ }
 {
     let mut room = [0u8; 12];
-    let written = text::put(stamp.0, &mut room, 0);
+    let written = writing::put(stamp.0, &mut room, 0);
     match written {
         Written::Next(n) => moment_of(&room[..n]),
         Written::NoRoom => When::NotOne,
@@ -116,7 +116,7 @@ pub fn position_minutes(position: Position) -> Minutes
     ensures { λ r. ⌜ r ≡ minutesIn (position .0) ⌝ }
 {
     let mut room = [0u8; 12];
-    let written = text::put(position.0, &mut room, 0);
+    let written = writing::put(position.0, &mut room, 0);
     match written {
         Written::Next(n) => minutes_of(&room[..n]),
         Written::NoRoom => Minutes::NotOne,
@@ -144,7 +144,7 @@ pub fn level_numbers(level: Level) -> Levels
     ensures { λ r. ⌜ r ≡ levelsIn (level .0) ⌝ }
 {
     let mut room = [0u8; 12];
-    let written = text::put(level.0, &mut room, 0);
+    let written = writing::put(level.0, &mut room, 0);
     match written {
         Written::Next(n) => levels_of(&room[..n]),
         Written::NoRoom => Levels::NotOne,

@@ -1,11 +1,11 @@
 // The rule of each kind of field, by the kind's letter.
-use forms::is_arrival;
-use forms::is_clock;
+use clocks::is_arrival;
+use clocks::is_clock;
+use clocks::is_stamp;
+use clocks::is_time;
 use forms::is_fix;
 use forms::is_key;
 use forms::is_position;
-use forms::is_stamp;
-use forms::is_time;
 use shapes::fits;
 use shapes::one_of;
 use shapes::run;

@@ -9,7 +9,7 @@ use kinds::ROUTE;
 use kinds::TZ_IDENT;
 use kinds::Value;
 use text::Written;
-use text::put_bytes;
+use writing::put_bytes;
 ghost use mathlib.Core.Path.{_≡_};
 ghost use mathlib.Core.Bool.{cond, _&&_};
 ghost use mathlib.Core.List.{[], _∷_};

@@ -7,4 +7,4 @@ pub mod Joined
 pub mod Numbers
 pub mod Order
 pub mod Unique
-mod Turn
+pub mod Turn

@@ -4,11 +4,6 @@ use mathlib.Core.Path.{_≡_, sym, _∙_}
 use denote.Ref.{now}
 use Rattle.text.proofs.code.Reads as code
 use Rattle.text.proofs.pack.Reads as pack
-use Rattle.text.proofs.size.Reads as size
-use Rattle.text.proofs.has_room.Reads as has-room
-use Rattle.text.proofs.put.Reads as put
-use Rattle.text.proofs.put_bytes.Reads as put-bytes
-use Rattle.text.proofs.join.Reads as join
 use Rattle.text.proofs.number.Reads as number
 
 pub code-one : (κs : _) (a : _) (r r′ : _) (s s′ : _) → code.Post κs a r s → code.Post κs a r′ s′ → r ≡ r′
@@ -16,21 +11,6 @@ code-one κs a r r′ s s′ p q = p ∙ sym q
 
 pub pack-one : (κs : _) (a : _) (r r′ : _) (s s′ : _) → pack.Post κs a r s → pack.Post κs a r′ s′ → r ≡ r′
 pack-one κs a r r′ s s′ p q = p ∙ sym q
-
-pub size-one : (κs : _) (a : _) (r r′ : _) (s s′ : _) → size.Post κs a r s → size.Post κs a r′ s′ → r ≡ r′
-size-one κs a r r′ s s′ p q = p ∙ sym q
-
-pub has-room-one : (κs : _) (a : _) (r r′ : _) (s s′ : _) → has-room.Post κs a r s → has-room.Post κs a r′ s′ → r ≡ r′
-has-room-one κs a r r′ s s′ p q = p ∙ sym q
-
-pub put-one : (κs : _) (a : _) (r r′ : _) (s s′ : _) → put.Post κs a r s → put.Post κs a r′ s′ → (r ≡ r′) × (now (s .1 .0) ≡ now (s′ .1 .0))
-put-one κs a r r′ s s′ p q = (p .0 ∙ sym (q .0), p .1 ∙ sym (q .1))
-
-pub put-bytes-one : (κs : _) (a : _) (r r′ : _) (s s′ : _) → put-bytes.Post κs a r s → put-bytes.Post κs a r′ s′ → (r ≡ r′) × (now (s .1 .0) ≡ now (s′ .1 .0))
-put-bytes-one κs a r r′ s s′ p q = (p .0 ∙ sym (q .0), p .1 ∙ sym (q .1))
-
-pub join-one : (κs : _) (a : _) (r r′ : _) (s s′ : _) → join.Post κs a r s → join.Post κs a r′ s′ → r ≡ r′
-join-one κs a r r′ s s′ p q = p ∙ sym q
 
 pub number-one : (κs : _) (a : _) (r r′ : _) (s s′ : _) → number.Post κs a r s → number.Post κs a r′ s′ → r ≡ r′
 number-one κs a r r′ s s′ p q = p ∙ sym q

@@ -23,7 +23,7 @@ pub fn holds(kind: u8, t: u64) -> bool
     ensures { λ r. ⌜ r ≡ isWord kind t ⌝ }
 {
     let mut room = [0u8; 12];
-    let written = text::put(t, &mut room, 0);
+    let written = writing::put(t, &mut room, 0);
     match written {
         Written::Next(n) => rules::is_form(kind, &room[..n]),
         Written::NoRoom => false,
@@ -37,7 +37,7 @@ pub fn put(kind: u8, t: u64, out: &mut [u8], at: usize) -> Written
     ensures { λ _. ⌜ now (out .exit) ≡ writtenBytes (isWord kind t) (textOf t) (now (out .entry)) at ⌝ }
 {
     if holds(kind, t) {
-        text::put(t, out, at)
+        writing::put(t, out, at)
     } else {
         Written::NoText
     }
@@ -90,7 +90,7 @@ pub fn pair_word(a: u64, b: u64) -> Packed
     if b == 0 {
         return Packed::Text(a);
     }
-    text::join(a, b)
+    writing::join(a, b)
 }
 
 // Writes the text of two words of the kinds from place `at`.
@@ -103,7 +103,7 @@ pub fn put_pair(first: u8, second: u8, a: u64, b: u64, out: &mut [u8], at: usize
     }
     let word = pair_word(a, b);
     match word {
-        Packed::Text(t) => text::put(t, out, at),
+        Packed::Text(t) => writing::put(t, out, at),
         Packed::Nothing => Written::NoText,
     }
 }

@@ -1,13 +1,13 @@
--- `text::put` meets its contract: what `size` found says which case holds, and `write` does the writing. Assumes nothing.
+-- `writing::put` meets its contract: what `size` found says which case holds, and `write` does the writing. Assumes nothing.
 use mathlib.Core.Path.{_≡_, sym, ap, _∙_}
 use denote.Ref.{now}
 use Rattle.text.specs.Text.{sizeOf, textOf}
 use Rattle.text.proofs.Laws.{size-known, size-none, no-text, has-room, no-room-told, room-told}
 use Rattle.text.specs.declared.Sized.the-variants.{Bytes}
 use Rattle.text.specs.declared.Written.the-variants.{Next}
 use borrow.Author.Needs.{needs}
-use Rattle.text.proofs.put.Statement.{statement}
-use Rattle.text.proofs.put.Tie as tie
+use Rattle.writing.proofs.put.Statement.{statement}
+use Rattle.writing.proofs.put.Tie as tie
 
 -- in the arm for `Bytes(n)`
 found-at : (c : tie.After-known-told) → sizeOf (c .before .before .before .before .before .args .t) ≡ Bytes (c .before .found .given .0 .0)

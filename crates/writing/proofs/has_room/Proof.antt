@@ -1,11 +1,11 @@
--- `text::has_room` meets its contract. Assumes nothing.
+-- `writing::has_room` meets its contract. Assumes nothing.
 use mathlib.Core.Path.{sym}
 use Prim.Native.Nat.{_+_}
 use native.Mathlib.Omega.{arith}
 use borrow.Author.Tests.{lt-leb}
 use Rattle.text.proofs.Laws.{room-left}
-use Rattle.text.proofs.has_room.Statement.{statement}
-use Rattle.text.proofs.has_room.Tie as tie
+use Rattle.writing.proofs.has_room.Statement.{statement}
+use Rattle.writing.proofs.has_room.Tie as tie
 
 returns : tie.Need-returns
 returns c = let a = c .before .args in sym (lt-leb (a .at + a .n) (a .len) (omega arith))

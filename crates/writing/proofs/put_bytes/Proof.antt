@@ -1,4 +1,4 @@
--- `text::put_bytes` meets its contract. The invariant: what is left, written from the place that is reached, makes what all of
+-- `writing::put_bytes` meets its contract. The invariant: what is left, written from the place that is reached, makes what all of
 -- s makes. Assumes nothing.
 use mathlib.Core.Path.{_≡_, refl, ap, _∙_}
 use mathlib.Core.List.{List, _∷_}
@@ -9,12 +9,12 @@ use native.Mathlib.Omega.{arith}
 use lib.ListN.{length, drop, getD, set, length-set, drop-of-length-le}
 use lib.Seq.{sets, sets-eq, drop-cons}
 use denote.Ref.{now}
 use Rattle.text.specs.Text.{spliced}
 use Rattle.text.specs.declared.Written.the-variants.{Next}
 use Rattle.text.proofs.Laws.{has-room, no-room-told, room-told}
 use borrow.Author.Needs.{needs}
-use Rattle.text.proofs.put_bytes.Statement.{statement}
-use Rattle.text.proofs.put_bytes.Tie as tie
+use Rattle.writing.proofs.put_bytes.Statement.{statement}
+use Rattle.writing.proofs.put_bytes.Tie as tie
 
 record Inv (s : List ℕ) (at : ℕ) (out₀ out : List ℕ) (i : ℕ) : Type 0 where
   inside : i ≤ length s

@@ -1,4 +1,4 @@
--- `text::write` meets its contract. The invariant: what is left, written from the place that is reached, makes what the whole makes.
+-- `writing::write` meets its contract. The invariant: what is left, written from the place that is reached, makes what the whole makes.
 -- Assumes nothing.
 use mathlib.Core.Path.{_≡_, refl, sym, ap, _∙_}
 use mathlib.Core.Bool.{true}
@@ -10,15 +10,15 @@ use lib.Dec.{leb}
 use lib.ListN.{length, length-map, length-set, set}
 use lib.Seq.{sets, sets-eq}
 use denote.Ref.{now}
 use Rattle.text.specs.Code.{byteOf}
 use Rattle.text.specs.Place.{digits, tight}
 use Rattle.text.specs.Text.{textOf, spliced}
 use Rattle.text.proofs.Logic.{and-right}
 use Rattle.text.proofs.Places.{digits-zero}
 use Rattle.text.proofs.Laws.{packed-small, packed-tight}
 use Rattle.text.proofs.Turn.{place-left, next-weight, times, weighs, digits-turn, tight-turn}
-use Rattle.text.proofs.write.Statement.{statement}
-use Rattle.text.proofs.write.Tie as tie
+use Rattle.writing.proofs.write.Statement.{statement}
+use Rattle.writing.proofs.write.Tie as tie
 
 text-long : (t : ℕ) → length (textOf t) ≡ length (digits 38 12 t)
 unfolding textOf

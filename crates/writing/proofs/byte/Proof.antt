@@ -1,9 +1,9 @@
--- `text::byte` meets its contract: each way out is a case of the definition. Assumes nothing.
+-- `writing::byte` meets its contract: each way out is a case of the definition. Assumes nothing.
 use borrow.Author.Needs.{needs}
 use borrow.Author.Tests.{le-leb, lt-leb}
 use Rattle.text.specs.Code.{byteOf}
-use Rattle.text.proofs.byte.Statement.{statement}
-use Rattle.text.proofs.byte.Tie as tie
+use Rattle.writing.proofs.byte.Statement.{statement}
+use Rattle.writing.proofs.byte.Tie as tie
 
 add-result : tie.Need-add-result
 add-result c = search needs

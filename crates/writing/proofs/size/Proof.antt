@@ -1,4 +1,4 @@
--- `text::size` meets its contract. The invariant: the digits of what is left, and whether they are tight, as they are of the whole.
+-- `writing::size` meets its contract. The invariant: the digits of what is left, and whether they are tight, as they are of the whole.
 -- Assumes nothing.
 use mathlib.Core.Path.{_≡_, refl, sym, ap, _∙_}
 use mathlib.Core.Bool.{true, false}
@@ -7,13 +7,13 @@ use native.Mathlib.Nat.{mod-lt}
 use native.Mathlib.Omega.{arith}
 use lib.ListN.{length, length-map}
 use borrow.Author.Tests.{le-leb, lt-leb, lt-ltb, le-ltb}
 use Rattle.text.specs.Place.{digits, tight}
 use Rattle.text.specs.Text.{isPacked, textOf, sizeOf}
 use Rattle.text.specs.declared.Sized.the-variants.{Bytes, NotOne}
 use Rattle.text.proofs.Places.{digits-zero, tight-zero}
 use Rattle.text.proofs.Turn.{place-left, next-weight, weighs, digits-turn, tight-turn}
-use Rattle.text.proofs.size.Statement.{statement}
-use Rattle.text.proofs.size.Tie as tie
+use Rattle.writing.proofs.size.Statement.{statement}
+use Rattle.writing.proofs.size.Tie as tie
 
 record Inv (t r w k : ℕ) : Type 0 where
   small : t < 38 ^ 12

@@ -1,13 +1,13 @@
--- `text::join` meets its contract: both texts and the slash stand at the start of twelve bytes, and are packed there.
+-- `writing::join` meets its contract: both texts and the slash stand at the start of twelve bytes, and are packed there.
 -- Assumes nothing.
 use mathlib.Core.Path.{refl, sym, _∙_}
 use native.Mathlib.Omega.{arith}
 use lib.Seq.{length-take-le}
 use Rattle.text.proofs.Laws.{no-text-known, twelve-room}
 use Rattle.text.proofs.Joined.{join-first, join-full, join-no-text, join-no-room, sized, join-end, join-both}
 use borrow.Author.Needs.{needs}
-use Rattle.text.proofs.join.Statement.{statement}
-use Rattle.text.proofs.join.Tie as tie
+use Rattle.writing.proofs.join.Statement.{statement}
+use Rattle.writing.proofs.join.Tie as tie
 
 returns : tie.Need-returns
 returns c =
