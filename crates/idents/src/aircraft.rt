@@ -23,7 +23,7 @@ pub enum AircraftRead {
 fn read_plain(s: &[u8]) -> AircraftRead
     ensures { λ r. ⌜ r ≡ plainOf (now (s .entry)) ⌝ }
 {
-    let pair = words::read_pair(forms::MODEL, forms::LETTER, s);
+    let pair = pairs::read_pair(forms::MODEL, forms::LETTER, s);
     match pair {
         Pair::Both(model, letter) => AircraftRead::Read(Aircraft {
             prefix: 0,
@@ -46,7 +46,7 @@ fn read_prefixed(s: &[u8]) -> AircraftRead
         return AircraftRead::Nothing;
     };
     let j = i + 1;
-    let pair = words::read_pair(forms::MODEL, forms::LETTER, &s[j..]);
+    let pair = pairs::read_pair(forms::MODEL, forms::LETTER, &s[j..]);
     match pair {
         Pair::Both(model, letter) => AircraftRead::Read(Aircraft {
             prefix,
@@ -76,7 +76,7 @@ fn only_one(a: AircraftRead, b: AircraftRead) -> AircraftRead
 fn word(a: Aircraft) -> Packed
     ensures { λ r. ⌜ r ≡ aircraftWord a ⌝ }
 {
-    let Packed::Text(tail) = words::pair_word(a.model, a.letter) else {
+    let Packed::Text(tail) = pairs::pair_word(a.model, a.letter) else {
         return Packed::Nothing;
     };
     if a.prefix == 0 {
@@ -97,7 +97,7 @@ impl Aircraft {
     pub fn holds(self) -> bool
         ensures { λ r. ⌜ r ≡ isAircraftValue self ⌝ }
     {
-        if !words::holds_pair(forms::MODEL, forms::LETTER, self.model, self.letter) {
+        if !pairs::holds_pair(forms::MODEL, forms::LETTER, self.model, self.letter) {
             return false;
         }
         if self.prefix == 0 {

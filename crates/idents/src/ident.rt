@@ -22,7 +22,7 @@ impl Ident {
     pub fn read(s: &[u8]) -> IdentRead
         ensures { λ r. ⌜ r ≡ identOf (now (s .entry)) ⌝ }
     {
-        let pair = words::read_pair(forms::KEY, forms::NUMBER, s);
+        let pair = pairs::read_pair(forms::KEY, forms::NUMBER, s);
         match pair {
             Pair::Both(k, n) => IdentRead::Read(Ident {
                 key: Key(k),
@@ -36,7 +36,7 @@ impl Ident {
     pub fn read_tz(s: &[u8]) -> IdentRead
         ensures { λ r. ⌜ r ≡ tzIdentOf (now (s .entry)) ⌝ }
     {
-        let pair = words::read_pair(forms::KEY, forms::NUMBER, s);
+        let pair = pairs::read_pair(forms::KEY, forms::NUMBER, s);
         match pair {
             Pair::Both(k, n) => {
                 if n == 0 {
@@ -56,7 +56,7 @@ impl Ident {
     {
         let key = self.key;
         let number = self.number;
-        words::holds_pair(forms::KEY, forms::NUMBER, key.0, number.0)
+        pairs::holds_pair(forms::KEY, forms::NUMBER, key.0, number.0)
     }
 
     pub fn put(self, out: &mut [u8], at: usize) -> Written
@@ -65,6 +65,6 @@ impl Ident {
     {
         let key = self.key;
         let number = self.number;
-        words::put_pair(forms::KEY, forms::NUMBER, key.0, number.0, out, at)
+        pairs::put_pair(forms::KEY, forms::NUMBER, key.0, number.0, out, at)
     }
 }

@@ -5,10 +5,6 @@ use denote.Ref.{now}
 use Rattle.words.proofs.read.Reads as read
 use Rattle.words.proofs.holds.Reads as holds
 use Rattle.words.proofs.put.Reads as put
-use Rattle.words.proofs.read_pair.Reads as read-pair
-use Rattle.words.proofs.holds_pair.Reads as holds-pair
-use Rattle.words.proofs.pair_word.Reads as pair-word
-use Rattle.words.proofs.put_pair.Reads as put-pair
 
 pub read-one : (κs : _) (a : _) (r r′ : _) (s s′ : _) → read.Post κs a r s → read.Post κs a r′ s′ → r ≡ r′
 read-one κs a r r′ s s′ p q = p ∙ sym q
@@ -18,15 +14,3 @@ holds-one κs a r r′ s s′ p q = p ∙ sym q
 
 pub put-one : (κs : _) (a : _) (r r′ : _) (s s′ : _) → put.Post κs a r s → put.Post κs a r′ s′ → (r ≡ r′) × (now (s .1 .1 .0) ≡ now (s′ .1 .1 .0))
 put-one κs a r r′ s s′ p q = (p .0 ∙ sym (q .0), p .1 ∙ sym (q .1))
-
-pub read-pair-one : (κs : _) (a : _) (r r′ : _) (s s′ : _) → read-pair.Post κs a r s → read-pair.Post κs a r′ s′ → r ≡ r′
-read-pair-one κs a r r′ s s′ p q = p ∙ sym q
-
-pub holds-pair-one : (κs : _) (a : _) (r r′ : _) (s s′ : _) → holds-pair.Post κs a r s → holds-pair.Post κs a r′ s′ → r ≡ r′
-holds-pair-one κs a r r′ s s′ p q = p ∙ sym q
-
-pub pair-word-one : (κs : _) (a : _) (r r′ : _) (s s′ : _) → pair-word.Post κs a r s → pair-word.Post κs a r′ s′ → r ≡ r′
-pair-word-one κs a r r′ s s′ p q = p ∙ sym q
-
-pub put-pair-one : (κs : _) (a : _) (r r′ : _) (s s′ : _) → put-pair.Post κs a r s → put-pair.Post κs a r′ s′ → (r ≡ r′) × (now (s .1 .1 .1 .1 .0) ≡ now (s′ .1 .1 .1 .1 .0))
-put-pair-one κs a r r′ s s′ p q = (p .0 ∙ sym (q .0), p .1 ∙ sym (q .1))

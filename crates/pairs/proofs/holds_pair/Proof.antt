@@ -1,11 +1,11 @@
--- `words::holds_pair` meets its contract. Assumes nothing.
+-- `pairs::holds_pair` meets its contract. Assumes nothing.
 use mathlib.Core.Path.{_∙_}
 use borrow.Author.Tests.{eq-eqb, ne-eqb}
 use Rattle.text.proofs.Logic.{so, not-so}
 use Rattle.words.specs.Pair.{isPair}
 use borrow.Author.Needs.{needs}
-use Rattle.words.proofs.holds_pair.Statement.{statement}
-use Rattle.words.proofs.holds_pair.Tie as tie
+use Rattle.pairs.proofs.holds_pair.Statement.{statement}
+use Rattle.pairs.proofs.holds_pair.Tie as tie
 
 returns : tie.Need-returns
 unfolding isPair

@@ -1,10 +1,10 @@
--- `words::pair_word` meets its contract. Assumes nothing.
+-- `pairs::pair_word` meets its contract. Assumes nothing.
 use mathlib.Core.Path.{_∙_}
 use borrow.Author.Tests.{eq-eqb, ne-eqb}
 use Rattle.words.specs.Pair.{pairWord}
 use borrow.Author.Needs.{needs}
-use Rattle.words.proofs.pair_word.Statement.{statement}
-use Rattle.words.proofs.pair_word.Tie as tie
+use Rattle.pairs.proofs.pair_word.Statement.{statement}
+use Rattle.pairs.proofs.pair_word.Tie as tie
 
 returns : tie.Need-returns
 unfolding pairWord

@@ -1,12 +1,12 @@
--- `words::put_pair` meets its contract. Assumes nothing.
+-- `pairs::put_pair` meets its contract. Assumes nothing.
 use mathlib.Core.Path.{sym, _∙_}
 use Rattle.text.proofs.Logic.{so, not-so}
 use Rattle.text.proofs.Laws.{no-text}
 use Rattle.words.specs.Pair.{isPairText}
 use Rattle.words.proofs.Pairs.{pair-writes, pair-too-long}
 use borrow.Author.Needs.{needs}
-use Rattle.words.proofs.put_pair.Statement.{statement}
-use Rattle.words.proofs.put_pair.Tie as tie
+use Rattle.pairs.proofs.put_pair.Statement.{statement}
+use Rattle.pairs.proofs.put_pair.Tie as tie
 
 returns : tie.Need-returns
 unfolding isPairText

@@ -1,11 +1,11 @@
--- `words::read_pair` meets its contract: each way out is a case of the definition. Assumes nothing.
+-- `pairs::read_pair` meets its contract: each way out is a case of the definition. Assumes nothing.
 use mathlib.Core.Path.{sym, _∙_}
 use native.Mathlib.Nat.{le-of-lt}
 use lib.Seq.{length-take-le}
 use Rattle.words.proofs.Pairs.{alone-none, alone, first-none, second-none, both}
 use borrow.Author.Needs.{needs}
-use Rattle.words.proofs.read_pair.Statement.{statement}
-use Rattle.words.proofs.read_pair.Tie as tie
+use Rattle.pairs.proofs.read_pair.Statement.{statement}
+use Rattle.pairs.proofs.read_pair.Tie as tie
 
 returns : tie.Need-returns
 returns c =
