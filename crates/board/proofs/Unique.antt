@@ -4,10 +4,6 @@ use mathlib.Core.Path.{_≡_, sym, _∙_}
 use denote.Ref.{now}
 use Rattle.board.proofs.is_allowed.Reads as is-allowed
 use Rattle.board.proofs.empty.Reads as empty
-use Rattle.board.proofs.find.Reads as find
-use Rattle.board.proofs.look.Reads as look
-use Rattle.board.proofs.write.Reads as write
-use Rattle.board.proofs.strike.Reads as strike
 
 pub is-allowed-one : (κs : _) (a : _) (r r′ : _) (s s′ : _) → is-allowed.Post κs a r s → is-allowed.Post κs a r′ s′ → r ≡ r′
 is-allowed-one κs a r r′ s s′ p q = p ∙ sym q
@@ -15,16 +11,3 @@ is-allowed-one κs a r r′ s s′ p q = p ∙ sym q
 -- every word of the board
 pub empty-one : (κs : _) (a : _) (r r′ : _) (s s′ : _) → empty.Post κs a r s → empty.Post κs a r′ s′ → now (s .0) ≡ now (s′ .0)
 empty-one κs a r r′ s s′ p q = p ∙ sym q
-
-pub find-one : (κs : _) (a : _) (r r′ : _) (s s′ : _) → find.Post κs a r s → find.Post κs a r′ s′ → r ≡ r′
-find-one κs a r r′ s s′ p q = p ∙ sym q
-
-pub look-one : (κs : _) (a : _) (r r′ : _) (s s′ : _) → look.Post κs a r s → look.Post κs a r′ s′ → r ≡ r′
-look-one κs a r r′ s s′ p q = p ∙ sym q
-
--- the answer, and every word of the board
-pub write-one : (κs : _) (a : _) (r r′ : _) (s s′ : _) → write.Post κs a r s → write.Post κs a r′ s′ → (r ≡ r′) × (now (s .0) ≡ now (s′ .0))
-write-one κs a r r′ s s′ p q = (p .done ∙ sym (q .done), p .words ∙ sym (q .words))
-
-pub strike-one : (κs : _) (a : _) (r r′ : _) (s s′ : _) → strike.Post κs a r s → strike.Post κs a r′ s′ → (r ≡ r′) × (now (s .0) ≡ now (s′ .0))
-strike-one κs a r r′ s s′ p q = (p .done ∙ sym (q .done), p .words ∙ sym (q .words))

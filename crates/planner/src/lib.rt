@@ -4,10 +4,10 @@ use asks::Refusal;
 use board::Done;
 use board::Struck;
 use board::is_allowed;
-use board::look;
-use board::write;
 use fields::flight::Key;
 use fields::flight::KeyRead;
+use listing::look;
+use listing::write;
 use rows::Arrival;
 use rows::ArrivalSlot;
 use rows::Row;
@@ -156,7 +156,7 @@ pub fn strike(board: &mut [u64], key: &[u8]) -> StrikeAnswer
     if !is_allowed(&board[..]) {
         return StrikeAnswer::NotAllowed;
     }
-    let struck = board::strike(board, key);
+    let struck = listing::strike(board, key);
     match struck {
         Struck::Gone => StrikeAnswer::Taken,
         Struck::Missing => StrikeAnswer::NotListed,
