@@ -19,9 +19,9 @@ use Rattle.words.specs.declared.Pair.{Pair}
 use Rattle.words.specs.declared.Pair.the-variants as pair
 use Rattle.words.proofs.Pairs.{packed-none, packed-some, pair-sound, pair-complete}
 use Rattle.idents.specs.Ident.{identFrom, identOf, tzIdentOf, identText, isIdentValue}
-use Rattle.idents.specs.declared.ident.Ident.{Ident}
-use Rattle.idents.specs.declared.ident.IdentRead.{IdentRead}
-use Rattle.idents.specs.declared.ident.IdentRead.the-variants.{Read, Nothing}
+use Rattle.idents.specs.declared.Ident.{Ident}
+use Rattle.idents.specs.declared.IdentRead.{IdentRead}
+use Rattle.idents.specs.declared.IdentRead.the-variants.{Read, Nothing}
 use Rattle.idents.proofs.Slashes.{key-slashless, ident-short}
 
 -- a key that is cut is none

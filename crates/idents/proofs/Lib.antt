@@ -1,7 +1,4 @@
 pub mod Slashes
 pub mod Idents
-pub mod Aircrafts
-pub mod Readings
-pub mod Single
 pub mod Answers
 pub mod Unique

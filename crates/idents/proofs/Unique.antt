@@ -2,22 +2,10 @@
 -- the source, r and r′ are two results, s and s′ two states at exit. Assumes nothing.
 use mathlib.Core.Path.{_≡_, sym, _∙_}
 use denote.Ref.{now}
-use Rattle.idents.proofs.aircraft.Aircraft.read.Reads as aircraft-read
-use Rattle.idents.proofs.aircraft.Aircraft.holds.Reads as aircraft-holds
-use Rattle.idents.proofs.aircraft.Aircraft.put.Reads as aircraft-put
-use Rattle.idents.proofs.ident.Ident.read.Reads as ident-read
-use Rattle.idents.proofs.ident.Ident.read_tz.Reads as ident-read-tz
-use Rattle.idents.proofs.ident.Ident.holds.Reads as ident-holds
-use Rattle.idents.proofs.ident.Ident.put.Reads as ident-put
-
-pub aircraft-read-one : (κs : _) (a : _) (r r′ : _) (s s′ : _) → aircraft-read.Post κs a r s → aircraft-read.Post κs a r′ s′ → r ≡ r′
-aircraft-read-one κs a r r′ s s′ p q = p ∙ sym q
-
-pub aircraft-holds-one : (κs : _) (a : _) (r r′ : _) (s s′ : _) → aircraft-holds.Post κs a r s → aircraft-holds.Post κs a r′ s′ → r ≡ r′
-aircraft-holds-one κs a r r′ s s′ p q = p ∙ sym q
-
-pub aircraft-put-one : (κs : _) (a : _) (r r′ : _) (s s′ : _) → aircraft-put.Post κs a r s → aircraft-put.Post κs a r′ s′ → (r ≡ r′) × (now (s .1 .0) ≡ now (s′ .1 .0))
-aircraft-put-one κs a r r′ s s′ p q = (p .0 ∙ sym (q .0), p .1 ∙ sym (q .1))
+use Rattle.idents.proofs.Ident.read.Reads as ident-read
+use Rattle.idents.proofs.Ident.read_tz.Reads as ident-read-tz
+use Rattle.idents.proofs.Ident.holds.Reads as ident-holds
+use Rattle.idents.proofs.Ident.put.Reads as ident-put
 
 pub ident-read-one : (κs : _) (a : _) (r r′ : _) (s s′ : _) → ident-read.Post κs a r s → ident-read.Post κs a r′ s′ → r ≡ r′
 ident-read-one κs a r r′ s s′ p q = p ∙ sym q

@@ -8,9 +8,9 @@ use Rattle.shapes.specs.Cut.{before, after}
 use Rattle.forms.specs.Form.{isIdent, isTzIdent}
 use Rattle.forms.specs.Kind.{KEY, NUMBER}
 use Rattle.words.specs.Pair.{slash, pairText, isPair}
-use Rattle.idents.specs.declared.ident.Ident.{Ident}
-use Rattle.idents.specs.declared.ident.IdentRead.{IdentRead}
-use Rattle.idents.specs.declared.ident.IdentRead.the-variants.{Read, Nothing}
+use Rattle.idents.specs.declared.Ident.{Ident}
+use Rattle.idents.specs.declared.IdentRead.{IdentRead}
+use Rattle.idents.specs.declared.IdentRead.the-variants.{Read, Nothing}
 
 -- the part before the slash is the key; the number is what comes after it, or none
 unfoldable pub identFrom : List ℕ → Ident

@@ -27,17 +27,17 @@ use Rattle.words.specs.declared.Pair.the-variants as pair
 use Rattle.words.proofs.Laws.{read-sound, read-complete, word-packed}
 use Rattle.words.proofs.Pairs.{pair-writes, pair-too-long}
 use Rattle.idents.specs.Ident.{identOf, tzIdentOf, isIdentValue}
-use Rattle.idents.specs.Aircraft.{plainOf, prefixedOf, aircraftOf, aircraftText, isAircraftValue, aircraftWord}
-use Rattle.idents.specs.declared.ident.Ident.{Ident}
-use Rattle.idents.specs.declared.ident.IdentRead.{IdentRead}
-use Rattle.idents.specs.declared.ident.IdentRead.the-variants as ident
-use Rattle.idents.specs.declared.aircraft.Aircraft.{Aircraft}
-use Rattle.idents.specs.declared.aircraft.AircraftRead.{AircraftRead}
-use Rattle.idents.specs.declared.aircraft.AircraftRead.the-variants as aircraft
+use Rattle.aircraft.specs.Aircraft.{plainOf, prefixedOf, aircraftOf, aircraftText, isAircraftValue, aircraftWord}
+use Rattle.idents.specs.declared.Ident.{Ident}
+use Rattle.idents.specs.declared.IdentRead.{IdentRead}
+use Rattle.idents.specs.declared.IdentRead.the-variants as ident
+use Rattle.aircraft.specs.declared.Aircraft.{Aircraft}
+use Rattle.aircraft.specs.declared.AircraftRead.{AircraftRead}
+use Rattle.aircraft.specs.declared.AircraftRead.the-variants as aircraft
 use Rattle.idents.proofs.Idents.{asTz, tz-as, ident-sound, ident-complete, tz-sound, tz-complete, ident-writes}
-use Rattle.idents.proofs.Aircrafts.{aircraft-writes, aircraft-word}
-use Rattle.idents.proofs.Readings.{aircraft-one}
-use Rattle.idents.proofs.Single.{aircraft-complete}
+use Rattle.aircraft.proofs.Aircrafts.{aircraft-writes, aircraft-word}
+use Rattle.aircraft.proofs.Readings.{aircraft-one}
+use Rattle.aircraft.proofs.Single.{aircraft-complete}
 use Rattle.kinds.specs.Field.{IDENT, TZ-IDENT, AIRCRAFT, ROUTE, markOf, markText, isMark, follows, plain, valued, identIn, aircraftIn, isOne, isTwo, ofIdent, ofAircraft, ofRoute, ofWord, readKind, readMark, barred, readIn, isKindValue, shownKind, isValue, shown}
 use Rattle.kinds.specs.declared.Value.{Value}
 use Rattle.kinds.specs.declared.FieldRead.the-variants.{Read, Nothing, Number}

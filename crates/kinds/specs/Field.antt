@@ -16,13 +16,13 @@ use Rattle.forms.specs.Form.{isPosition, isRoute}
 use Rattle.forms.specs.Kind.{FILED-SPEED, FIX, TIME, LEVEL, AMENDMENT}
 use Rattle.words.specs.Word.{wordOf, isWord}
 use Rattle.idents.specs.Ident.{identOf, tzIdentOf, identText, isIdentValue}
-use Rattle.idents.specs.Aircraft.{aircraftOf, aircraftText, isAircraftValue}
-use Rattle.idents.specs.declared.ident.Ident.{Ident}
-use Rattle.idents.specs.declared.ident.IdentRead.{IdentRead}
-use Rattle.idents.specs.declared.ident.IdentRead.the-variants as ident
-use Rattle.idents.specs.declared.aircraft.Aircraft.{Aircraft}
-use Rattle.idents.specs.declared.aircraft.AircraftRead.{AircraftRead}
-use Rattle.idents.specs.declared.aircraft.AircraftRead.the-variants as aircraft
+use Rattle.aircraft.specs.Aircraft.{aircraftOf, aircraftText, isAircraftValue}
+use Rattle.idents.specs.declared.Ident.{Ident}
+use Rattle.idents.specs.declared.IdentRead.{IdentRead}
+use Rattle.idents.specs.declared.IdentRead.the-variants as ident
+use Rattle.aircraft.specs.declared.Aircraft.{Aircraft}
+use Rattle.aircraft.specs.declared.AircraftRead.{AircraftRead}
+use Rattle.aircraft.specs.declared.AircraftRead.the-variants as aircraft
 use Rattle.kinds.specs.declared.Value.{Value}
 use Rattle.kinds.specs.declared.FieldRead.{FieldRead}
 use Rattle.kinds.specs.declared.FieldRead.the-variants.{Read, Nothing, Number, Two}

@@ -15,7 +15,7 @@ use Rattle.forms.specs.Form.{isRoute}
 use Rattle.forms.specs.Kind.{POINT, TIME, AMENDMENT}
 use Rattle.words.specs.Word.{isWord}
 use Rattle.idents.specs.Ident.{isIdentValue}
-use Rattle.idents.specs.Aircraft.{isAircraftValue}
+use Rattle.aircraft.specs.Aircraft.{isAircraftValue}
 use Rattle.heads.specs.declared.MessageType.{MessageType}
 use Rattle.heads.specs.declared.MessageType.the-variants as type
 use Rattle.kinds.specs.Field.{IDENT, TZ-IDENT, AIRCRAFT, ROUTE, PLAN-TIME, CONTENT, valued, identIn, aircraftIn, isOne, isTwo, isMark, contentOf, plain, leftOf, marksOf, follows, isKindValue, isValue, shown}

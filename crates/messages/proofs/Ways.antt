@@ -14,7 +14,7 @@ use Rattle.text.specs.Place.{digits}
 use Rattle.text.specs.Text.{textOf}
 use Rattle.text.proofs.Logic.{same-test}
 use Rattle.text.proofs.Places.{digits-zero, digits-suc}
-use Rattle.idents.specs.declared.ident.Ident.{Ident}
+use Rattle.idents.specs.declared.Ident.{Ident}
 use Rattle.heads.specs.declared.MessageType.{MessageType}
 use Rattle.kinds.specs.Field.{identIn}
 use Rattle.kinds.specs.declared.Value.{Value}

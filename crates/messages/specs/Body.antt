@@ -8,8 +8,8 @@ use lib.ListN.{getD, take, drop}
 use Rattle.text.specs.Text.{textOf}
 use Rattle.heads.specs.declared.MessageType.{MessageType}
 use Rattle.heads.specs.declared.MessageType.the-variants as type
-use Rattle.idents.specs.declared.ident.Ident.{Ident}
-use Rattle.idents.specs.declared.aircraft.Aircraft.{Aircraft}
+use Rattle.idents.specs.declared.Ident.{Ident}
+use Rattle.aircraft.specs.declared.Aircraft.{Aircraft}
 use Rattle.kinds.specs.Field.{valued, identIn, aircraftIn}
 use Rattle.kinds.specs.declared.Value.{Value}
 use Rattle.table.specs.Read.{none, padded}

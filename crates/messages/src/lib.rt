@@ -1,5 +1,6 @@
 // A message: its head, its body by type, and whether a space stood at its end. A route and the body of RT, TO and HB
 // are not held: they stay a part of the line.
+use aircraft::Aircraft;
 use fields::frame::Sequence;
 use fields::frame::Stamp;
 use fields::plan::FiledSpeed;
@@ -13,8 +14,7 @@ use fields::track::GroundSpeed;
 use fields::track::Position;
 use fields::track::TrackLevel;
 use heads::Facility;
-use idents::aircraft::Aircraft;
-use idents::ident::Ident;
+use idents::Ident;
 ghost use mathlib.Core.Path.{_≡_};
 ghost use Rattle.messages.specs.Body.{planLevel};
 

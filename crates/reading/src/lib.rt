@@ -1,10 +1,10 @@
 // One field read: of a kind by itself, and after the fields before it.
+use aircraft::Aircraft;
+use aircraft::AircraftRead;
 use fields::plan::Time;
 use fields::plan::TimeRead;
-use idents::aircraft::Aircraft;
-use idents::aircraft::AircraftRead;
-use idents::ident::Ident;
-use idents::ident::IdentRead;
+use idents::Ident;
+use idents::IdentRead;
 use kinds::AIRCRAFT;
 use kinds::CONTENT;
 use kinds::FieldRead;
@@ -18,7 +18,7 @@ ghost use mathlib.Core.Path.{_≡_};
 ghost use Rattle.forms.specs.Form.{isRoute};
 ghost use Rattle.words.specs.Word.{wordOf};
 ghost use Rattle.idents.specs.Ident.{identOf, tzIdentOf};
-ghost use Rattle.idents.specs.Aircraft.{aircraftOf};
+ghost use Rattle.aircraft.specs.Aircraft.{aircraftOf};
 ghost use Rattle.kinds.specs.Field.{PLAN-TIME, ofIdent, ofAircraft, ofRoute, ofWord, readKind, readIn};
 ghost use Rattle.forms.specs.Kind.{AMENDMENT};
 

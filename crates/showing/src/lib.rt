@@ -1,8 +1,8 @@
 // One field written. Where a function refuses it writes nothing.
+use aircraft::Aircraft;
 use fields::flight::Key;
 use fields::flight::Number;
-use idents::aircraft::Aircraft;
-use idents::ident::Ident;
+use idents::Ident;
 use kinds::AIRCRAFT;
 use kinds::IDENT;
 use kinds::ROUTE;
@@ -18,7 +18,7 @@ ghost use Rattle.text.specs.Text.{textOf, writtenNext, writtenBytes};
 ghost use Rattle.forms.specs.Form.{isRoute};
 ghost use Rattle.words.specs.Word.{isWord};
 ghost use Rattle.idents.specs.Ident.{isIdentValue, identText};
-ghost use Rattle.idents.specs.Aircraft.{isAircraftValue, aircraftText};
+ghost use Rattle.aircraft.specs.Aircraft.{isAircraftValue, aircraftText};
 ghost use Rattle.kinds.specs.Field.{identIn, aircraftIn, isOne, isTwo, isMark, markText, isKindValue, shownKind, isValue, shown};
 
 fn put_ident(v: Value, out: &mut [u8], at: usize) -> Written

@@ -14,7 +14,7 @@ use Rattle.forms.specs.Kind.{isForm}
 use Rattle.words.specs.Word.{wordOf}
 use Rattle.words.specs.Pair.{isPairForm, pairOf}
 use Rattle.idents.specs.Ident.{identFrom, identOf}
-use Rattle.idents.specs.Aircraft.{plainOf, prefixedOf, aircraftOf}
+use Rattle.aircraft.specs.Aircraft.{plainOf, prefixedOf, aircraftOf}
 use Rattle.heads.specs.Facility.{facilityText}
 use Rattle.heads.specs.Message.{typeOf}
 use Rattle.messages.specs.Body.{bodyFrom, bodyRead}

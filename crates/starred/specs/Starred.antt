@@ -11,11 +11,11 @@ use Rattle.words.specs.Word.{wordOf}
 use Rattle.text.specs.declared.Packed.{Packed}
 use Rattle.text.specs.declared.Packed.the-variants as word
 use Rattle.idents.specs.Ident.{identOf}
-use Rattle.idents.specs.declared.ident.IdentRead.{IdentRead}
-use Rattle.idents.specs.declared.ident.IdentRead.the-variants as ident
-use Rattle.idents.specs.Aircraft.{aircraftOf}
-use Rattle.idents.specs.declared.aircraft.AircraftRead.{AircraftRead}
-use Rattle.idents.specs.declared.aircraft.AircraftRead.the-variants as aircraft
+use Rattle.idents.specs.declared.IdentRead.{IdentRead}
+use Rattle.idents.specs.declared.IdentRead.the-variants as ident
+use Rattle.aircraft.specs.Aircraft.{aircraftOf}
+use Rattle.aircraft.specs.declared.AircraftRead.{AircraftRead}
+use Rattle.aircraft.specs.declared.AircraftRead.the-variants as aircraft
 use Rattle.heads.specs.Facility.{facilityText}
 use Rattle.heads.specs.Message.{typeText}
 use Rattle.messages.specs.Body.{typeIn}

@@ -1,8 +1,8 @@
 // What the writer must know of a body: the values of its fields, its type and its marks. What follows from type and
 // marks alone stands in `layout`.
+use aircraft::Aircraft;
 use heads::MessageType;
-use idents::aircraft::Aircraft;
-use idents::ident::Ident;
+use idents::Ident;
 use kinds::Value;
 use messages::Af;
 use messages::Amended;

@@ -12,7 +12,7 @@ use Rattle.text.specs.Text.{packed, textOf, isText, isPacked, slashed, joinOf}
 use Rattle.text.specs.declared.Packed.the-variants as packing
 use Rattle.text.proofs.Logic.{and-left, and-right}
 use Rattle.text.proofs.Laws.{text-packed, packed-text, packed-is, text-length, text-short}
-use Rattle.text.proofs.Joined.{join-known, join-none}
+use Rattle.text.proofs.Joined.{join-known, join-none, length-slashed}
 use Rattle.shapes.specs.Cut.{upTo, has, before, after}
 use Rattle.shapes.proofs.Laws.{upTo-le, not-cut, is-cut, cut-before, cut-after}
 use Rattle.shapes.proofs.Joins.{no-cut, cut-whole, joined-has, joined-before, joined-after, whole-has, whole-before, whole-after}
@@ -178,3 +178,17 @@ module _ (k l a b : ℕ) (e : isPair k l a b ≡ true) where
       go false q =
           let z : joinOf a b ≡ packing.Nothing = rw q at f in
           rw (q, e, lt-leb (length (slashed (textOf a) (textOf b))) 12 (join-none a b (word-packed k a first-word) (word-packed l b (second-word q)) z))
+
+-- ---- lengths
+
+-- the text of two words whose own texts have at most m and n bytes
+pub pair-short : (k l m n : ℕ) → ((s : List ℕ) → isForm k s ≡ true → length s ≤ m) → ((s : List ℕ) → isForm l s ≡ true → length s ≤ n) → (a b : ℕ) → isPair k l a b ≡ true → length (pairText a b) ≤ m + 1 + n
+unfolding pairText
+pair-short k l m n f g a b e = go (eqb b 0) refl
+  where
+    x : length (textOf a) ≤ m
+    x = f (textOf a) (word-form k a (first-word k l a b e))
+
+    go : (t : Bool) → eqb b 0 ≡ t → length (pairText a b) ≤ m + 1 + n
+    go true q = rw q (omega (arith, x))
+    go false q = rw q (omega (arith, x, g (textOf b) (word-form l b (second-word k l a b e q)), length-slashed (textOf a) (textOf b)))

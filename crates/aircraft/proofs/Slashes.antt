@@ -1,0 +1,48 @@
+-- No prefix and no type has a slash, and an aircraft's words have short texts. Assumes nothing.
+use mathlib.Core.Path.{_≡_, refl}
+use mathlib.Core.Bool.{true, false, _||_}
+use mathlib.Core.List.{List}
+use Prim.Native.Char.{code}
+use Prim.Native.Nat.{ℕ, _≤_}
+use native.Mathlib.Omega.{arith}
+use lib.ListN.{length}
+use Rattle.text.specs.Bytes.{bytes}
+use Rattle.text.specs.Class.{all, isDigit, isLetter, isAlnum}
+use Rattle.text.proofs.Logic.{true-false, either-of}
+use Rattle.shapes.specs.Pieces.{pieces}
+use Rattle.shapes.specs.Picture.{isOf, fits, fitsAny, oneOf}
+use Rattle.shapes.specs.Cut.{upTo}
+use Rattle.shapes.proofs.Laws.{fits-length, run-class, run-most}
+use Rattle.shapes.proofs.Joins.{has-no, fits-no}
+use Rattle.forms.specs.Kind.{PREFIX, MODEL, LETTER, isForm}
+use Rattle.words.specs.Pair.{slash, pairText, isPair}
+use Rattle.words.proofs.Pairs.{pair-short}
+
+pub model-slashless : (s : List ℕ) → isForm MODEL s ≡ true → upTo slash s ≡ length s
+unfolding isForm isOf isAlnum isDigit isLetter
+model-slashless s e = has-no slash (isOf (code "a")) refl s (run-class (code "a") 2 4 s e)
+
+pub prefix-slashless : (s : List ℕ) → isForm PREFIX s ≡ true → upTo slash s ≡ length s
+unfolding isForm oneOf pieces fitsAny all isOf isAlnum isDigit isLetter
+prefix-slashless s =
+    either-of (fits (bytes "a") s) (fits (bytes "da") s || false) (fits-no slash (bytes "a") s refl)
+    (either-of (fits (bytes "da") s) false (fits-no slash (bytes "da") s refl) (λ e. true-false e refl))
+
+-- ---- lengths
+
+model-short : (s : List ℕ) → isForm MODEL s ≡ true → length s ≤ 4
+unfolding isForm
+model-short s e = run-most (code "a") 2 4 s e
+
+letter-short : (s : List ℕ) → isForm LETTER s ≡ true → length s ≤ 1
+unfolding isForm
+letter-short s e = omega (arith, fits-length (bytes "l") s e)
+
+pub prefix-short : (s : List ℕ) → isForm PREFIX s ≡ true → length s ≤ 2
+unfolding isForm oneOf pieces fitsAny
+prefix-short s =
+    either-of (fits (bytes "a") s) (fits (bytes "da") s || false) (λ e. omega (arith, fits-length (bytes "a") s e))
+    (either-of (fits (bytes "da") s) false (λ e. omega (arith, fits-length (bytes "da") s e)) (λ e. true-false e refl))
+
+pub tail-short : (a b : ℕ) → isPair MODEL LETTER a b ≡ true → length (pairText a b) ≤ 6
+tail-short = pair-short MODEL LETTER 4 1 model-short letter-short

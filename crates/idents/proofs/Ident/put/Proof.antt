@@ -1,0 +1,16 @@
+-- `idents::Ident::put` meets its contract: an ident has at most 11 bytes. Assumes nothing.
+use Rattle.idents.proofs.Idents.{ident-writes}
+use borrow.Author.Needs.{needs}
+use Rattle.idents.proofs.Ident.put.Statement.{statement}
+use Rattle.idents.proofs.Ident.put.Tie as tie
+
+returns : tie.Need-returns
+returns c = rw (← (ident-writes _ _)) (c .before .before .put-pair .ensures)
+
+pub put-spec : {M : Type 1} → statement M
+put-spec =
+    tie.close
+    (tie.spec
+    (λ c κs. search needs)
+    (λ c. search needs)
+    returns)
