@@ -33,17 +33,17 @@ use Rattle.messages.proofs.Theorems.{body-complete}
 use Rattle.line.specs.Line.{lineOf, isLongPlan, isHead, hasSize, isAllowed}
 use Rattle.line.proofs.Heads.{headed-parts}
 use Rattle.line.proofs.Steps.{headIn, Allows, allowed-allows}
-use Rattle.writer.specs.Size.{AllAsks, fieldsText, sizedAll, sizedFields, sizedBody, sizedLine}
-use Rattle.writer.specs.declared.size.SizedAll.the-variants as all
-use Rattle.writer.proofs.Sizes.{shown-line}
+use Rattle.sizes.specs.Size.{AllAsks, fieldsText, sizedAll, sizedFields, sizedBody, sizedLine}
+use Rattle.sizes.specs.declared.SizedAll.the-variants as all
+use Rattle.sizes.proofs.Sizes.{shown-line}
 
 -- ---- a size that was found, or not
 
-pub bytes-known : (b : Bool) (x : ℕ) {n : ℕ} → cond b (sized.Bytes x) sized.NotOne ≡ sized.Bytes n → (b ≡ true) × (n ≡ x)
+bytes-known : (b : Bool) (x : ℕ) {n : ℕ} → cond b (sized.Bytes x) sized.NotOne ≡ sized.Bytes n → (b ≡ true) × (n ≡ x)
 bytes-known true x e = (refl, (cc))
 bytes-known false x e = ((cc), (cc))
 
-pub bytes-unknown : (b : Bool) (x : ℕ) → cond b (sized.Bytes x) sized.NotOne ≡ sized.NotOne → b ≡ false
+bytes-unknown : (b : Bool) (x : ℕ) → cond b (sized.Bytes x) sized.NotOne ≡ sized.NotOne → b ≡ false
 bytes-unknown true x e = cc
 bytes-unknown false x e = refl
 
@@ -328,3 +328,14 @@ module _ {m : Message} {r : List ℕ} {n : ℕ} (s : Known m r n) where
   pub line-is : 18 + n ≤ 2048 → isLongPlan (typeIn (m .body)) (18 + n) ≡ false → sized.Bytes (18 + n) ≡ sizedLine m r
   unfolding sizedLine isAllowed isHead hasSize
   line-is h q = rw (s .sequence, s .stamp, s .facility, body-known (m .body) r (m .trailing) (s .body) .0, line-size, le-leb (18 + n) 2048 h, q)
+
+-- ---- a line by its size
+
+module _ (m : Message) (r : List ℕ) where
+  pub line-known : {n : ℕ} → sizedLine m r ≡ sized.Bytes n → (isAllowed m r ≡ true) × (n ≡ length (lineOf m r))
+  unfolding sizedLine
+  line-known e = bytes-known (isAllowed m r) (length (lineOf m r)) e
+
+  pub line-unknown : sizedLine m r ≡ sized.NotOne → isAllowed m r ≡ false
+  unfolding sizedLine
+  line-unknown e = bytes-unknown (isAllowed m r) (length (lineOf m r)) e

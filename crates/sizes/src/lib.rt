@@ -19,7 +19,7 @@ ghost use Prim.Native.Nat.{_≤_};
 ghost use lib.ListN.{length, take, drop};
 ghost use Rattle.kinds.specs.Field.{ROUTE, plain as plainly};
 ghost use Rattle.messages.specs.Allowed.{allNone};
-ghost use Rattle.writer.specs.Size.{AllAsks, sizedText, sizedField, sizedAll, sizedFields, sizedBody, sizedLine};
+ghost use Rattle.sizes.specs.Size.{AllAsks, sizedText, sizedField, sizedAll, sizedFields, sizedBody, sizedLine};
 
 // How long a field's text is, what it leaves for the next one, and the marks set after it.
 pub enum SizedField {

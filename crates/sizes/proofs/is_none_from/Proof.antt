@@ -1,4 +1,4 @@
--- `writer::size::is_none_from` meets its contract: what is found of the values that are left is found of all from n on. Assumes
+-- `sizes::is_none_from` meets its contract: what is found of the values that are left is found of all from n on. Assumes
 -- nothing.
 use mathlib.Core.Path.{_≡_, refl}
 use mathlib.Core.Bool.{true, false, _&&_}
@@ -12,10 +12,10 @@ use Rattle.kinds.specs.Field.{isOne}
 use Rattle.kinds.specs.declared.Value.{Value}
 use Rattle.table.specs.Read.{none}
 use Rattle.messages.specs.Allowed.{allNone}
-use Rattle.writer.proofs.Sizes.{next-value}
+use Rattle.sizes.proofs.Sizes.{next-value}
 use borrow.Author.Needs.{needs}
-use Rattle.writer.proofs.size.is_none_from.Statement.{statement}
-use Rattle.writer.proofs.size.is_none_from.Tie as tie
+use Rattle.sizes.proofs.is_none_from.Statement.{statement}
+use Rattle.sizes.proofs.is_none_from.Tie as tie
 
 record Inv (n : ℕ) (vs : List Value) (k : ℕ) : Type 0 where
   all : length vs ≡ 19

@@ -1,4 +1,4 @@
--- `writer::size::size_fields` meets its contract: its tests are those of a body that a line can have, in another order.
+-- `sizes::size_fields` meets its contract: its tests are those of a body that a line can have, in another order.
 -- Assumes nothing.
 use mathlib.Core.Path.{_≡_, sym, _∙_}
 use mathlib.Core.Bool.{true, _||_, or-true}
@@ -11,11 +11,11 @@ use Rattle.text.proofs.Logic.{so, not-so}
 use Rattle.layout.specs.Table.{isCount}
 use Rattle.messages.specs.Body.{typeIn, fieldCount, valuesIn, spare, marksIn}
 use Rattle.messages.specs.Allowed.{hasRoute, allNone, kindsIn}
-use Rattle.writer.specs.Size.{sizedAll}
-use Rattle.writer.proofs.Lines.{count-of, route-of, Has, has-few, has-length, has-asks, has-sized, not-count, not-free, not-none, not-allowed, not-marks, fields-are}
+use Rattle.sizes.specs.Size.{sizedAll}
+use Rattle.sizes.proofs.Lines.{count-of, route-of, Has, has-few, has-length, has-asks, has-sized, not-count, not-free, not-none, not-allowed, not-marks, fields-are}
 use borrow.Author.Needs.{needs}
-use Rattle.writer.proofs.size.size_fields.Statement.{statement}
-use Rattle.writer.proofs.size.size_fields.Tie as tie
+use Rattle.sizes.proofs.size_fields.Statement.{statement}
+use Rattle.sizes.proofs.size_fields.Tie as tie
 
 -- what the body's type and marks give
 found : (f : tie.After-field-count) → f .field-count .result ≡ fieldCount (f .before .before .before .before .args .b)

@@ -1,12 +1,12 @@
--- `writer::size::size_route` meets its contract. Assumes nothing.
+-- `sizes::size_route` meets its contract. Assumes nothing.
 use mathlib.Core.Path.{_∙_}
 use borrow.Author.Tests.{eq-eqb, ne-eqb}
 use Rattle.text.proofs.Logic.{so, not-so}
 use Rattle.kinds.specs.Field.{isOne}
-use Rattle.writer.proofs.Sizes.{route-not, route-is}
+use Rattle.sizes.proofs.Sizes.{route-not, route-is}
 use borrow.Author.Needs.{needs}
-use Rattle.writer.proofs.size.size_route.Statement.{statement}
-use Rattle.writer.proofs.size.size_route.Tie as tie
+use Rattle.sizes.proofs.size_route.Statement.{statement}
+use Rattle.sizes.proofs.size_route.Tie as tie
 
 returns : tie.Need-returns
 returns c = route-not _ _ _ _ _ (c .before .before .before .pre) (rw (not-so (c .before .is-route .ensures) (c .if1 .taken)))

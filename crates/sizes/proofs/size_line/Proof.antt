@@ -1,14 +1,14 @@
--- `writer::size::size_line` meets its contract. Assumes nothing.
+-- `sizes::size_line` meets its contract. Assumes nothing.
 use mathlib.Core.Path.{sym, _∙_}
 use mathlib.Core.Bool.{and-false}
 use native.Mathlib.Omega.{arith}
 use denote.Ref.{now}
 use Rattle.text.proofs.Logic.{so, not-so}
 use Rattle.line.specs.Line.{isHead}
-use Rattle.writer.proofs.Lines.{Known, free-long, no-head, no-body, line-fits, too-long, long-plan, line-is}
+use Rattle.sizes.proofs.Lines.{Known, free-long, no-head, no-body, line-fits, too-long, long-plan, line-is}
 use borrow.Author.Needs.{needs}
-use Rattle.writer.proofs.size.size_line.Statement.{statement}
-use Rattle.writer.proofs.size.size_line.Tie as tie
+use Rattle.sizes.proofs.size_line.Statement.{statement}
+use Rattle.sizes.proofs.size_line.Tie as tie
 
 returns : tie.Need-returns
 returns c = free-long _ _ (c .if1 .taken)

@@ -1,4 +1,4 @@
--- `writer::size::size_body` meets its contract. Assumes nothing.
+-- `sizes::size_body` meets its contract. Assumes nothing.
 use mathlib.Core.Path.{_≡_, sym, _∙_}
 use mathlib.Core.Bool.{true, false}
 use native.Mathlib.Omega.{arith}
@@ -6,11 +6,11 @@ use denote.Ref.{now}
 use Rattle.text.specs.declared.Sized.the-variants as sized
 use Rattle.text.proofs.Logic.{so, not-so}
 use Rattle.messages.specs.Allowed.{isWhole}
-use Rattle.writer.specs.Size.{sizedFields}
-use Rattle.writer.proofs.Lines.{whole-of, parted-of, whole-trailing, whole-unprintable, whole-is, unfielded, spaced-is, plain-is, fields-known, fields-short}
+use Rattle.sizes.specs.Size.{sizedFields}
+use Rattle.sizes.proofs.Lines.{whole-of, parted-of, whole-trailing, whole-unprintable, whole-is, unfielded, spaced-is, plain-is, fields-known, fields-short}
 use borrow.Author.Needs.{needs}
-use Rattle.writer.proofs.size.size_body.Statement.{statement}
-use Rattle.writer.proofs.size.size_body.Tie as tie
+use Rattle.sizes.proofs.size_body.Statement.{statement}
+use Rattle.sizes.proofs.size_body.Tie as tie
 
 -- the size of the fields
 told : (z : tie.After-n) → let a = z .before .before .before .before .before .before .before .args in sizedFields (a .b) (now (a .free)) ≡ sized.Bytes (z .n .given .0 .0)

@@ -1,4 +1,4 @@
--- `writer::size::size_all` meets its contract: the size so far and what is left of the fields make the size of all. Assumes
+-- `sizes::size_all` meets its contract: the size so far and what is left of the fields make the size of all. Assumes
 -- nothing.
 use mathlib.Core.Path.{_≡_, sym, _∙_}
 use mathlib.Core.List.{List, []}
@@ -10,13 +10,13 @@ use denote.Ref.{now}
 use Rattle.shapes.proofs.Laws.{next-byte}
 use Rattle.kinds.specs.declared.Value.{Value}
 use Rattle.table.specs.Read.{none}
-use Rattle.writer.specs.Size.{AllAsks, sizedField, sizedAll}
-use Rattle.writer.specs.declared.size.SizedField.the-variants as field
-use Rattle.writer.specs.declared.size.SizedAll.the-variants as all
-use Rattle.writer.proofs.Sizes.{sizedFrom, from-all, from-none, from-stops, from-next, field-known, shown-line, next-taken}
+use Rattle.sizes.specs.Size.{AllAsks, sizedField, sizedAll}
+use Rattle.sizes.specs.declared.SizedField.the-variants as field
+use Rattle.sizes.specs.declared.SizedAll.the-variants as all
+use Rattle.sizes.proofs.Sizes.{sizedFrom, from-all, from-none, from-stops, from-next, field-known, shown-line, next-taken}
 use borrow.Author.Needs.{needs}
-use Rattle.writer.proofs.size.size_all.Statement.{statement}
-use Rattle.writer.proofs.size.size_all.Tie as tie
+use Rattle.sizes.proofs.size_all.Statement.{statement}
+use Rattle.sizes.proofs.size_all.Tie as tie
 
 record Inv (ks r : List ℕ) (ws : List Value) (n k p m : ℕ) : Type 0 where
   asks : AllAsks ks r

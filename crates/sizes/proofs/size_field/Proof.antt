@@ -1,15 +1,15 @@
--- `writer::size::size_field` meets its contract: a field that is no route stands at the start of twelve bytes. Assumes nothing.
+-- `sizes::size_field` meets its contract: a field that is no route stands at the start of twelve bytes. Assumes nothing.
 use mathlib.Core.Path.{sym, _∙_}
 use native.Mathlib.Omega.{arith}
 use lib.Seq.{length-take-le}
 use borrow.Author.Tests.{ne-eqb}
 use Rattle.text.proofs.Laws.{next-known, no-room-known, no-text-known}
 use Rattle.kinds.proofs.Laws.{shown-short}
-use Rattle.writer.proofs.Sizes.{field-not, field-is}
-use Rattle.writer.proofs.Puts.{next-text}
+use Rattle.sizes.proofs.Sizes.{field-not, field-is}
+use Rattle.sizes.proofs.Wrote.{next-text}
 use borrow.Author.Needs.{needs}
-use Rattle.writer.proofs.size.size_field.Statement.{statement}
-use Rattle.writer.proofs.size.size_field.Tie as tie
+use Rattle.sizes.proofs.size_field.Statement.{statement}
+use Rattle.sizes.proofs.size_field.Tie as tie
 
 array-share-prefix-room : tie.Need-array-share-prefix-room
 array-share-prefix-room c =

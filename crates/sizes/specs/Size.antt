@@ -1,8 +1,7 @@
--- What the inner functions of the writer answer and ask for. The writer's own promise is in the words of line/specs/Line.
--- Assumes nothing.
+-- How long a message's line is, and its parts, where a line can have them: what the functions of `sizes` answer, and what they
+-- ask for. Assumes nothing.
 use Prim.Native.Nat.{ℕ, _≤_}
-use mathlib.Core.Path.{_≡_}
-use mathlib.Core.Bool.{Bool, true, false, cond}
+use mathlib.Core.Bool.{Bool, false, cond}
 use mathlib.Core.List.{List}
 use lib.ListN.{length}
 use Rattle.text.specs.declared.Sized.{Sized}
@@ -16,10 +15,10 @@ use Rattle.messages.specs.Body.{valuesIn}
 use Rattle.messages.specs.declared.Body.{Body}
 use Rattle.messages.specs.declared.Message.{Message}
 use Rattle.line.specs.Line.{lineOf, isAllowed}
-use Rattle.writer.specs.declared.size.SizedField.{SizedField}
-use Rattle.writer.specs.declared.size.SizedField.the-variants as field
-use Rattle.writer.specs.declared.size.SizedAll.{SizedAll}
-use Rattle.writer.specs.declared.size.SizedAll.the-variants as all
+use Rattle.sizes.specs.declared.SizedField.{SizedField}
+use Rattle.sizes.specs.declared.SizedField.the-variants as field
+use Rattle.sizes.specs.declared.SizedAll.{SizedAll}
+use Rattle.sizes.specs.declared.SizedAll.the-variants as all
 
 -- ---- sizes
 
@@ -50,20 +49,3 @@ sizedLine m r = cond (isAllowed m r) (sized.Bytes (length (lineOf m r))) sized.N
 pub record AllAsks (ks r : List ℕ) : Type 0 where
   pub few : length ks ≤ 19
   pub short : length r ≤ 2048
-
-pub record FieldAsks (k p : ℕ) (r : List ℕ) (v : Value) (out : List ℕ) : Type 0 where
-  pub good : isValue k p r v ≡ true
-  pub room : length (shown k p r v) ≤ length out
-
-pub record PutAsks (ks r : List ℕ) (vs : List Value) (out : List ℕ) : Type 0 where
-  pub few : length ks ≤ 19
-  pub good : allowedFrom ks 0 0 r vs ≡ true
-  pub room : length (fieldsText ks r vs) ≤ length out
-
-pub record BodyAsks (b : Body) (r : List ℕ) (t : Bool) (out : List ℕ) : Type 0 where
-  pub good : isBody b r t ≡ true
-  pub room : length (bodyText b r t) ≤ length out
-
-pub record LineAsks (m : Message) (r : List ℕ) (out : List ℕ) : Type 0 where
-  pub good : isAllowed m r ≡ true
-  pub room : length (lineOf m r) ≤ length out

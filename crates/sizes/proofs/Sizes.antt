@@ -20,10 +20,10 @@ use Rattle.kinds.specs.declared.Value.{Value}
 use Rattle.kinds.proofs.Laws.{shown-short}
 use Rattle.table.specs.Read.{none}
 use Rattle.table.specs.Show.{textsFrom, allowedFrom, marksFrom}
-use Rattle.writer.specs.Size.{sizedText, sizedField, fieldsText, sizedAll}
-use Rattle.writer.specs.declared.size.SizedField.the-variants as field
-use Rattle.writer.specs.declared.size.SizedAll.{SizedAll}
-use Rattle.writer.specs.declared.size.SizedAll.the-variants as all
+use Rattle.sizes.specs.Size.{sizedText, sizedField, fieldsText, sizedAll}
+use Rattle.sizes.specs.declared.SizedField.the-variants as field
+use Rattle.sizes.specs.declared.SizedAll.{SizedAll}
+use Rattle.sizes.specs.declared.SizedAll.the-variants as all
 
 -- ---- one field
 

@@ -1,9 +1,9 @@
--- `writer::size::size_text` meets its contract. Assumes nothing.
+-- `sizes::size_text` meets its contract. Assumes nothing.
 use Rattle.text.proofs.Logic.{so, not-so}
-use Rattle.writer.proofs.Sizes.{text-not, text-good}
+use Rattle.sizes.proofs.Sizes.{text-not, text-good}
 use borrow.Author.Needs.{needs}
-use Rattle.writer.proofs.size.size_text.Statement.{statement}
-use Rattle.writer.proofs.size.size_text.Tie as tie
+use Rattle.sizes.proofs.size_text.Statement.{statement}
+use Rattle.sizes.proofs.size_text.Tie as tie
 
 returns : tie.Need-returns
 returns c = text-not _ _ _ _ (not-so (c .before .follows .ensures) (c .if1 .taken))
