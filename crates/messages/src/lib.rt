@@ -18,8 +18,6 @@ use idents::ident::Ident;
 ghost use mathlib.Core.Path.{_≡_};
 ghost use Rattle.messages.specs.Body.{planLevel};
 
-pub mod from;
-
 pub struct Az {
     pub ident: Ident,
     pub from: Point,

@@ -29,7 +29,7 @@ use Rattle.messages.specs.Allowed.{hasRoute, allNone, kindsIn, bodyText, isWhol
 use Rattle.messages.specs.declared.Body.{Body}
 use Rattle.messages.specs.declared.Message.{Message}
 use Rattle.messages.proofs.Bodies.{allowed-first, allowed-rest}
-use Rattle.messages.proofs.Theorems.{body-complete}
+use Rattle.bodies.proofs.Theorems.{body-complete}
 use Rattle.line.specs.Line.{lineOf, isLongPlan, isHead, hasSize, isAllowed}
 use Rattle.line.proofs.Heads.{headed-parts}
 use Rattle.line.proofs.Steps.{headIn, Allows, allowed-allows}

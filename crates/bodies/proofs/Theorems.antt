@@ -26,15 +26,16 @@ use Rattle.table.proofs.Amends.{marks-count}
 use Rattle.layout.specs.Table.{tableOf, countWith, isCount, hasFields, kindsOf, countIn, answerBy, valuesBy, routeBy, freeIn}
 use Rattle.layout.proofs.Ways.{kinds-length}
 use Rattle.layout.proofs.Tables.{table-few, table-one}
-use Rattle.messages.specs.Body.{typeIn, marksIn, fieldCount, valuesIn, spare, bodyFrom, typedOf, bodyRead}
+use Rattle.messages.specs.Body.{typeIn, marksIn, fieldCount, valuesIn, spare, bodyFrom}
 use Rattle.messages.specs.Allowed.{isWhole, hasRoute, kindsIn, bodyText, allNone, isFielded, isBody}
 use Rattle.messages.specs.declared.Af.{Af}
 use Rattle.messages.specs.declared.Body.{Body}
 use Rattle.messages.specs.declared.Body.the-variants as body
-use Rattle.messages.specs.declared.from.BodyRead.the-variants as read
-use Rattle.messages.proofs.Ways.{by-table, kept-whole}
 use Rattle.messages.proofs.Bodies.{type-from, body-back, values-back}
 use Rattle.messages.proofs.Tables.{count-from, marks-kept, has-route}
+use Rattle.bodies.specs.Read.{typedOf, bodyRead}
+use Rattle.bodies.specs.declared.BodyRead.the-variants as read
+use Rattle.bodies.proofs.Ways.{by-table, kept-whole}
 
 -- kinds after the last field find no route
 route-take : (ks : List ℕ) (p : ℕ) (fs : List (List ℕ)) → routeIn (take (length fs) ks) p fs ≡ routeIn ks p fs

@@ -1,8 +1,8 @@
--- `messages::from::plan_from` meets its contract. Assumes nothing.
+-- `bodies::plan_from` meets its contract. Assumes nothing.
 use Rattle.messages.specs.Body.{planFrom}
 use borrow.Author.Needs.{needs}
-use Rattle.messages.proofs.from.plan_from.Statement.{statement}
-use Rattle.messages.proofs.from.plan_from.Tie as tie
+use Rattle.bodies.proofs.plan_from.Statement.{statement}
+use Rattle.bodies.proofs.plan_from.Tie as tie
 
 returns : tie.Need-returns
 unfolding planFrom

@@ -1,8 +1,8 @@
--- `messages::from::body_from` meets its contract. Assumes nothing.
+-- `bodies::body_from` meets its contract. Assumes nothing.
 use Rattle.messages.specs.Body.{bodyFrom}
 use borrow.Author.Needs.{needs}
-use Rattle.messages.proofs.from.body_from.Statement.{statement}
-use Rattle.messages.proofs.from.body_from.Tie as tie
+use Rattle.bodies.proofs.body_from.Statement.{statement}
+use Rattle.bodies.proofs.body_from.Tie as tie
 
 returns : tie.Need-returns
 unfolding bodyFrom

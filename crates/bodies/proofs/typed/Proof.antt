@@ -1,7 +1,7 @@
--- `messages::from::typed` meets its contract. Assumes nothing.
+-- `bodies::typed` meets its contract. Assumes nothing.
 use borrow.Author.Needs.{needs}
-use Rattle.messages.proofs.from.typed.Statement.{statement}
-use Rattle.messages.proofs.from.typed.Tie as tie
+use Rattle.bodies.proofs.typed.Statement.{statement}
+use Rattle.bodies.proofs.typed.Tie as tie
 
 returns : tie.Need-returns
 returns c = rw (c .before .before .answer .given .1, c .body-from .ensures)

@@ -1,12 +1,4 @@
 // A body read: by its type's table, and the values given their types.
-use crate::Af;
-use crate::Amended;
-use crate::Az;
-use crate::Body;
-use crate::Dz;
-use crate::Plan;
-use crate::Rz;
-use crate::Tz;
 use fields::flight::Key;
 use fields::flight::Number;
 use fields::plan::FiledSpeed;
@@ -23,11 +15,20 @@ use heads::MessageType;
 use idents::aircraft::Aircraft;
 use idents::ident::Ident;
 use kinds::Value;
+use messages::Af;
+use messages::Amended;
+use messages::Az;
+use messages::Body;
+use messages::Dz;
+use messages::Plan;
+use messages::Rz;
+use messages::Tz;
 use table::Answer;
 use table::TableRead;
 ghost use mathlib.Core.Path.{_≡_};
 ghost use Rattle.kinds.specs.Field.{identIn, aircraftIn};
-ghost use Rattle.messages.specs.Body.{amendedIn, afFrom, planFrom, bodyFrom, typedOf, bodyRead};
+ghost use Rattle.messages.specs.Body.{amendedIn, afFrom, planFrom, bodyFrom};
+ghost use Rattle.bodies.specs.Read.{typedOf, bodyRead};
 
 // What a body is read as: the answers 0, 8, 9, 10 and 18, with the place of the field.
 pub enum BodyRead {

@@ -1,11 +1,11 @@
--- `messages::from::read_body` meets its contract. Assumes nothing.
+-- `bodies::read_body` meets its contract. Assumes nothing.
 use mathlib.Core.Path.{sym}
 use Rattle.text.proofs.Logic.{so, not-so}
 use Rattle.table.specs.Read.{padded}
-use Rattle.messages.proofs.Ways.{by-table, kept-whole}
+use Rattle.bodies.proofs.Ways.{by-table, kept-whole}
 use borrow.Author.Needs.{needs}
-use Rattle.messages.proofs.from.read_body.Statement.{statement}
-use Rattle.messages.proofs.from.read_body.Tie as tie
+use Rattle.bodies.proofs.read_body.Statement.{statement}
+use Rattle.bodies.proofs.read_body.Tie as tie
 
 returns : tie.Need-returns
 unfolding padded

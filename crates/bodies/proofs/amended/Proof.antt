@@ -1,9 +1,9 @@
--- `messages::from::amended` meets its contract. Assumes nothing.
+-- `bodies::amended` meets its contract. Assumes nothing.
 use borrow.Author.Tests.{ne-eqb}
 use Rattle.messages.specs.Body.{amendedIn}
 use borrow.Author.Needs.{needs}
-use Rattle.messages.proofs.from.amended.Statement.{statement}
-use Rattle.messages.proofs.from.amended.Tie as tie
+use Rattle.bodies.proofs.amended.Statement.{statement}
+use Rattle.bodies.proofs.amended.Tie as tie
 
 returns : tie.Need-returns
 unfolding amendedIn

@@ -1,8 +1,8 @@
--- `messages::from::af_from` meets its contract. Assumes nothing.
-use Rattle.messages.proofs.Ways.{af-is}
+-- `bodies::af_from` meets its contract. Assumes nothing.
+use Rattle.bodies.proofs.Ways.{af-is}
 use borrow.Author.Needs.{needs}
-use Rattle.messages.proofs.from.af_from.Statement.{statement}
-use Rattle.messages.proofs.from.af_from.Tie as tie
+use Rattle.bodies.proofs.af_from.Statement.{statement}
+use Rattle.bodies.proofs.af_from.Tie as tie
 
 returns : tie.Need-returns
 returns c =
