@@ -1,9 +1,9 @@
--- `values::marks_in` meets its contract. Assumes nothing.
+-- `messages::marks_in` meets its contract. Assumes nothing.
 use mathlib.Core.Path.{sym, ap}
 use Rattle.messages.specs.Body.{marksIn}
 use borrow.Author.Needs.{needs}
-use Rattle.values.proofs.marks_in.Statement.{statement}
-use Rattle.values.proofs.marks_in.Tie as tie
+use Rattle.messages.proofs.marks_in.Statement.{statement}
+use Rattle.messages.proofs.marks_in.Tie as tie
 
 returns : tie.Need-returns
 returns c = ap marksIn (sym (c .before .b .given .1))
