@@ -15,11 +15,12 @@ use Rattle.words.specs.Word.{isWord}
 use Rattle.heads.specs.Facility.{isFacilityValue}
 use Rattle.heads.specs.declared.MessageType.{MessageType}
 use Rattle.heads.specs.declared.TypeRead.the-variants as type
-use Rattle.messages.specs.Body.{typeIn, bodyRead}
+use Rattle.messages.specs.Body.{typeIn}
 use Rattle.messages.specs.Allowed.{bodyText, isBody}
 use Rattle.messages.specs.declared.Message.{Message}
-use Rattle.messages.specs.declared.from.BodyRead.{BodyRead}
-use Rattle.messages.specs.declared.from.BodyRead.the-variants as body
+use Rattle.bodies.specs.Read.{bodyRead}
+use Rattle.bodies.specs.declared.BodyRead.{BodyRead}
+use Rattle.bodies.specs.declared.BodyRead.the-variants as body
 use Rattle.line.specs.Line.{lineOf, isLongPlan, isHead, hasSize, isAllowed}
 use Rattle.line.specs.Read.{headOf, withBody, restOf, byHead, readOf, numberOf, freeBy, freeOf}
 use Rattle.line.specs.declared.Head.{Head}

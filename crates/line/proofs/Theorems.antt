@@ -10,7 +10,7 @@ use Rattle.heads.specs.declared.TypeRead.the-variants as type
 use Rattle.messages.specs.Body.{typeIn}
 use Rattle.messages.specs.Allowed.{bodyText, isBody}
 use Rattle.messages.specs.declared.Message.{Message}
-use Rattle.messages.proofs.Theorems.{body-sound, body-complete}
+use Rattle.bodies.proofs.Theorems.{body-sound, body-complete}
 use Rattle.line.specs.Line.{lineOf, isAllowed}
 use Rattle.line.specs.Read.{readOf, numberOf, freeBy, freeOf}
 use Rattle.line.specs.declared.LineRead.{LineRead}

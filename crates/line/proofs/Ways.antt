@@ -31,8 +31,8 @@ use Rattle.heads.specs.declared.MessageType.the-variants.{Af, Az, Dz, Fz, Rz, T
 use Rattle.heads.specs.declared.TypeRead.the-variants as type
 use Rattle.heads.proofs.MessageType.{the-type}
 use Rattle.layout.specs.Table.{hasFields, routeBy, freeIn}
-use Rattle.messages.specs.Body.{bodyRead}
-use Rattle.messages.specs.declared.from.BodyRead.{BodyRead}
+use Rattle.bodies.specs.Read.{bodyRead}
+use Rattle.bodies.specs.declared.BodyRead.{BodyRead}
 use Rattle.line.specs.Line.{isLongPlan}
 use Rattle.line.specs.Read.{headOf, withBody, restOf, byHead, readOf, freeOf}
 use Rattle.line.specs.declared.Head.{Head}

@@ -13,9 +13,9 @@ use Rattle.heads.specs.Message.{typeOf}
 use Rattle.heads.specs.declared.TypeRead.{TypeRead}
 use Rattle.heads.specs.declared.TypeRead.the-variants as type
 use Rattle.layout.specs.Table.{freeIn}
-use Rattle.messages.specs.Body.{bodyRead}
-use Rattle.messages.specs.declared.from.BodyRead.{BodyRead}
-use Rattle.messages.specs.declared.from.BodyRead.the-variants as body
+use Rattle.bodies.specs.Read.{bodyRead}
+use Rattle.bodies.specs.declared.BodyRead.{BodyRead}
+use Rattle.bodies.specs.declared.BodyRead.the-variants as body
 use Rattle.line.specs.Line.{isLongPlan}
 use Rattle.line.specs.declared.Head.{Head}
 use Rattle.line.specs.declared.HeadRead.{HeadRead}

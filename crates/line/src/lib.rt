@@ -1,4 +1,6 @@
 // One line of the feed: read as a message, and its free text handed back as a part of it.
+use bodies::BodyRead;
+use bodies::read_body;
 use fields::frame::Sequence;
 use fields::frame::SequenceRead;
 use fields::frame::Stamp;
@@ -8,8 +10,6 @@ use heads::FacilityRead;
 use heads::MessageType;
 use heads::TypeRead;
 use messages::Message;
-use messages::from::BodyRead;
-use messages::from::read_body;
 ghost use mathlib.Core.Path.{_≡_};
 ghost use Prim.Native.Nat.{_≤_};
 ghost use lib.ListN.{length};

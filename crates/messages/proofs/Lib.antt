@@ -2,4 +2,3 @@ pub mod Ways
 pub mod Bodies
 pub mod Unique
 pub mod Tables
-pub mod Theorems

@@ -1,8 +1,7 @@
--- The ways of the functions: when a word begins with P, an AF of its parts, and a body by the table or kept whole.
--- Assumes nothing.
+-- The way of `Plan::filed_level`: when a word begins with P. Assumes nothing.
 use mathlib.Core.Path.{_≡_, refl}
 use mathlib.Core.Bool.{Bool, true, false}
-use mathlib.Core.List.{List, [], map}
+use mathlib.Core.List.{map}
 use Prim.Native.Char.{code}
 use Prim.Native.Nat.{ℕ, suc, _+_, _/_, _^_, _<_}
 use native.Mathlib.Omega.{arith}
@@ -14,18 +13,6 @@ use Rattle.text.specs.Place.{digits}
 use Rattle.text.specs.Text.{textOf}
 use Rattle.text.proofs.Logic.{same-test}
 use Rattle.text.proofs.Places.{digits-zero, digits-suc}
-use Rattle.idents.specs.declared.Ident.{Ident}
-use Rattle.heads.specs.declared.MessageType.{MessageType}
-use Rattle.kinds.specs.Field.{identIn}
-use Rattle.kinds.specs.declared.Value.{Value}
-use Rattle.table.specs.Read.{padded}
-use Rattle.layout.specs.Table.{hasFields, answerBy, valuesBy}
-use Rattle.messages.specs.Body.{at, amendedIn, afFrom, bodyFrom, typedOf, bodyRead}
-use Rattle.messages.specs.declared.Amended.{Amended}
-use Rattle.messages.specs.declared.Af.{Af}
-use Rattle.messages.specs.declared.from.BodyRead.the-variants as read
-
--- ---- the first letter of a word
 
 -- only the code of P has the byte of P
 p-code : (d : ℕ) → eqb (byteOf d) (code "P") ≡ eqb d 26
@@ -50,36 +37,3 @@ begins-p n = go (eqb n 0) refl
     go false q =
         let e : n / 38 ^ 11 ≡ n / 238572050223552512 = omega arith in
         rw (first-byte 38 11 n (omega (arith, eqb-false n 0 q)), e) (p-code (n / 238572050223552512))
-
--- ---- an AF of its amendments
-
-pub af-is : (m : ℕ) (w : List Value) (i : Ident) (a b c d e f g h : Amended) → i ≡ identIn (at w 0)
-    → a ≡ amendedIn (at w 3) (at w 4) → b ≡ amendedIn (at w 5) (at w 6) → c ≡ amendedIn (at w 7) (at w 8) → d ≡ amendedIn (at w 9) (at w 10)
-    → e ≡ amendedIn (at w 11) (at w 12) → f ≡ amendedIn (at w 13) (at w 14) → g ≡ amendedIn (at w 15) (at w 16) → h ≡ amendedIn (at w 17) (at w 18)
-    → _≡_ {A = Af} (record { ident = i; from = record { 0 = at w 1 .a }; to = record { 0 = at w 2 .a }; marks = m; first = a; second = b; third = c; fourth = d; fifth = e; sixth = f; seventh = g; eighth = h }) (afFrom m w)
-unfolding afFrom
-af-is m w i a b c d e f g h pi pa pb pc pd pe pf pg ph = λ x. record {
-  ident = pi x;
-  from = record { 0 = at w 1 .a };
-  to = record { 0 = at w 2 .a };
-  marks = m;
-  first = pa x;
-  second = pb x;
-  third = pc x;
-  fourth = pd x;
-  fifth = pe x;
-  sixth = pf x;
-  seventh = pg x;
-  eighth = ph x;
-}
-
--- ---- a body by the table, or kept whole
-
-module _ (t : MessageType) (s : List ℕ) where
-  pub by-table : hasFields t ≡ true → bodyRead t s ≡ typedOf t (padded (valuesBy t s)) (answerBy t s)
-  unfolding bodyRead
-  by-table e = rw e
-
-  pub kept-whole : hasFields t ≡ false → bodyRead t s ≡ read.Read (bodyFrom t 0 (padded [])) false
-  unfolding bodyRead
-  kept-whole e = rw e

@@ -1,7 +1,7 @@
 -- A body by its type over the values of its fields, and back. Assumes nothing.
 use Prim.Native.Nat.{ℕ}
 use Prim.Native.Char.{code}
-use mathlib.Core.Bool.{false, cond}
+use mathlib.Core.Bool.{cond}
 use mathlib.Core.List.{List, [], _∷_}
 use lib.Dec.{eqb}
 use lib.ListN.{getD, take, drop}
@@ -13,9 +13,7 @@ use Rattle.aircraft.specs.declared.Aircraft.{Aircraft}
 use Rattle.kinds.specs.Field.{valued, identIn, aircraftIn}
 use Rattle.kinds.specs.declared.Value.{Value}
 use Rattle.table.specs.Read.{none, padded}
-use Rattle.table.specs.declared.Answer.{Answer}
-use Rattle.table.specs.declared.Answer.the-variants as answer
-use Rattle.layout.specs.Table.{countWith, hasFields, answerBy, valuesBy}
+use Rattle.layout.specs.Table.{countWith}
 use Rattle.messages.specs.declared.Plan.{Plan}
 use Rattle.messages.specs.declared.PlanLevel.{PlanLevel}
 use Rattle.messages.specs.declared.PlanLevel.the-variants as level
@@ -24,8 +22,6 @@ use Rattle.messages.specs.declared.Amended.the-variants as amended
 use Rattle.messages.specs.declared.Af.{Af}
 use Rattle.messages.specs.declared.Body.{Body}
 use Rattle.messages.specs.declared.Body.the-variants as body
-use Rattle.messages.specs.declared.from.BodyRead.{BodyRead}
-use Rattle.messages.specs.declared.from.BodyRead.the-variants as read
 
 -- "In FZ and UZ the level is requested when the time has P and assigned otherwise"
 unfoldable pub planLevel : Plan → PlanLevel
@@ -88,19 +84,6 @@ bodyFrom type.Uz m w = body.Uz (planFrom w)
 bodyFrom type.Rt m w = body.Rt
 bodyFrom type.To m w = body.To
 bodyFrom type.Hb m w = body.Hb
-
--- ---- what the reader of a body answers
-
-abbrev pub typedOf : MessageType → List Value → Answer → BodyRead
-typedOf t w (answer.Taken trailing m) = read.Read (bodyFrom t m w) trailing
-typedOf t w answer.Spacing = read.Spacing
-typedOf t w (answer.Field i) = read.Field i
-typedOf t w (answer.Number i) = read.Number i
-typedOf t w (answer.Two i) = read.Two i
-
--- by the table where the type has fields; "RT, TO and HB bodies are kept whole", and then no value is held
-unfoldable pub bodyRead : MessageType → List ℕ → BodyRead
-bodyRead t s = cond (hasFields t) (typedOf t (padded (valuesBy t s)) (answerBy t s)) (read.Read (bodyFrom t 0 (padded [])) false)
 
 -- ---- back: the type of a body, and the values of its fields
 

@@ -14,11 +14,10 @@ use fields::track::GroundSpeed;
 use fields::track::Position;
 use fields::track::TrackLevel;
 use heads::Facility;
+use heads::MessageType;
 use idents::Ident;
 ghost use mathlib.Core.Path.{_≡_};
-ghost use Rattle.messages.specs.Body.{planLevel};
-
-pub mod from;
+ghost use Rattle.messages.specs.Body.{planLevel, typeIn, marksIn};
 
 pub struct Az {
     pub ident: Ident,
@@ -130,5 +129,40 @@ impl Plan {
             return PlanLevel::Requested(level);
         }
         PlanLevel::Assigned(level)
+    }
+}
+
+pub fn type_in(b: Body) -> MessageType
+    ensures { λ r. ⌜ r ≡ typeIn b ⌝ }
+{
+    match b {
+        Body::Af(_) => MessageType::Af,
+        Body::Az(_) => MessageType::Az,
+        Body::Dz(_) => MessageType::Dz,
+        Body::Fz(_) => MessageType::Fz,
+        Body::Rz(_) => MessageType::Rz,
+        Body::Tz(_) => MessageType::Tz,
+        Body::Uz(_) => MessageType::Uz,
+        Body::Rt => MessageType::Rt,
+        Body::To => MessageType::To,
+        Body::Hb => MessageType::Hb,
+    }
+}
+
+// The marks that a body keeps.
+pub fn marks_in(b: Body) -> u8
+    ensures { λ r. ⌜ r ≡ marksIn b ⌝ }
+{
+    match b {
+        Body::Af(m) => m.marks,
+        Body::Az(_) => 0,
+        Body::Dz(_) => 0,
+        Body::Fz(_) => 0,
+        Body::Rz(_) => 0,
+        Body::Tz(_) => 0,
+        Body::Uz(_) => 0,
+        Body::Rt => 0,
+        Body::To => 0,
+        Body::Hb => 0,
     }
 }

@@ -17,7 +17,8 @@ use Rattle.idents.specs.Ident.{identFrom, identOf}
 use Rattle.aircraft.specs.Aircraft.{plainOf, prefixedOf, aircraftOf}
 use Rattle.heads.specs.Facility.{facilityText}
 use Rattle.heads.specs.Message.{typeOf}
-use Rattle.messages.specs.Body.{bodyFrom, bodyRead}
+use Rattle.messages.specs.Body.{bodyFrom}
+use Rattle.bodies.specs.Read.{bodyRead}
 use Rattle.line.specs.Read.{headOf, restOf, readOf, freeOf}
 use Rattle.meanings.specs.Meaning.{decimalOf, inMinutes, minutesOf, momentOf, momentIn}
 use Rattle.ages.specs.Age.{isLastDay, dayBefore, ageOf, ageIn}

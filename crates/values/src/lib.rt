@@ -1,7 +1,6 @@
-// What the writer must know of a body: the values of its fields, its type and its marks. What follows from type and
-// marks alone stands in `layout`.
+// What the writer must know of a body: the values of its fields. Its type and its marks are asked of `messages`, and what
+// follows from these alone stands in `layout`.
 use aircraft::Aircraft;
-use heads::MessageType;
 use idents::Ident;
 use kinds::Value;
 use messages::Af;
@@ -11,7 +10,7 @@ use messages::Plan;
 ghost use mathlib.Core.Path.{_≡_};
 ghost use mathlib.Core.List.{[], _∷_};
 ghost use Rattle.table.specs.Read.{padded};
-ghost use Rattle.messages.specs.Body.{valueOfWord, valueOfIdent, valueOfAircraft, markIn, contentIn, planValues, slots, typeIn, marksIn};
+ghost use Rattle.messages.specs.Body.{valueOfWord, valueOfIdent, valueOfAircraft, markIn, contentIn, planValues, slots};
 ghost use Rattle.messages.specs.declared.Body.the-variants as body;
 
 fn of_word(t: u64) -> Value
@@ -198,40 +197,5 @@ pub fn values_in(b: Body) -> [Value; 19]
         Body::Rt => seven(none, none, none, none, none, none, none),
         Body::To => seven(none, none, none, none, none, none, none),
         Body::Hb => seven(none, none, none, none, none, none, none),
-    }
-}
-
-pub fn type_in(b: Body) -> MessageType
-    ensures { λ r. ⌜ r ≡ typeIn b ⌝ }
-{
-    match b {
-        Body::Af(_) => MessageType::Af,
-        Body::Az(_) => MessageType::Az,
-        Body::Dz(_) => MessageType::Dz,
-        Body::Fz(_) => MessageType::Fz,
-        Body::Rz(_) => MessageType::Rz,
-        Body::Tz(_) => MessageType::Tz,
-        Body::Uz(_) => MessageType::Uz,
-        Body::Rt => MessageType::Rt,
-        Body::To => MessageType::To,
-        Body::Hb => MessageType::Hb,
-    }
-}
-
-// The marks that a body keeps.
-pub fn marks_in(b: Body) -> u8
-    ensures { λ r. ⌜ r ≡ marksIn b ⌝ }
-{
-    match b {
-        Body::Af(m) => m.marks,
-        Body::Az(_) => 0,
-        Body::Dz(_) => 0,
-        Body::Fz(_) => 0,
-        Body::Rz(_) => 0,
-        Body::Tz(_) => 0,
-        Body::Uz(_) => 0,
-        Body::Rt => 0,
-        Body::To => 0,
-        Body::Hb => 0,
     }
 }

@@ -1,5 +1,4 @@
--- Writing a line part by part: the rest of a buffer lent on, a writer that has room, and fields one after the other.
--- Assumes nothing.
+-- Writing a line part by part: the rest of a buffer lent on, fields one after the other, and a body. Assumes nothing.
 use mathlib.Core.Path.{_≡_, refl, sym, ap, _∙_}
 use mathlib.Core.Bool.{Bool, true, false, and-false}
 use mathlib.Core.List.{List, [], _∷_, _++_, append-nil, append-assoc}
@@ -9,12 +8,9 @@ use native.Mathlib.Omega.{arith}
 use lib.ListN.{length, take, drop, set, length-set, length-drop, length-append, drop-of-length-le, take-append-drop}
 use lib.Seq.{drop-drop}
 use borrow.Rule.Slice.PartMut.{putMid}
-use Rattle.text.specs.Text.{spliced, writtenNext, writtenBytes}
-use Rattle.text.specs.declared.Sized.the-variants as sized
-use Rattle.text.specs.declared.Written.the-variants.{Next}
+use Rattle.text.specs.Text.{spliced, writtenBytes}
 use Rattle.text.proofs.Logic.{true-false, not-fails}
-use Rattle.text.proofs.Laws.{has-room, next-known}
-use Rattle.text.proofs.Splice.{set-spliced, spliced-next, next-store, length-spliced, take-spliced}
+use Rattle.text.proofs.Splice.{set-spliced, spliced-next, next-store, length-spliced}
 use Rattle.shapes.proofs.Laws.{rest-all}
 use Rattle.spacing.specs.Body.{space, bodyOf}
 use Rattle.kinds.specs.Field.{leftOf, shown}
@@ -26,10 +22,10 @@ use Rattle.layout.proofs.Tables.{table-few}
 use Rattle.messages.specs.Body.{typeIn, fieldCount, valuesIn}
 use Rattle.messages.specs.Allowed.{isWhole, kindsIn, bodyText, isFielded, isBody}
 use Rattle.messages.specs.declared.Body.{Body}
-use Rattle.messages.specs.declared.Message.{Message}
-use Rattle.line.specs.Line.{lineOf, isAllowed}
-use Rattle.writer.specs.Size.{fieldsText, sizedLine, PutAsks, BodyAsks}
-use Rattle.writer.proofs.Lines.{Has, has-kinds, has-values, has-length, bytes-known, bytes-unknown}
+use Rattle.sizes.specs.Size.{fieldsText}
+use Rattle.sizes.proofs.Wrote.{wrote}
+use Rattle.sizes.proofs.Lines.{Has, has-kinds, has-values, has-length}
+use Rattle.writer.specs.Asks.{PutAsks, BodyAsks}
 
 -- ---- bytes
 
@@ -40,26 +36,6 @@ lend-on l us m e =
     let after = us ++ drop (0 + length us) (drop m l) in
     rw (e, rest-all l m, drop-of-length-le (drop m l) (le-of-eq (length-drop m l)), append-nil after, zero-add, drop-drop (length us) m l)
     (sym (append-assoc (take m l) us (drop (m + length us) l)))
-
--- a writer that has a text, and room for it, writes it
-pub wrote : (vs out : List ℕ) (at : ℕ) {ok : Bool} {o : List ℕ} → ok ≡ true → at + length vs ≤ length out → o ≡ writtenBytes ok vs out at → o ≡ spliced out at vs
-wrote vs out at e h is = is ∙ sym (has-room vs out at e h .1)
-
--- the same, at the start, where it answered a place
-module _ (ok : Bool) (vs out : List ℕ) {n : ℕ} {o : List ℕ} (told : writtenNext ok vs out 0 ≡ Next n) (is : o ≡ writtenBytes ok vs out 0) where
-  pub next-size : n ≡ length vs
-  next-size = omega (arith, next-known vs out 0 told .1)
-
-  pub next-bytes : o ≡ spliced out 0 vs
-  next-bytes = let k = next-known vs out 0 told in wrote vs out 0 (k .0) (k .2) is
-
-  pub next-inside : n ≤ length o
-  next-inside =
-      let k = next-known vs out 0 told in
-      omega (arith, next-size, ap length next-bytes, length-spliced out vs 0 (k .2), k .2)
-
-  pub next-text : take n o ≡ vs
-  next-text = ap (take n) next-bytes ∙ take-spliced out vs n next-size
 
 pub spliced-none : (l : List ℕ) (i : ℕ) → spliced l i [] ≡ l
 unfolding spliced
@@ -194,14 +170,3 @@ module _ (l vs us : List ℕ) (m : ℕ) {o : List ℕ} (size : length vs ≡ m) 
 
   pub written-next : {ok : Bool} {ys : List ℕ} → ok ≡ true → ys ≡ writtenBytes ok us (restFrom m o) 0 → given m o ys ≡ spliced l 0 (vs ++ us)
   written-next e w = part-next (wrote us (restFrom m o) 0 e (omega (arith, rest-long)) w)
-
--- ---- a line by its size
-
-module _ (m : Message) (r : List ℕ) where
-  pub line-known : {n : ℕ} → sizedLine m r ≡ sized.Bytes n → (isAllowed m r ≡ true) × (n ≡ length (lineOf m r))
-  unfolding sizedLine
-  line-known e = bytes-known (isAllowed m r) (length (lineOf m r)) e
-
-  pub line-unknown : sizedLine m r ≡ sized.NotOne → isAllowed m r ≡ false
-  unfolding sizedLine
-  line-unknown e = bytes-unknown (isAllowed m r) (length (lineOf m r)) e

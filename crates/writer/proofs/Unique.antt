@@ -1,12 +1,8 @@
--- Two answers that the promise of a public function of `writer` allows are equal: of each, `Post` is its `ensures` as it stands
+-- Two answers that the promise of the public function of `writer` allows are equal: `Post` is its `ensures` as it stands
 -- in the source, r and r′ are two results, s and s′ two states at exit. Assumes nothing.
 use mathlib.Core.Path.{_≡_, sym, _∙_}
 use denote.Ref.{now}
 use Rattle.writer.proofs.write.Reads as write
-use Rattle.writer.proofs.size.size_line.Reads as size-line
-
-pub size-line-one : (κs : _) (a : _) (r r′ : _) (s s′ : _) → size-line.Post κs a r s → size-line.Post κs a r′ s′ → r ≡ r′
-size-line-one κs a r r′ s s′ p q = p ∙ sym q
 
 -- the answer, and every byte of the buffer
 pub write-one : (κs : _) (a : _) (r r′ : _) (s s′ : _) → write.Post κs a r s → write.Post κs a r′ s′ → (r ≡ r′) × (now (s .1 .1 .0) ≡ now (s′ .1 .1 .0))

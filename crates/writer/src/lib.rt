@@ -5,12 +5,12 @@ use layout::has_fields;
 use layout::kinds_of;
 use messages::Body;
 use messages::Message;
+use messages::marks_in;
+use messages::type_in;
 use showing::put_field;
-use size::size_line;
+use sizes::size_line;
 use text::Sized;
 use text::Written;
-use values::marks_in;
-use values::type_in;
 use values::values_in;
 use writing::has_room;
 use writing::put_bytes;
@@ -20,9 +20,8 @@ ghost use Rattle.text.specs.Text.{spliced, writtenNext, writtenBytes};
 ghost use Rattle.kinds.specs.Field.{leftOf, shown};
 ghost use Rattle.messages.specs.Allowed.{bodyText};
 ghost use Rattle.line.specs.Line.{lineOf, isAllowed};
-ghost use Rattle.writer.specs.Size.{fieldsText, FieldAsks, PutAsks, BodyAsks, LineAsks};
-
-pub mod size;
+ghost use Rattle.sizes.specs.Size.{fieldsText};
+ghost use Rattle.writer.specs.Asks.{FieldAsks, PutAsks, BodyAsks, LineAsks};
 
 // Where a field's text ends, and what it leaves for the next one.
 pub struct Put {

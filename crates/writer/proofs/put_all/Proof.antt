@@ -19,8 +19,9 @@ use Rattle.kinds.specs.declared.Value.{Value}
 use Rattle.table.specs.Read.{none}
 use Rattle.table.specs.Show.{textsFrom, allowedFrom}
 use Rattle.messages.proofs.Bodies.{allowed-first, allowed-rest, allowed-length}
-use Rattle.writer.specs.Size.{fieldsText, FieldAsks, PutAsks}
-use Rattle.writer.proofs.Sizes.{next-value}
+use Rattle.sizes.specs.Size.{fieldsText}
+use Rattle.sizes.proofs.Sizes.{next-value}
+use Rattle.writer.specs.Asks.{FieldAsks, PutAsks}
 use Rattle.writer.proofs.Puts.{lend-on, spliced-none, fields-none, fields-next, fields-length, fields-turn}
 use Rattle.writer.proofs.put_all.Statement.{statement}
 use Rattle.writer.proofs.put_all.Tie as tie

@@ -8,7 +8,7 @@ use Rattle.text.specs.declared.Written.the-variants.{Next}
 use Rattle.text.proofs.Logic.{true-false}
 use Rattle.text.proofs.Laws.{no-room-known, no-text-known}
 use Rattle.kinds.specs.Field.{leftOf, isValue, shown}
-use Rattle.writer.proofs.Puts.{next-size, next-bytes, next-inside, next-text}
+use Rattle.sizes.proofs.Wrote.{next-size, next-bytes, next-inside, next-text}
 use borrow.Author.Needs.{needs}
 use Rattle.writer.proofs.put_one.Statement.{statement}
 use Rattle.writer.proofs.put_one.Tie as tie

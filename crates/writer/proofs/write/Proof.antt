@@ -15,8 +15,9 @@ use Rattle.text.proofs.Laws.{no-text, has-room, no-room-told}
 use Rattle.shapes.proofs.Laws.{rest-all}
 use Rattle.messages.specs.declared.Message.{Message}
 use Rattle.line.specs.Line.{lineOf, isAllowed}
-use Rattle.writer.specs.Size.{LineAsks}
-use Rattle.writer.proofs.Puts.{lend-on, restFrom, given, line-known, line-unknown}
+use Rattle.sizes.proofs.Lines.{line-known, line-unknown}
+use Rattle.writer.specs.Asks.{LineAsks}
+use Rattle.writer.proofs.Puts.{lend-on, restFrom, given}
 use borrow.Author.Needs.{needs}
 use Rattle.writer.proofs.write.Statement.{statement}
 use Rattle.writer.proofs.write.Tie as tie

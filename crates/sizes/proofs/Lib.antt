@@ -1,0 +1,4 @@
+pub mod Wrote
+pub mod Sizes
+pub mod Lines
+pub mod Unique
