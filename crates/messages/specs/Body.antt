@@ -15,7 +15,8 @@ use Rattle.kinds.specs.declared.Value.{Value}
 use Rattle.table.specs.Read.{none, padded}
 use Rattle.table.specs.declared.Answer.{Answer}
 use Rattle.table.specs.declared.Answer.the-variants as answer
-use Rattle.layout.specs.Table.{countWith, hasFields, answerBy, valuesBy}
+use Rattle.counts.specs.Table.{countWith, hasFields}
+use Rattle.layout.specs.Table.{answerBy, valuesBy}
 use Rattle.messages.specs.declared.Plan.{Plan}
 use Rattle.messages.specs.declared.PlanLevel.{PlanLevel}
 use Rattle.messages.specs.declared.PlanLevel.the-variants as level

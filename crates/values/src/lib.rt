@@ -1,5 +1,5 @@
 // What the writer must know of a body: the values of its fields, its type and its marks. What follows from type and
-// marks alone stands in `layout`.
+// marks alone stands in `counts`.
 use heads::MessageType;
 use idents::aircraft::Aircraft;
 use idents::ident::Ident;
