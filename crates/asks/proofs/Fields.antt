@@ -17,7 +17,8 @@ use Rattle.kinds.specs.Field.{IDENT, TZ-IDENT, AIRCRAFT, identIn, isOne, isTwo,
 use Rattle.kinds.specs.declared.Value.{Value}
 use Rattle.table.specs.Read.{padded}
 use Rattle.table.specs.Show.{allowedFrom, marksFrom}
-use Rattle.layout.specs.Table.{countWith, isCount, kindsOf}
+use Rattle.counts.specs.Table.{countWith, isCount}
+use Rattle.layout.specs.Table.{kindsOf}
 use Rattle.messages.specs.Body.{typeIn, valueOfWord, valueOfIdent, valueOfAircraft, slots, fieldCount, valuesIn, spare, marksIn}
 use Rattle.messages.specs.Allowed.{isWhole, hasRoute, kindsIn, allNone, isFielded, isBody}
 use Rattle.messages.specs.declared.Az.{Az}

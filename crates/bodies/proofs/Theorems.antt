@@ -23,7 +23,8 @@ use Rattle.table.specs.declared.Answer.the-variants as answer
 use Rattle.table.proofs.Theorems.{complete, allowed-taken, body-printable}
 use Rattle.table.proofs.Routes.{Back, route-back, written-back}
 use Rattle.table.proofs.Amends.{marks-count}
-use Rattle.layout.specs.Table.{tableOf, countWith, isCount, hasFields, kindsOf, countIn, answerBy, valuesBy, routeBy, freeIn}
+use Rattle.counts.specs.Table.{tableOf, countWith, isCount, hasFields}
+use Rattle.layout.specs.Table.{kindsOf, countIn, answerBy, valuesBy, routeBy, freeIn}
 use Rattle.layout.proofs.Ways.{kinds-length}
 use Rattle.layout.proofs.Tables.{table-few, table-one}
 use Rattle.messages.specs.Body.{typeIn, marksIn, fieldCount, valuesIn, spare, bodyFrom}

@@ -8,7 +8,8 @@ use Rattle.heads.specs.declared.MessageType.{MessageType}
 use Rattle.kinds.specs.Field.{identIn}
 use Rattle.kinds.specs.declared.Value.{Value}
 use Rattle.table.specs.Read.{padded}
-use Rattle.layout.specs.Table.{hasFields, answerBy, valuesBy}
+use Rattle.counts.specs.Table.{hasFields}
+use Rattle.layout.specs.Table.{answerBy, valuesBy}
 use Rattle.messages.specs.Body.{at, amendedIn, afFrom, bodyFrom}
 use Rattle.messages.specs.declared.Amended.{Amended}
 use Rattle.messages.specs.declared.Af.{Af}

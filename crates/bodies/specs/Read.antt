@@ -7,7 +7,8 @@ use Rattle.kinds.specs.declared.Value.{Value}
 use Rattle.table.specs.Read.{padded}
 use Rattle.table.specs.declared.Answer.{Answer}
 use Rattle.table.specs.declared.Answer.the-variants as answer
-use Rattle.layout.specs.Table.{hasFields, answerBy, valuesBy}
+use Rattle.counts.specs.Table.{hasFields}
+use Rattle.layout.specs.Table.{answerBy, valuesBy}
 use Rattle.messages.specs.Body.{bodyFrom}
 use Rattle.bodies.specs.declared.BodyRead.{BodyRead}
 use Rattle.bodies.specs.declared.BodyRead.the-variants as read

@@ -165,7 +165,7 @@ fn typed(t: MessageType, read: TableRead) -> BodyRead
 pub fn read_body(t: MessageType, body: &[u8]) -> BodyRead
     ensures { λ r. ⌜ r ≡ bodyRead t (now (body .entry)) ⌝ }
 {
-    if !layout::has_fields(t) {
+    if !counts::has_fields(t) {
         let values = [Value { a: 0, b: 0, c: 0 }; 19];
         return BodyRead::Read(body_from(t, 0, values), false);
     }

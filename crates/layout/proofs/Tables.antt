@@ -19,7 +19,8 @@ use Rattle.table.proofs.Marks.{times}
 use Rattle.table.proofs.Routes.{oneRoute, none-more, routed-letter, routed-none}
 use Rattle.table.proofs.Amends.{followed, amends, routed-marks}
 use Rattle.table.proofs.Theorems.{allowed-taken}
-use Rattle.layout.specs.Table.{countWith, isCount, hasRouteWith, kindsOf}
+use Rattle.counts.specs.Table.{countWith, isCount, hasRouteWith}
+use Rattle.layout.specs.Table.{kindsOf}
 
 -- the counts of an AF: 5, 7 .. 19
 pub each-count : (X : ℕ → Type 0) → X 5 → X 7 → X 9 → X 11 → X 13 → X 15 → X 17 → X 19 → (n : ℕ) → isCount Af n ≡ true → X n

@@ -1,13 +1,10 @@
--- The ways of the functions: counts by type, a body by the table, and its route. Assumes nothing.
+-- The ways of the functions: a body by the table, and its route. Assumes nothing.
 use mathlib.Core.Path.{_≡_, refl, sym, _∙_}
-use mathlib.Core.Bool.{Bool, true, false, not, _&&_}
+use mathlib.Core.Bool.{Bool, true, false, _&&_}
 use mathlib.Core.List.{List, [], _∷_, _++_}
 use Prim.Native.Char.{code}
 use Prim.Native.Nat.{ℕ, zero, suc, _-_, _%_, _≤_}
 use native.Mathlib.Omega.{arith}
-use denote.Enum.Declared.{tagOf}
-use types.Run.{OneOf, miss}
-use lib.Count.{ones}
 use lib.Dec.{eqb, leb}
 use lib.ListN.{length, take, replicate, length-append}
 use lib.Seq.{length-take-le, take-append-le}
@@ -15,7 +12,6 @@ use borrow.Author.Tests.{eqb-true, leb-true}
 use Rattle.text.proofs.Logic.{and-left, and-right}
 use Rattle.heads.specs.declared.MessageType.{MessageType}
 use Rattle.heads.specs.declared.MessageType.the-variants.{Af, Az, Dz, Fz, Rz, Tz, Uz, Rt, To, Hb}
-use Rattle.heads.proofs.MessageType.{the-type}
 use Rattle.spacing.specs.Body.{fieldsOf, fieldsIn, countOf}
 use Rattle.spacing.specs.declared.Counted.the-variants as counted
 use Rattle.spacing.proofs.Laws.{count-known}
@@ -23,37 +19,8 @@ use Rattle.kinds.specs.Field.{plain, leftOf}
 use Rattle.table.specs.Read.{padded, answerOf, valuesOf, routeIn, routeOf}
 use Rattle.table.specs.declared.Answer.the-variants as answer
 use Rattle.table.proofs.Ways.{read-wrong, route-no-kinds, route-no-fields, route-later}
-use Rattle.layout.specs.Table.{tableOf, dotted, countWith, isCount, hasFields, kindsOf, countIn, answerBy, valuesBy, routeBy}
-
--- ---- counts by type
-
--- a type has fields exactly if some are counted
-pub counts-fields : (t : MessageType) → not (eqb (countWith t 0) 0) ≡ hasFields t
-unfolding countWith ones
-counts-fields Af = refl
-counts-fields Az = refl
-counts-fields Dz = refl
-counts-fields Fz = refl
-counts-fields Rz = refl
-counts-fields Tz = refl
-counts-fields Uz = refl
-counts-fields Rt = refl
-counts-fields To = refl
-counts-fields Hb = refl
-
--- the types after AF, of which the code tells only the variant's number, have one right count
-pub one-count : (t : MessageType) (n : ℕ) → OneOf (1 ∷ 2 ∷ 3 ∷ 4 ∷ 5 ∷ 6 ∷ 7 ∷ 8 ∷ 9 ∷ []) (tagOf the-type t) → eqb n (countWith t 0) ≡ isCount t n
-unfolding isCount
-one-count Af n h = absurd (miss (1 ∷ 2 ∷ 3 ∷ 4 ∷ 5 ∷ 6 ∷ 7 ∷ 8 ∷ 9 ∷ []) 0 tt h)
-one-count Az n h = refl
-one-count Dz n h = refl
-one-count Fz n h = refl
-one-count Rz n h = refl
-one-count Tz n h = refl
-one-count Uz n h = refl
-one-count Rt n h = refl
-one-count To n h = refl
-one-count Hb n h = refl
+use Rattle.counts.specs.Table.{tableOf, countWith, isCount}
+use Rattle.layout.specs.Table.{dotted, kindsOf, countIn, answerBy, valuesBy, routeBy}
 
 -- ---- a body read by as many kinds as it has fields
 

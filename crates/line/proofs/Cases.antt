@@ -22,13 +22,14 @@ use Rattle.kinds.specs.declared.FieldRead.the-variants as field
 use Rattle.table.specs.Read.{padded}
 use Rattle.table.specs.declared.Answer.{Answer}
 use Rattle.table.specs.declared.Answer.the-variants as answer
-use Rattle.layout.specs.Table.{hasFields, answerBy, valuesBy}
+use Rattle.counts.specs.Table.{hasFields}
+use Rattle.counts.specs.Plan.{isLongPlan}
+use Rattle.layout.specs.Table.{answerBy, valuesBy}
 use Rattle.messages.specs.declared.Message.{Message}
 use Rattle.bodies.specs.Read.{typedOf, bodyRead}
 use Rattle.bodies.specs.declared.BodyRead.{BodyRead}
 use Rattle.bodies.proofs.Ways.{by-table, kept-whole}
 use Rattle.line.specs.Cases.{Framed, Headed, Case, Taken, Short, Long, Unprintable, NoSequence, NoStamp, NoFacility, NoType, Spacing, Field, Number, LongPlan, Two}
-use Rattle.line.specs.Line.{isLongPlan}
 use Rattle.line.specs.Read.{headOf, withBody, restOf, byHead, readOf, numberOf, placeOf, freeOf}
 use Rattle.line.specs.declared.Head.{Head}
 use Rattle.line.specs.declared.HeadRead.{HeadRead}

@@ -16,7 +16,8 @@ use Rattle.kinds.specs.declared.FieldRead.{FieldRead}
 use Rattle.table.specs.Read.{faultAt, answerOf}
 use Rattle.table.specs.declared.Answer.the-variants.{Spacing}
 use Rattle.table.proofs.Refusals.{spacing, spacing-only, isFault, Bad, bad-at, bad-only, fault-spacing}
-use Rattle.layout.specs.Table.{hasFields, tableOf, isCount, kindsOf, countIn, answerBy}
+use Rattle.counts.specs.Table.{tableOf, isCount, hasFields}
+use Rattle.layout.specs.Table.{kindsOf, countIn, answerBy}
 use Rattle.layout.proofs.Ways.{kinds-length}
 use Rattle.layout.proofs.Tables.{table-few}
 use Rattle.line.specs.Cases.{Faulty}

@@ -15,13 +15,14 @@ use Rattle.words.specs.Word.{isWord}
 use Rattle.heads.specs.Facility.{isFacilityValue}
 use Rattle.heads.specs.declared.MessageType.{MessageType}
 use Rattle.heads.specs.declared.TypeRead.the-variants as type
+use Rattle.counts.specs.Plan.{isLongPlan}
 use Rattle.messages.specs.Body.{typeIn}
 use Rattle.messages.specs.Allowed.{bodyText, isBody}
 use Rattle.messages.specs.declared.Message.{Message}
 use Rattle.bodies.specs.Read.{bodyRead}
 use Rattle.bodies.specs.declared.BodyRead.{BodyRead}
 use Rattle.bodies.specs.declared.BodyRead.the-variants as body
-use Rattle.line.specs.Line.{lineOf, isLongPlan, isHead, hasSize, isAllowed}
+use Rattle.line.specs.Line.{lineOf, isHead, hasSize, isAllowed}
 use Rattle.line.specs.Read.{headOf, withBody, restOf, byHead, readOf, numberOf, freeBy, freeOf}
 use Rattle.line.specs.declared.Head.{Head}
 use Rattle.line.specs.declared.HeadRead.{HeadRead}

@@ -4,10 +4,6 @@ use mathlib.Core.Path.{_≡_, sym, _∙_}
 use denote.Ref.{now}
 use Rattle.line.proofs.read.Reads as read
 use Rattle.line.proofs.free.Reads as free
-use Rattle.line.proofs.is_long_plan.Reads as is-long-plan
-
-pub is-long-plan-one : (κs : _) (a : _) (r r′ : _) (s s′ : _) → is-long-plan.Post κs a r s → is-long-plan.Post κs a r′ s′ → r ≡ r′
-is-long-plan-one κs a r r′ s s′ p q = p ∙ sym q
 
 pub read-one : (κs : _) (a : _) (r r′ : _) (s s′ : _) → read.Post κs a r s → read.Post κs a r′ s′ → r ≡ r′
 read-one κs a r r′ s s′ p q = p .0 ∙ sym (q .0)

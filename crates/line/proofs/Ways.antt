@@ -30,10 +30,11 @@ use Rattle.heads.specs.declared.MessageType.{MessageType}
 use Rattle.heads.specs.declared.MessageType.the-variants.{Af, Az, Dz, Fz, Rz, Tz, Uz, Rt, To, Hb}
 use Rattle.heads.specs.declared.TypeRead.the-variants as type
 use Rattle.heads.proofs.MessageType.{the-type}
-use Rattle.layout.specs.Table.{hasFields, routeBy, freeIn}
+use Rattle.counts.specs.Table.{hasFields}
+use Rattle.counts.specs.Plan.{isLongPlan}
+use Rattle.layout.specs.Table.{routeBy, freeIn}
 use Rattle.bodies.specs.Read.{bodyRead}
 use Rattle.bodies.specs.declared.BodyRead.{BodyRead}
-use Rattle.line.specs.Line.{isLongPlan}
 use Rattle.line.specs.Read.{headOf, withBody, restOf, byHead, readOf, freeOf}
 use Rattle.line.specs.declared.Head.{Head}
 use Rattle.line.specs.declared.HeadRead.{HeadRead}

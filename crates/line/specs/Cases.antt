@@ -16,9 +16,11 @@ use Rattle.spacing.specs.Body.{bodyOf, allFields}
 use Rattle.kinds.specs.declared.FieldRead.{FieldRead}
 use Rattle.kinds.specs.declared.FieldRead.the-variants as field
 use Rattle.table.specs.Fault.{First}
-use Rattle.layout.specs.Table.{hasFields, isCount, kindsOf}
+use Rattle.counts.specs.Table.{isCount, hasFields}
+use Rattle.counts.specs.Plan.{isLongPlan}
+use Rattle.layout.specs.Table.{kindsOf}
 use Rattle.messages.specs.declared.Message.{Message}
-use Rattle.line.specs.Line.{lineOf, isAllowed, isLongPlan}
+use Rattle.line.specs.Line.{lineOf, isAllowed}
 
 -- 18 to 2,048 bytes, each 32 to 126
 pub record Framed (s : List ℕ) : Type 0 where

@@ -1,17 +1,16 @@
 -- THE LINE (document 01, "The line", "Fields"): the text of a message, and which messages a line can have. r is the free text
 -- that stands beside a message: its route, or the body of RT, TO and HB. Assumes nothing.
-use Prim.Native.Nat.{ℕ, _-_}
-use mathlib.Core.Bool.{Bool, false, not, _&&_}
+use Prim.Native.Nat.{ℕ}
+use mathlib.Core.Bool.{Bool, not, _&&_}
 use mathlib.Core.List.{List, _++_}
-use lib.Dec.{leb, ltb}
+use lib.Dec.{leb}
 use lib.ListN.{length}
 use Rattle.text.specs.Text.{textOf}
 use Rattle.forms.specs.Kind.{SEQUENCE, STAMP}
 use Rattle.words.specs.Word.{isWord}
 use Rattle.heads.specs.Facility.{facilityText, isFacilityValue}
 use Rattle.heads.specs.Message.{typeText}
-use Rattle.heads.specs.declared.MessageType.{MessageType}
-use Rattle.heads.specs.declared.MessageType.the-variants.{Af, Az, Dz, Fz, Rz, Tz, Uz, Rt, To, Hb}
+use Rattle.counts.specs.Plan.{isLongPlan}
 use Rattle.messages.specs.Body.{typeIn}
 use Rattle.messages.specs.Allowed.{bodyText, isBody}
 use Rattle.messages.specs.declared.Message.{Message}
@@ -20,19 +19,6 @@ use Rattle.messages.specs.declared.Message.{Message}
 unfoldable pub lineOf : Message → List ℕ → List ℕ
 lineOf m r =
     textOf (m .sequence .0) ++ (textOf (m .stamp .0) ++ (facilityText (m .facility .0) ++ (typeText (typeIn (m .body)) ++ bodyText (m .body) r (m .trailing))))
-
--- "FZ over 439 bytes, counted from its type"; n is the line's length, and the type stands after 16 bytes
-abbrev pub isLongPlan : MessageType → ℕ → Bool
-isLongPlan Fz n = ltb 439 (n - 16)
-isLongPlan Af n = false
-isLongPlan Az n = false
-isLongPlan Dz n = false
-isLongPlan Rz n = false
-isLongPlan Tz n = false
-isLongPlan Uz n = false
-isLongPlan Rt n = false
-isLongPlan To n = false
-isLongPlan Hb n = false
 
 -- sequence number, stamp and facility that some text gives
 unfoldable pub isHead : Message → Bool

@@ -12,11 +12,11 @@ use Rattle.forms.specs.Form.{isSequence, isStamp, isFacility}
 use Rattle.heads.specs.Message.{typeOf}
 use Rattle.heads.specs.declared.TypeRead.{TypeRead}
 use Rattle.heads.specs.declared.TypeRead.the-variants as type
+use Rattle.counts.specs.Plan.{isLongPlan}
 use Rattle.layout.specs.Table.{freeIn}
 use Rattle.bodies.specs.Read.{bodyRead}
 use Rattle.bodies.specs.declared.BodyRead.{BodyRead}
 use Rattle.bodies.specs.declared.BodyRead.the-variants as body
-use Rattle.line.specs.Line.{isLongPlan}
 use Rattle.line.specs.declared.Head.{Head}
 use Rattle.line.specs.declared.HeadRead.{HeadRead}
 use Rattle.line.specs.declared.HeadRead.the-variants as head

@@ -13,7 +13,6 @@ use messages::Message;
 ghost use mathlib.Core.Path.{_≡_};
 ghost use Prim.Native.Nat.{_≤_};
 ghost use lib.ListN.{length};
-ghost use Rattle.line.specs.Line.{isLongPlan};
 ghost use Rattle.line.specs.Cases.{Case};
 ghost use Rattle.line.specs.Read.{headOf, restOf, readOf, numberOf, placeOf, freeOf};
 
@@ -74,23 +73,13 @@ fn read_head(line: &[u8]) -> HeadRead
     })
 }
 
-// An FZ over 439 bytes, counted from its type; n is the line's length.
-pub fn is_long_plan(kind: MessageType, n: usize) -> bool
-    ensures { λ r. ⌜ r ≡ isLongPlan kind n ⌝ }
-{
-    match kind {
-        MessageType::Fz => n > 455,
-        _ => false,
-    }
-}
-
 // The body after a head.
 fn read_rest(head: Head, line: &[u8]) -> LineRead
     requires { ⌜ 18 ≤ length (now line) ⌝ }
     ensures { λ r. ⌜ r ≡ restOf head (now (line .entry)) ⌝ }
 {
     let kind = head.kind;
-    if is_long_plan(kind, line.len()) {
+    if counts::is_long_plan(kind, line.len()) {
         return LineRead::LongPlan;
     }
     let read = read_body(kind, &line[18..]);
@@ -150,7 +139,7 @@ pub fn free(line: &[u8]) -> &[u8]
     let TypeRead::Read(kind) = MessageType::read(&line[16..18]) else {
         return &line[..0];
     };
-    if !layout::has_fields(kind) {
+    if !counts::has_fields(kind) {
         return &line[18..];
     }
     layout::route(kind, &line[18..])

@@ -23,7 +23,8 @@ use Rattle.kinds.specs.declared.Value.{Value}
 use Rattle.kinds.proofs.Marks.{each-mark, mark-text}
 use Rattle.table.specs.Read.{none, padded}
 use Rattle.table.specs.Show.{allowedFrom}
-use Rattle.layout.specs.Table.{amendments, countWith, isCount, kindsOf}
+use Rattle.counts.specs.Table.{amendments, countWith, isCount}
+use Rattle.layout.specs.Table.{kindsOf}
 use Rattle.layout.proofs.Ways.{kinds-length}
 use Rattle.layout.proofs.Tables.{marksKept}
 use Rattle.messages.specs.Body.{at, amendedIn, afFrom, planFrom, bodyFrom, typeIn, valueOfWord, markIn, contentIn, slots, fieldCount, valuesIn, spare, marksIn}

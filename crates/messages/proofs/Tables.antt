@@ -10,7 +10,8 @@ use Rattle.heads.specs.declared.MessageType.{MessageType}
 use Rattle.kinds.specs.declared.Value.{Value}
 use Rattle.table.specs.Show.{allowedFrom, marksFrom, routed}
 use Rattle.table.proofs.Marks.{times}
-use Rattle.layout.specs.Table.{isCount, kindsOf}
+use Rattle.counts.specs.Table.{isCount}
+use Rattle.layout.specs.Table.{kindsOf}
 use Rattle.layout.proofs.Tables.{marksKept, kept-count, kept-route, count-marks, marks-none, route-with}
 use Rattle.messages.specs.Body.{bodyFrom, fieldCount, marksIn}
 use Rattle.messages.specs.Allowed.{hasRoute}

@@ -10,7 +10,8 @@ use Rattle.spacing.specs.Body.{bodyOf}
 use Rattle.kinds.specs.Field.{isOne}
 use Rattle.kinds.specs.declared.Value.{Value}
 use Rattle.table.specs.Show.{textsFrom, allowedFrom, marksFrom}
-use Rattle.layout.specs.Table.{isCount, hasFields, hasRouteWith, kindsOf}
+use Rattle.counts.specs.Table.{isCount, hasFields, hasRouteWith}
+use Rattle.layout.specs.Table.{kindsOf}
 use Rattle.messages.specs.Body.{typeIn, fieldCount, valuesIn, spare, marksIn}
 use Rattle.messages.specs.declared.Body.{Body}
 

@@ -13,7 +13,7 @@ use Rattle.aircraft.specs.declared.Aircraft.{Aircraft}
 use Rattle.kinds.specs.Field.{valued, identIn, aircraftIn}
 use Rattle.kinds.specs.declared.Value.{Value}
 use Rattle.table.specs.Read.{none, padded}
-use Rattle.layout.specs.Table.{countWith}
+use Rattle.counts.specs.Table.{countWith}
 use Rattle.messages.specs.declared.Plan.{Plan}
 use Rattle.messages.specs.declared.PlanLevel.{PlanLevel}
 use Rattle.messages.specs.declared.PlanLevel.the-variants as level

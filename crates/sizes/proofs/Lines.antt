@@ -21,7 +21,9 @@ use Rattle.kinds.specs.declared.Value.{Value}
 use Rattle.table.specs.Read.{routeIn, routeOf}
 use Rattle.table.specs.Show.{textsFrom, allowedFrom, marksFrom}
 use Rattle.table.proofs.Ways.{route-no-fields}
-use Rattle.layout.specs.Table.{tableOf, dotted, countWith, isCount, hasFields, hasRouteWith, kindsOf, routeBy, freeIn}
+use Rattle.counts.specs.Table.{tableOf, countWith, isCount, hasFields, hasRouteWith}
+use Rattle.counts.specs.Plan.{isLongPlan}
+use Rattle.layout.specs.Table.{dotted, kindsOf, routeBy, freeIn}
 use Rattle.layout.proofs.Ways.{count-dotted, dotted-kinds, kinds-length}
 use Rattle.layout.proofs.Tables.{table-few}
 use Rattle.messages.specs.Body.{typeIn, fieldCount, slots, valuesIn, spare, marksIn}
@@ -30,7 +32,7 @@ use Rattle.messages.specs.declared.Body.{Body}
 use Rattle.messages.specs.declared.Message.{Message}
 use Rattle.messages.proofs.Bodies.{allowed-first, allowed-rest}
 use Rattle.bodies.proofs.Theorems.{body-complete}
-use Rattle.line.specs.Line.{lineOf, isLongPlan, isHead, hasSize, isAllowed}
+use Rattle.line.specs.Line.{lineOf, isHead, hasSize, isAllowed}
 use Rattle.line.proofs.Heads.{headed-parts}
 use Rattle.line.proofs.Steps.{headIn, Allows, allowed-allows}
 use Rattle.sizes.specs.Size.{AllAsks, fieldsText, sizedAll, sizedFields, sizedBody, sizedLine}

@@ -1,10 +1,10 @@
 // How long a message's line will be, or that no line has these values (answer 16).
+use counts::field_count;
+use counts::has_fields;
+use counts::has_route;
+use counts::is_count;
 use kinds::ROUTE;
 use kinds::Value;
-use layout::field_count;
-use layout::has_fields;
-use layout::has_route;
-use layout::is_count;
 use layout::kinds_of;
 use messages::Body;
 use messages::Message;
@@ -202,7 +202,7 @@ pub fn size_line(m: Message, free: &[u8]) -> Sized
     if size > 2048 {
         return Sized::NotOne;
     }
-    if line::is_long_plan(type_in(body), size) {
+    if counts::is_long_plan(type_in(body), size) {
         return Sized::NotOne;
     }
     Sized::Bytes(size)

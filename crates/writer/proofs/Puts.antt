@@ -17,7 +17,7 @@ use Rattle.kinds.specs.Field.{leftOf, shown}
 use Rattle.kinds.specs.declared.Value.{Value}
 use Rattle.heads.specs.declared.MessageType.{MessageType}
 use Rattle.table.specs.Show.{textsFrom, allowedFrom}
-use Rattle.layout.specs.Table.{isCount}
+use Rattle.counts.specs.Table.{isCount}
 use Rattle.layout.proofs.Tables.{table-few}
 use Rattle.messages.specs.Body.{typeIn, fieldCount, valuesIn}
 use Rattle.messages.specs.Allowed.{isWhole, kindsIn, bodyText, isFielded, isBody}

@@ -1,7 +1,7 @@
 // A message written as its line: what it takes is known before a byte is written.
+use counts::field_count;
+use counts::has_fields;
 use kinds::Value;
-use layout::field_count;
-use layout::has_fields;
 use layout::kinds_of;
 use messages::Body;
 use messages::Message;

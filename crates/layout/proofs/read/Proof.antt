@@ -7,7 +7,7 @@ use Rattle.text.proofs.Logic.{so, not-so}
 use Rattle.spacing.specs.Body.{countOf}
 use Rattle.spacing.specs.declared.Counted.the-variants as counted
 use Rattle.table.proofs.Ways.{through}
-use Rattle.layout.specs.Table.{isCount}
+use Rattle.counts.specs.Table.{isCount}
 use Rattle.layout.proofs.Ways.{by-wrong, by-not, by-count, count-dotted}
 use borrow.Author.Needs.{needs}
 use Rattle.layout.proofs.read.Statement.{statement}

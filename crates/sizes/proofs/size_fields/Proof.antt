@@ -8,7 +8,7 @@ use lib.ListN.{length}
 use denote.Ref.{now}
 use borrow.Author.Tests.{eq-eqb, ne-eqb}
 use Rattle.text.proofs.Logic.{so, not-so}
-use Rattle.layout.specs.Table.{isCount}
+use Rattle.counts.specs.Table.{isCount}
 use Rattle.messages.specs.Body.{typeIn, fieldCount, valuesIn, spare, marksIn}
 use Rattle.messages.specs.Allowed.{hasRoute, allNone, kindsIn}
 use Rattle.sizes.specs.Size.{sizedAll}

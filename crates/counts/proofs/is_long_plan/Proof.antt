@@ -1,8 +1,8 @@
--- `line::is_long_plan` meets its contract. Assumes nothing.
-use Rattle.line.proofs.Ways.{long-plan, no-plan}
+-- `counts::is_long_plan` meets its contract. Assumes nothing.
+use Rattle.counts.proofs.Ways.{long-plan, no-plan}
 use borrow.Author.Needs.{needs}
-use Rattle.line.proofs.is_long_plan.Statement.{statement}
-use Rattle.line.proofs.is_long_plan.Tie as tie
+use Rattle.counts.proofs.is_long_plan.Statement.{statement}
+use Rattle.counts.proofs.is_long_plan.Tie as tie
 
 returns : tie.Need-returns
 returns c = rw (c .enum-told .given .1) (long-plan (c .before .before .args .n))

@@ -1,8 +1,8 @@
--- `layout::is_af_count` meets its contract. Assumes nothing.
+-- `counts::is_af_count` meets its contract. Assumes nothing.
 use borrow.Author.Tests.{le-leb, lt-leb}
-use Rattle.layout.specs.Table.{isCount}
-use Rattle.layout.proofs.is_af_count.Statement.{statement}
-use Rattle.layout.proofs.is_af_count.Tie as tie
+use Rattle.counts.specs.Table.{isCount}
+use Rattle.counts.proofs.is_af_count.Statement.{statement}
+use Rattle.counts.proofs.is_af_count.Tie as tie
 
 returns : tie.Need-returns
 unfolding isCount

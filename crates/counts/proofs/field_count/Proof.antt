@@ -1,8 +1,8 @@
--- `layout::field_count` meets its contract. Assumes nothing.
-use Rattle.layout.specs.Table.{countWith}
+-- `counts::field_count` meets its contract. Assumes nothing.
+use Rattle.counts.specs.Table.{countWith}
 use borrow.Author.Needs.{needs}
-use Rattle.layout.proofs.field_count.Statement.{statement}
-use Rattle.layout.proofs.field_count.Tie as tie
+use Rattle.counts.proofs.field_count.Statement.{statement}
+use Rattle.counts.proofs.field_count.Tie as tie
 
 returns : tie.Need-returns
 unfolding countWith

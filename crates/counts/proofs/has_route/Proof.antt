@@ -1,7 +1,7 @@
--- `layout::has_route` meets its contract. Assumes nothing.
+-- `counts::has_route` meets its contract. Assumes nothing.
 use borrow.Author.Needs.{needs}
-use Rattle.layout.proofs.has_route.Statement.{statement}
-use Rattle.layout.proofs.has_route.Tie as tie
+use Rattle.counts.proofs.has_route.Statement.{statement}
+use Rattle.counts.proofs.has_route.Tie as tie
 
 returns : tie.Need-returns
 returns c = rw (c .enum-told .given .1)

@@ -1,8 +1,8 @@
--- `layout::has_fields` meets its contract. Assumes nothing.
-use Rattle.layout.proofs.Ways.{counts-fields}
+-- `counts::has_fields` meets its contract. Assumes nothing.
+use Rattle.counts.proofs.Ways.{counts-fields}
 use borrow.Author.Needs.{needs}
-use Rattle.layout.proofs.has_fields.Statement.{statement}
-use Rattle.layout.proofs.has_fields.Tie as tie
+use Rattle.counts.proofs.has_fields.Statement.{statement}
+use Rattle.counts.proofs.has_fields.Tie as tie
 
 returns : tie.Need-returns
 returns c = rw (c .field-count .ensures) (counts-fields _)

@@ -1,8 +1,8 @@
--- `layout::is_count` meets its contract. Assumes nothing.
-use Rattle.layout.proofs.Ways.{one-count}
+-- `counts::is_count` meets its contract. Assumes nothing.
+use Rattle.counts.proofs.Ways.{one-count}
 use borrow.Author.Needs.{needs}
-use Rattle.layout.proofs.is_count.Statement.{statement}
-use Rattle.layout.proofs.is_count.Tie as tie
+use Rattle.counts.proofs.is_count.Statement.{statement}
+use Rattle.counts.proofs.is_count.Tie as tie
 
 returns : tie.Need-returns
 returns c = rw (c .is-af-count .ensures, c .before .enum-told .given .1)
