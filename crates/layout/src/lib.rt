@@ -6,21 +6,39 @@ ghost use mathlib.Core.Path.{_≡_};
 ghost use Rattle.table.specs.Read.{padded};
 ghost use Rattle.layout.specs.Table.{dotted, answerBy, valuesBy, routeBy};
 
-// The table: the kinds of each type's fields in order, of an AF those with eight amendments, and dots after them.
+// The table, AF to UZ: the kinds of each type's fields in order, of an AF those with eight amendments, and dots after them.
+const AF: [u8; 19] = *b"IPPBWBWBWBWBWBWBWBW";
+
+const AZ: [u8; 19] = *b"IPPA...............";
+
+const DZ: [u8; 19] = *b"IZPTPC.............";
+
+const FZ: [u8; 19] = *b"IZSFHLR............";
+
+const RZ: [u8; 19] = *b"IPP................";
+
+const TZ: [u8; 19] = *b"JGMO...............";
+
+const UZ: [u8; 19] = *b"IZSFHLR............";
+
+// RT, TO and HB bodies are kept whole.
+const WHOLE: [u8; 19] = *b"...................";
+
+// The row of a type.
 pub fn kinds_of(t: MessageType) -> [u8; 19]
     ensures { λ r. ⌜ r ≡ dotted t ⌝ }
 {
     match t {
-        MessageType::Af => *b"IPPBWBWBWBWBWBWBWBW",
-        MessageType::Az => *b"IPPA...............",
-        MessageType::Dz => *b"IZPTPC.............",
-        MessageType::Fz => *b"IZSFHLR............",
-        MessageType::Rz => *b"IPP................",
-        MessageType::Tz => *b"JGMO...............",
-        MessageType::Uz => *b"IZSFHLR............",
-        MessageType::Rt => *b"...................",
-        MessageType::To => *b"...................",
-        MessageType::Hb => *b"...................",
+        MessageType::Af => AF,
+        MessageType::Az => AZ,
+        MessageType::Dz => DZ,
+        MessageType::Fz => FZ,
+        MessageType::Rz => RZ,
+        MessageType::Tz => TZ,
+        MessageType::Uz => UZ,
+        MessageType::Rt => WHOLE,
+        MessageType::To => WHOLE,
+        MessageType::Hb => WHOLE,
     }
 }
 
