@@ -3,9 +3,9 @@ use mathlib.Core.Path.{_≡_, refl, sym, ap, _∙_}
 use mathlib.Core.Bool.{Bool, true, false, cond, not}
 use mathlib.Core.List.{List, [], _∷_, _++_, map, append-nil}
 use Prim.Native.Nat.{ℕ}
-use lib.Dec.{leb}
+use lib.Dec.{eqb, leb}
 use lib.ListN.{length, take, drop}
-use borrow.Author.Tests.{not-true}
+use borrow.Author.Tests.{eqb-true, not-true}
 use Rattle.text.proofs.Logic.{and-left, and-right}
 use Rattle.shapes.specs.Cut.{upTo, has}
 use Rattle.shapes.specs.Pieces.{pieces, eachAfter, noneHas}
@@ -13,6 +13,7 @@ use Rattle.shapes.proofs.Joins.{no-cut}
 use Rattle.shapes.proofs.Pieces.{piecesAfter, pieces-turn, pieces-text, pieces-none, prefixed, pieces-free, pieces-cut, pieces-one}
 use Rattle.cutter.specs.Feed.{lineFeed, most, feedOf, allButLast, last, textsOf, restOf, Line, Whole, TooLong, lineOf, linesOf}
 use Rattle.cutter.specs.State.{State, Bytes, Mark, stateOf, more}
+use Rattle.cutter.specs.Told.{ended, told, left}
 use Rattle.cutter.proofs.States.{more-more}
 
 -- ---- the lines and the rest have that feed
@@ -65,20 +66,6 @@ feed-only ls rest e h = let r = split-last ls rest in rw (only-pieces ls rest e 
 
 -- ---- the lines that come from a state, and the state that is left
 
-abbrev pub ended : State → Line
-ended (Bytes l) = Whole l
-ended Mark = TooLong
-
-unfoldable pub told : State → List (List ℕ) → List Line
-told h [] = []
-told h (p ∷ []) = []
-told h (p ∷ (q ∷ ps)) = ended (more h p) ∷ told (Bytes []) (q ∷ ps)
-
-unfoldable pub left : State → List (List ℕ) → State
-left h [] = h
-left h (p ∷ []) = more h p
-left h (p ∷ (q ∷ ps)) = left (Bytes []) (q ∷ ps)
-
 -- after bytes with no line feed, the same from what they make of the state
 prefix-same : (h : State) (s q : List ℕ) (ps : List (List ℕ))
     → (told h (prefixed s (q ∷ ps)) ≡ told (more h s) (q ∷ ps)) × (left h (prefixed s (q ∷ ps)) ≡ left (more h s) (q ∷ ps))
@@ -125,3 +112,32 @@ left-rest (p ∷ (q ∷ ps)) = left-rest (q ∷ ps)
 pub start-rest : (feed : List ℕ) → left (Bytes []) (pieces lineFeed feed) ≡ stateOf (restOf feed)
 unfolding restOf
 start-rest feed = left-rest (pieces lineFeed feed)
+
+-- ---- a text and then another: the lines of the first, and then those that come from the state that it leaves
+
+no-feed : (x : ℕ) → eqb x lineFeed ≡ false → has lineFeed (x ∷ []) ≡ false
+unfolding has upTo
+no-feed x q = rw q
+
+-- what is said of two texts from a state
+abbrev Then : State → List ℕ → List ℕ → Type 0
+Then h a b =
+    (told h (pieces lineFeed (a ++ b)) ≡ told h (pieces lineFeed a) ++ told (left h (pieces lineFeed a)) (pieces lineFeed b))
+    × (left h (pieces lineFeed (a ++ b)) ≡ left (left h (pieces lineFeed a)) (pieces lineFeed b))
+
+pub feed-then : (h : State) (a b : List ℕ) → Then h a b
+unfolding told left pieces has upTo
+feed-then h [] b = free-same h [] b refl
+feed-then h (x ∷ a) b = go (eqb x lineFeed) refl (feed-then (Bytes []) a b) (feed-then (more h (x ∷ [])) a b)
+  where
+    go : (t : Bool) → eqb x lineFeed ≡ t → Then (Bytes []) a b → Then (more h (x ∷ [])) a b → Then h (x ∷ a) b
+    go true q k k′ =
+        let e = eqb-true x lineFeed q in
+        let u = cut-same h [] (a ++ b) refl in
+        let v = cut-same h [] a refl in
+        rw e (u .0 ∙ rw (v .0, v .1, k .0), u .1 ∙ rw (v .1) (k .1))
+    go false q k′ k =
+        let f = no-feed x q in
+        let u = free-same h (x ∷ []) (a ++ b) f in
+        let v = free-same h (x ∷ []) a f in
+        (u .0 ∙ rw (v .0, v .1) (k .0), u .1 ∙ rw (v .1) (k .1))

@@ -17,9 +17,10 @@ use Rattle.cutter.specs.Calls.{atStart, heldClosed, takenOf, cutOf, held
 use Rattle.cutter.specs.Cases.{toldBy, CutCase, NotAllowed, NoLineFeed, LineEnded, OverlongEnded, CutIs, EndCase, EndNotAllowed, AtLineStart, InsideLine}
 use Rattle.cutter.specs.Run.{concat, atEnd, Fed, done, used, called}
 use Rattle.cutter.specs.declared.Begun.{Begun}
+use Rattle.cutter.specs.Told.{ended, told, left}
 use Rattle.cutter.proofs.States.{allowed-size, start-allowed, grown, more-none}
 use Rattle.cutter.proofs.Cases.{cut-case}
-use Rattle.cutter.proofs.Feeds.{ended, told, left, free-same, cut-same}
+use Rattle.cutter.proofs.Feeds.{free-same, cut-same}
 
 -- ---- an allowed state stays allowed
 
