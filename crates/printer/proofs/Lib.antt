@@ -1,0 +1,4 @@
+pub mod Counts
+pub mod Boards
+pub mod Cases
+pub mod Unique

@@ -1,0 +1,116 @@
+-- `slips::line_size` meets its contract: what is counted and what is left make the whole, and that is short. Assumes nothing.
+use mathlib.Core.Path.{_≡_}
+use mathlib.Core.Bool.{true}
+use mathlib.Core.List.{List}
+use Prim.Native.Nat.{ℕ, _+_, _-_, _≤_, _<_}
+use native.Mathlib.Omega.{arith}
+use borrow.Author.Needs.{needs}
+use lib.ListN.{length, getD, drop}
+use Rattle.text.specs.Text.{isPacked}
+use Rattle.slips.specs.Parts.{partText, slipText, Eight}
+use Rattle.slips.proofs.Lines.{next-size, last-size, part-packed, eight-short}
+use Rattle.slips.proofs.line_size.Statement.{statement}
+use Rattle.slips.proofs.line_size.Tie as tie
+
+record Inv (ws : List ℕ) (n k : ℕ) : Type 0 where
+  eight : Eight ws
+  few : k ≤ 7
+  size : n + length (slipText (drop k ws)) ≡ length (slipText ws)
+
+start : (ws : List ℕ) → Eight ws → Inv ws 0 0
+start ws e = record { eight = e; few = omega arith; size = omega arith }
+
+module _ {ws : List ℕ} {n k : ℕ} (v : Inv ws n k) where
+  short : length (slipText ws) ≤ 104
+  short = eight-short ws (v .eight)
+
+  packed : isPacked (getD ws k 0) ≡ true
+  packed = part-packed ws k (v .eight .good) (omega (arith, v .eight .count))
+
+  module _ (more : k < 7) where
+    next : n + (length (partText (getD ws k 0)) + 1) + length (slipText (drop (k + 1) ws)) ≡ length (slipText ws)
+    next = omega (arith, v .size, next-size ws k (omega (arith, v .eight .count)))
+
+    again : {m : ℕ} → m ≡ length (partText (getD ws k 0)) → Inv ws (n + (m + 1)) (k + 1)
+    again e = record { eight = v .eight; few = omega arith; size = omega (arith, next) }
+
+  module _ (over : 7 ≤ k) where
+    at-last : k ≡ 7
+    at-last = omega arith
+
+    packed-last : isPacked (getD ws 7 0) ≡ true
+    packed-last = rw at-last at packed
+
+    done : n + length (partText (getD ws 7 0)) + 1 ≡ length (slipText ws)
+    done =
+        let e : n + length (slipText (drop 7 ws)) ≡ length (slipText ws) = rw at-last at (v .size) in
+        omega (arith, last-size ws 7 (omega (arith, v .eight .count)))
+
+abbrev Inv-loop : tie.InvT-loop
+Inv-loop words n₀ k₀ n k = Inv words n k
+
+abbrev μ-loop : tie.MeasureT-loop
+μ-loop words n₀ k₀ n k = 7 - k
+
+loop-holds : tie.Need-loop-holds Inv-loop μ-loop
+loop-holds c = start _ (c .before .pre)
+
+mul-part-size : tie.Need-mul-part-size Inv-loop μ-loop
+mul-part-size c = omega arith
+
+shared-slice-read-part-size : tie.Need-shared-slice-read-part-size Inv-loop μ-loop
+shared-slice-read-part-size c = let l = c .before in omega (arith, l .before .loop .inv .eight .count)
+
+part-size-requires : tie.Need-part-size-requires Inv-loop μ-loop
+part-size-requires c κs = packed (c .before .before .loop .inv)
+
+add-n : tie.Need-add-n Inv-loop μ-loop
+add-n c = let l = c .before .before in omega (arith, c .part-size .ensures, next (l .before .loop .inv) (l .loop-test .taken), short (l .before .loop .inv))
+
+add-n-2 : tie.Need-add-n-2 Inv-loop μ-loop
+add-n-2 c = let l = c .before .before in omega (arith, c .part-size .ensures, next (l .before .loop .inv) (l .loop-test .taken), short (l .before .loop .inv))
+
+add-k : tie.Need-add-k Inv-loop μ-loop
+add-k c = omega arith
+
+loop-less : tie.Need-loop-less Inv-loop μ-loop
+loop-less c = omega arith
+
+loop-again : tie.Need-loop-again Inv-loop μ-loop
+loop-again c = let l = c .before .before in again (l .before .loop .inv) (l .loop-test .taken) (c .part-size .ensures)
+
+shared-slice-read-part-size-2 : tie.Need-shared-slice-read-part-size-2 Inv-loop μ-loop
+shared-slice-read-part-size-2 c = let l = c .before in omega (arith, l .before .loop .inv .eight .count)
+
+part-size-requires-2 : tie.Need-part-size-requires-2 Inv-loop μ-loop
+part-size-requires-2 c κs = let l = c .before in packed-last (l .before .loop .inv) (l .loop-test .left)
+
+add-result : tie.Need-add-result Inv-loop μ-loop
+add-result c = let l = c .before .before in omega (arith, c .part-size2 .ensures, done (l .before .loop .inv) (l .loop-test .left), short (l .before .loop .inv))
+
+add-result-2 : tie.Need-add-result-2 Inv-loop μ-loop
+add-result-2 c = let l = c .before .before in omega (arith, c .part-size2 .ensures, done (l .before .loop .inv) (l .loop-test .left), short (l .before .loop .inv))
+
+returns : tie.Need-returns Inv-loop μ-loop
+returns c = let l = c .before .before in omega (arith, c .part-size2 .ensures, done (l .before .loop .inv) (l .loop-test .left))
+
+pub line-size-spec : {M : Type 1} → statement M
+line-size-spec =
+    tie.close
+    (tie.spec
+    Inv-loop
+    μ-loop
+    loop-holds
+    mul-part-size
+    shared-slice-read-part-size
+    part-size-requires
+    add-n
+    add-n-2
+    add-k
+    loop-less
+    loop-again
+    shared-slice-read-part-size-2
+    part-size-requires-2
+    add-result
+    add-result-2
+    returns)
