@@ -1,0 +1,6 @@
+pub mod Tallies
+pub mod Ways
+pub mod Turns
+pub mod Steps
+pub mod Theorems
+pub mod Unique

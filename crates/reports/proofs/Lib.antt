@@ -1,0 +1,4 @@
+pub mod Joins
+pub mod States
+pub mod Taken
+pub mod Theorems
