@@ -1,9 +1,9 @@
 -- THE LAWS of decimals, for every number below 10 to the 20th, and so for every word: the digits of n are digits, they have the number n and
--- no zero in front, and no other digits do. Assumes nothing.
+-- no zero in front, and no other digits do. Of any number at all they are at most twenty. Assumes nothing.
 use mathlib.Core.Path.{_≡_, refl, sym, _∙_}
 use mathlib.Core.Bool.{Bool, true, false, not, Bool·beq}
 use mathlib.Core.List.{List, [], _∷_}
-use Prim.Native.Nat.{ℕ, suc, _+_, _-_, _*_, _/_, _^_, _≤_, _<_}
+use Prim.Native.Nat.{ℕ, zero, suc, _+_, _-_, _*_, _/_, _^_, _≤_, _<_}
 use native.Mathlib.Nat.{pow-succ', one-le-pow, pow-le-pow-right, mul-le-mul-right, div-lt-iff-lt-mul, le-div-iff-mul-le}
 use native.Mathlib.Omega.{arith}
 use lib.Dec.{leb, ltb, eqb, lit≤}
@@ -17,7 +17,7 @@ use Rattle.text.proofs.Logic.{and-left, true-false, beq-eq, below, below-at}
 use Rattle.text.proofs.Codes.{code-high, class-all, digits-all}
 use Rattle.text.proofs.Numbers.{number-lt, number-padded, padded-number, padded-digits}
 use Rattle.decimals.specs.Decimal.{widthBy, widthOf, decimal, noZeroFront}
-use Rattle.decimals.proofs.Digits.{width-one, width-turn, width-some, width-enough, width-least, byte-digit}
+use Rattle.decimals.proofs.Digits.{width-one, width-turn, width-some, width-enough, width-least, byte-digit, decimal-long}
 
 -- ---- the digits 0 to 9 are the digits to the base 10
 
@@ -77,6 +77,20 @@ module _ (n : ℕ) (h : n < 10 ^ 20) where
       go false q =
           let l = ltb-false n 10 q in
           front (widthBy 18 (n / 10) - 1) (omega (arith, width-turn 18 n l, width-some 18 (n / 10))) l
+
+-- ---- at most twenty, of any number
+
+width-most : (k n : ℕ) → widthBy k n ≤ suc k
+unfolding widthBy
+width-most zero n = omega arith
+width-most (suc k) n = go (ltb n 10) refl (width-most k (n / 10))
+  where
+    go : (b : Bool) → ltb n 10 ≡ b → widthBy k (n / 10) ≤ suc k → widthBy (suc k) n ≤ suc (suc k)
+    go true q h = rw q (omega arith)
+    go false q h = rw q (omega arith)
+
+pub decimal-short : (n : ℕ) → length (decimal n) ≤ 20
+decimal-short n = rw decimal-long (width-most 19 n)
 
 -- ---- no other digits
 

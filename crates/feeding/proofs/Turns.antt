@@ -77,7 +77,7 @@ unfolding eventOf lineEvent
 line-is (Whole s) = line-event s (askedOf s) refl
 line-is TooLong = refl
 
-rows-allowed : (rs : List Row) (ls : List Line) → isRows rs ≡ true → isRows (rowsBy rs ls) ≡ true
+pub rows-allowed : (rs : List Row) (ls : List Line) → isRows rs ≡ true → isRows (rowsBy rs ls) ≡ true
 unfolding rowsBy
 rows-allowed rs [] b = b
 rows-allowed rs (l ∷ ls) b = rows-allowed (rowsAfter rs (eventOf l)) ls (step-board rs (eventOf l) (line-is l) b)

@@ -21,10 +21,11 @@ use Rattle.board.proofs.Allowed.{cap-is, parts}
 use Rattle.slips.specs.Text.{lineFeed, lineText, rowText, rowsText}
 use Rattle.slips.proofs.Widths.{row-width}
 use Rattle.decimals.specs.Decimal.{decimal}
+use Rattle.decimals.proofs.Laws.{decimal-short}
 use Rattle.printer.specs.Text.{boardText}
 use Rattle.printer.specs.Print.{textIn}
 use Rattle.printer.specs.Asks.{counted}
-use Rattle.printer.proofs.Counts.{decimal-short, counted-size, flights-line}
+use Rattle.printer.proofs.Counts.{counted-size, flights-line}
 
 -- what is written at the start of the rest that is lent on, from m, is written at m
 pub lend-on : (l us : List ℕ) (m : ℕ) {ys : List ℕ} → ys ≡ spliced (take (length l - m) (drop m l)) 0 us → putMid m (length l - m) l ys ≡ spliced l m us
@@ -45,7 +46,7 @@ hold-at (suc n) (suc i) ws e h =
     ap isRowWords (sym (drop-drop (W * i) W ws ∙ ap (λ (k : ℕ). drop k ws) z))
     ∙ hold-at n i (drop W ws) (and-right (isRowWords ws) (rowsHold n (drop W ws)) e) (le-of-suc-le-suc h)
 
-rows-width : (rs : List Row) → allRows rs ≡ true → length (rowsText rs) ≤ 71 * length rs
+pub rows-width : (rs : List Row) → allRows rs ≡ true → length (rowsText rs) ≤ 71 * length rs
 unfolding allRows rowsText
 rows-width [] e = omega arith
 rows-width (r ∷ rs) e =

@@ -1,34 +1,20 @@
 -- A name, a number and a byte written one after the other; the lines that are made of them. Assumes nothing.
 use mathlib.Core.Path.{_≡_, refl, sym, ap, _∙_}
-use mathlib.Core.Bool.{Bool, true, false, cond}
+use mathlib.Core.Bool.{true}
 use mathlib.Core.List.{List, [], _∷_, _++_, append-assoc}
-use Prim.Native.Nat.{ℕ, zero, suc, _+_, _/_, _≤_, _<_}
+use Prim.Native.Nat.{ℕ, _+_, _≤_, _<_}
 use native.Mathlib.Omega.{arith}
-use lib.Dec.{ltb}
 use lib.ListN.{length, set, length-append}
 use Rattle.text.specs.Bytes.{bytes}
 use Rattle.text.specs.Text.{spliced, writtenBytes}
 use Rattle.text.proofs.Laws.{has-room}
 use Rattle.text.proofs.Splice.{length-spliced, spliced-next, next-store}
 use Rattle.slips.specs.Text.{space, lineFeed, lineText}
-use Rattle.decimals.specs.Decimal.{widthBy, widthOf, decimal}
-use Rattle.decimals.proofs.Digits.{decimal-long}
+use Rattle.decimals.specs.Decimal.{decimal}
 use Rattle.printer.specs.Text.{countsText}
 use Rattle.printer.specs.Asks.{counted}
 
 -- ---- how long they are
-
-width-most : (k n : ℕ) → widthBy k n ≤ suc k
-unfolding widthBy
-width-most zero n = omega arith
-width-most (suc k) n = go (ltb n 10) refl (width-most k (n / 10))
-  where
-    go : (b : Bool) → ltb n 10 ≡ b → widthBy k (n / 10) ≤ suc k → widthBy (suc k) n ≤ suc (suc k)
-    go true q h = rw q (omega arith)
-    go false q h = rw q (omega arith)
-
-pub decimal-short : (n : ℕ) → length (decimal n) ≤ 20
-decimal-short n = rw decimal-long (width-most 19 n)
 
 pub counted-size : (name : List ℕ) (n after : ℕ) → length (counted name n after) ≡ length name + length (decimal n) + 1
 unfolding counted

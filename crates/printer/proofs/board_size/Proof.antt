@@ -9,8 +9,8 @@ use lib.ListN.{length, getD, drop}
 use Rattle.rows.specs.Row.{isRowWords}
 use Rattle.board.specs.Board.{W, isAllowed}
 use Rattle.decimals.specs.Decimal.{decimal}
+use Rattle.decimals.proofs.Laws.{decimal-short}
 use Rattle.printer.specs.Print.{textIn}
-use Rattle.printer.proofs.Counts.{decimal-short}
 use Rattle.printer.proofs.Boards.{leftOf, lineAt, left-end, left-size, flights-few, board-long, row-held, text-size, text-short}
 use Rattle.printer.proofs.board_size.Statement.{statement}
 use Rattle.printer.proofs.board_size.Tie as tie

@@ -10,8 +10,9 @@ use Rattle.text.specs.Text.{spliced, writtenNext, writtenBytes}
 use Rattle.text.specs.declared.Written.the-variants.{Next}
 use Rattle.text.proofs.Laws.{has-room, no-room-told, room-told}
 use Rattle.decimals.specs.Decimal.{decimal}
+use Rattle.decimals.proofs.Laws.{decimal-short}
 use Rattle.printer.specs.Text.{countsText}
-use Rattle.printer.proofs.Counts.{decimal-short, counts-size}
+use Rattle.printer.proofs.Counts.{counts-size}
 use Rattle.printer.proofs.print_counts.Statement.{statement}
 use Rattle.printer.proofs.print_counts.Tie as tie
 
