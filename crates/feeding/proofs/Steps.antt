@@ -102,8 +102,7 @@ module _ (board held : List ℕ) (begun : Begun) (rest : List ℕ) (b : isBoard 
       let s = cut-state held begun rest a in
       let l : k ≡ lineFeeds (readIn 1 rest) =
       e ∙ same-count (done .answer) (lineIn (done .answer) held′ rest) ∙ ap length (c .1) ∙ lines-told (stateIn held begun) (readIn 1 rest) in
-      let g : done .begun ≡ begunFed held begun (pieces lineFeed (readIn 1 rest)) = ap (λ (x : AfterCut). x .begun) (d .0) ∙ s .0 in
-      (
+      let g : done .begun ≡ begunFed held begun (pieces lineFeed (readIn 1 rest)) = ap (λ (x : AfterCut). x .begun) (d .0) ∙ s .0 in (
         rw (fed-ready board held begun b a 1 rest, c .0, g, l, o .0, c .1),
         (rw (board-ready board held begun b a 1 rest) (rw (c .1) at (o .1)), rw (held-ready board held begun b a 1 rest) (d .1 .0 ∙ s .1)),
       )

@@ -96,7 +96,13 @@ fn step(board: &mut [u64], held: &mut [u8], begun: Begun, rest: &[u8]) -> AfterF
 }
 
 // Line by line, on a board and a cutter state that are known to be allowed.
-fn feed_allowed(board: &mut [u64], held: &mut [u8], begun: Begun, most: usize, part: &[u8]) -> AfterFeed
+fn feed_allowed(
+    board: &mut [u64],
+    held: &mut [u8],
+    begun: Begun,
+    most: usize,
+    part: &[u8],
+) -> AfterFeed
     requires { ⌜ isBoard (now board) ≡ true ⌝ }
     requires { ⌜ isAllowed (now held) begun ≡ true ⌝ }
     ensures { λ r. ⌜ r ≡ fedOf (now (board .entry)) (now (held .entry)) begun most (now (part .entry)) ⌝ }

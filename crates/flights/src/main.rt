@@ -2,7 +2,8 @@
 use libc::STDIN_FILENO;
 use libc::STDOUT_FILENO;
 
-const HELP: [u8; 469] = *b"flights: prints the flight board of a feed\n\n  flights [FILE]    reads FILE, or standard input where no file is named\n\nThe first line says how many FLIGHTS are listed. Each has a line, in the order of\nits key: key, departure, destination and clock of the latest departure or arrival,\nthen stamp, speed, level and position of the latest track; a hyphen for each part\nof what there is none of. The last line says how many LINES were read, and how\nmany of them were TAKEN.\n";
+const HELP: [u8; 469] =
+    *b"flights: prints the flight board of a feed\n\n  flights [FILE]    reads FILE, or standard input where no file is named\n\nThe first line says how many FLIGHTS are listed. Each has a line, in the order of\nits key: key, departure, destination and clock of the latest departure or arrival,\nthen stamp, speed, level and position of the latest track; a hyphen for each part\nof what there is none of. The last line says how many LINES were read, and how\nmany of them were TAKEN.\n";
 
 fn is_help(word: &[u8]) -> bool {
     if word.len() != 6 {

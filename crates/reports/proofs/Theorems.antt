@@ -30,6 +30,7 @@ use Rattle.cutter.proofs.States.{start-allowed}
 use Rattle.cutter.proofs.Feeds.{feed-then, start-lines}
 use Rattle.feeding.specs.Tally.{rowsBy, takenBy, lineFeeds}
 use Rattle.feeding.specs.Fed.{readIn, linesFed, fedWith, fedOf, boardFed, heldAfter}
+use Rattle.feeding.proofs.Tallies.{feeds-most, lines-told, taken-le}
 use Rattle.feeding.proofs.Turns.{fed-ready, board-ready, held-ready, board-still, held-still, words-show}
 use Rattle.reports.specs.Report.{rowsAfterFeed, linesIn, takenIn, reportOf}
 use Rattle.reports.specs.Run.{Read, begin, go-on, Prints, Counts}
@@ -102,6 +103,14 @@ read-stands limit (go-on {feed} {board} {held} {begun} {lines} {taken} part p c)
       taken-are = rw (c .result, z) (taken-both board held begun b a n part s (readIn n part) refl (q .state) taken (q .rows) (q .taken-are));
     }
 
+-- no more lines than the limit, and no more taken than lines
+pub read-bounds : (limit : ℕ) {feed board held : List ℕ} {begun : Begun} {lines taken : ℕ} → Read limit feed board held begun lines taken → (lines ≤ limit) × (taken ≤ lines)
+read-bounds limit {feed} p =
+    let q = read-stands limit p in
+    let s = readIn limit feed in
+    let n : length (linesOf s) ≡ lineFeeds s = ap length (sym (start-lines s)) ∙ lines-told (Bytes []) s in
+    (omega (arith, q .lines-are, feeds-most limit feed), omega (arith, q .lines-are, q .taken-are, taken-le [] (linesOf s), n))
+
 -- ---- printed
 
 -- the promises of `print` and `print_counts` in the source
@@ -143,7 +152,7 @@ pub report-printed : (limit : ℕ) {feed board held : List ℕ} {begun : Begun} 
     → (r : Printed) (out₁ : List ℕ) → Prints board out at r out₁
     → (r ≡ printed.Next (at + length (textIn board)))
     × ((w : Written) (out₂ : List ℕ) → Counts lines taken out₁ (at + length (textIn board)) w out₂
-        → (w ≡ written.Next (at + length (reportOf limit feed))) × (out₂ ≡ spliced out at (reportOf limit feed)))
+    → (w ≡ written.Next (at + length (reportOf limit feed))) × (out₂ ≡ spliced out at (reportOf limit feed)))
 unfolding reportOf
 report-printed limit {feed} {board} {held} {begun} {lines} {taken} p out at room r out₁ c =
     let q = read-stands limit p in

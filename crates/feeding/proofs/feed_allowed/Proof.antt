@@ -64,8 +64,7 @@ module _ {board₀ held₀ : List ℕ} {begun₀ : Begun} {most : ℕ} {part boa
   done : readOf (most - fed .lines) rest ≡ 0
       → (fed ≡ fedOf board₀ held₀ begun₀ most part) × ((board ≡ boardFed board₀ held₀ begun₀ most part) × (held ≡ heldAfter board₀ held₀ begun₀ most part))
   done z =
-      let n = most - fed .lines in
-      (
+      let n = most - fed .lines in (
         sym (plus-none fed (v .answered)) ∙ ap (summed fed) (sym (nothing-fed board held (fed .begun) (v .good) (v .begins) n rest z)) ∙ v .result,
         (sym (nothing-board board held (fed .begun) (v .good) (v .begins) n rest z) ∙ v .words, sym (nothing-held board held (fed .begun) (v .good) (v .begins) n rest z) ∙ v .buffer),
       )
@@ -79,7 +78,7 @@ module _ {board₀ held₀ : List ℕ} {begun₀ : Begun} {most : ℕ} {part boa
   -- one turn more
   module _ (more : fed .used < length part) (fewer : fed .lines ≡ most → ⊥) (r : AfterFeed) (board′ held′ : List ℕ)
       (e : (r ≡ fedOf board held (fed .begun) 1 (take (length part - fed .used) rest))
-          × ((board′ ≡ boardFed board held (fed .begun) 1 (take (length part - fed .used) rest)) × (held′ ≡ heldAfter board held (fed .begun) 1 (take (length part - fed .used) rest)))) where
+      × ((board′ ≡ boardFed board held (fed .begun) 1 (take (length part - fed .used) rest)) × (held′ ≡ heldAfter board held (fed .begun) 1 (take (length part - fed .used) rest)))) where
     result′ : r ≡ fedOf board held (fed .begun) 1 rest
     result′ = rw (rest-all part (fed .used)) at (e .0)
 

@@ -1,0 +1,67 @@
+-- The report in a buffer: written where it has room, and nothing else counts as one. Assumes nothing.
+use mathlib.Core.Path.{_≡_, sym, ap, _∙_, subst}
+use mathlib.Core.Bool.{true}
+use mathlib.Core.List.{List, [], _∷_}
+use Prim.Native.Nat.{ℕ, _+_, _≤_}
+use native.Mathlib.Omega.{arith}
+use lib.ListN.{length, take}
+use denote.Enum.Declared.{tagOf}
+use types.Run.{OneOf, miss}
+use Rattle.text.specs.Text.{spliced, writtenBytes}
+use Rattle.text.specs.declared.Written.{Written}
+use Rattle.text.specs.declared.Written.the-variants as written
+use Rattle.text.proofs.Written.{the-type as the-written}
+use Rattle.text.proofs.Laws.{has-room, next-known}
+use Rattle.text.proofs.Splice.{length-spliced, take-spliced}
+use Rattle.printer.specs.Text.{countsText}
+use Rattle.printer.specs.Print.{textIn}
+use Rattle.printer.specs.declared.Printed.{Printed}
+use Rattle.printer.specs.declared.Printed.the-variants as printed
+use Rattle.printer.proofs.Printed.{the-type as the-printed}
+use Rattle.reports.specs.Report.{reportOf}
+use Rattle.reports.specs.Run.{Prints, Counts}
+use Rattle.reports.proofs.Theorems.{report-printed}
+use Rattle.desks.specs.Day.{limit, ReadTo, Fills}
+use Rattle.desks.specs.declared.Day.{Day}
+
+-- where nothing was written, the code tells only the variant's number
+no-print : (r : Printed) → OneOf (1 ∷ 2 ∷ []) (tagOf the-printed r) → (n : ℕ) → r ≡ printed.Next n → ⊥
+no-print (printed.Next m) h n e = miss (1 ∷ 2 ∷ []) 0 tt h
+no-print printed.NoRoom h n e = let z : _≡_ {A = ℕ} 0 1 = cc in omega arith
+no-print printed.NotAllowed h n e = let z : _≡_ {A = ℕ} 0 1 = cc in omega arith
+
+no-count : (w : Written) → OneOf (1 ∷ 2 ∷ []) (tagOf the-written w) → (n : ℕ) → w ≡ written.Next n → ⊥
+no-count (written.Next m) h n e = miss (1 ∷ 2 ∷ []) 0 tt h
+no-count written.NoRoom h n e = let z : _≡_ {A = ℕ} 0 1 = cc in omega arith
+no-count written.NoText h n e = let z : _≡_ {A = ℕ} 0 1 = cc in omega arith
+
+module _ (board : List ℕ) (d : Day) (out : List ℕ) (r : Printed) (out₁ : List ℕ) (p : Prints board out 0 r out₁) where
+  pub fills-nothing : OneOf (1 ∷ 2 ∷ []) (tagOf the-printed r) → Fills board d out 0 out₁
+  fills-nothing h feed held q room = absurd (no-print r h _ (report-printed limit q out 0 (omega arith) r out₁ p .0))
+
+  module _ (n : ℕ) (e : r ≡ printed.Next n) (w : Written) (out₂ : List ℕ) (k : Counts (d .lines) (d .taken) out₁ n w out₂) where
+    whole : (feed held : List ℕ) → ReadTo feed board held d → length (reportOf limit feed) ≤ length out
+        → (w ≡ written.Next (0 + length (reportOf limit feed))) × (out₂ ≡ spliced out 0 (reportOf limit feed))
+    whole feed held q room =
+        let f = report-printed limit q out 0 (omega arith) r out₁ p in
+        let z : printed.Next n ≡ printed.Next (0 + length (textIn board)) = sym e ∙ f .0 in
+        let y : n ≡ 0 + length (textIn board) = cc in
+        f .1 w out₂ (rw y at k)
+
+    pub fills-none : OneOf (1 ∷ 2 ∷ []) (tagOf the-written w) → Fills board d out 0 out₂
+    fills-none h feed held q room = absurd (no-count w h _ (whole feed held q room .0))
+
+    pub fills-all : (m : ℕ) → w ≡ written.Next m → Fills board d out m out₂
+    fills-all m g feed held q room =
+        let f = whole feed held q room in
+        let z : written.Next m ≡ written.Next (0 + length (reportOf limit feed)) = sym g ∙ f .0 in
+        let y : m ≡ 0 + length (reportOf limit feed) = cc in
+        let x : m ≡ length (reportOf limit feed) = omega arith in
+        (x, rw (f .1) (take-spliced out (reportOf limit feed) m x))
+
+    pub inside : (m : ℕ) → w ≡ written.Next m → m ≤ length out₂
+    inside m g =
+        let c = countsText (d .lines) (d .taken) in
+        let b = next-known c out₁ n {ok = true} {n = m} (sym (k .0) ∙ g) in
+        let y : out₂ ≡ spliced out₁ n c = k .1 ∙ sym (has-room c out₁ n {ok = true} (b .0) (b .2) .1) in
+        omega (arith, ap length y, length-spliced out₁ c n (b .2), b .1)
