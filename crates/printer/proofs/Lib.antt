@@ -2,3 +2,4 @@ pub mod Counts
 pub mod Boards
 pub mod Cases
 pub mod Unique
+pub mod Example

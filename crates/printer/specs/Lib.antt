@@ -1,3 +1,4 @@
 pub mod Text
 pub mod Print
 pub mod Asks
+pub mod Example

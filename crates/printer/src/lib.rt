@@ -41,12 +41,13 @@ fn board_size(board: &[u64]) -> usize
     ensures { λ r. ⌜ r ≡ length (textIn (now (board .entry))) ⌝ }
 {
     let flights = board[0];
-    let n = flights as usize;
+    let mut rows = flights as usize;
     let mut total: usize = 9 + decimals::size(flights);
-    let mut i: usize = 0;
-    while i < n {
-        total += slips::size(board, 1 + 11 * i);
-        i += 1;
+    let mut p: usize = 1;
+    while rows > 0 {
+        total += slips::size(board, p);
+        p += 11;
+        rows -= 1;
     }
     total
 }
@@ -56,13 +57,14 @@ fn put_rows(board: &[u64], out: &mut [u8], at: usize)
     requires { ⌜ RowsAsk (now board) (now out) at ⌝ }
     ensures { λ _. ⌜ now (out .exit) ≡ spliced (now (out .entry)) at (rowsText (rowsOf (now (board .entry)))) ⌝ }
 {
-    let n = board[0] as usize;
+    let mut left = board[0] as usize;
+    let mut p: usize = 1;
     let mut j = at;
-    let mut i: usize = 0;
-    while i < n {
-        let size = slips::put(board, 1 + 11 * i, &mut out[j..]);
+    while left > 0 {
+        let size = slips::put(board, p, &mut out[j..]);
         j += size;
-        i += 1;
+        p += 11;
+        left -= 1;
     }
 }
 

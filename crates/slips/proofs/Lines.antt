@@ -1,6 +1,6 @@
 -- The line of words, part by part: what is left from a part on, written after what stands before it. Assumes nothing.
 use mathlib.Core.Path.{_≡_, refl, sym, ap, _∙_}
-use mathlib.Core.Bool.{Bool, true, false, _&&_}
+use mathlib.Core.Bool.{Bool, true, false}
 use mathlib.Core.List.{List, [], _∷_, _++_, append-assoc}
 use Prim.Native.Nat.{ℕ, zero, suc, _+_, _*_, _≤_, _<_}
 use native.Mathlib.Omega.{arith}
@@ -13,7 +13,7 @@ use Rattle.text.specs.declared.Sized.the-variants.{Bytes, NotOne}
 use Rattle.text.specs.declared.Written.the-variants.{Next, NoRoom, NoText}
 use Rattle.text.proofs.Logic.{and-left, and-right, true-false}
 use Rattle.text.proofs.Laws.{text-short, size-known, size-none, has-room, next-known, no-room-known, no-text-known}
-use Rattle.text.proofs.Splice.{length-spliced, spliced-next, set-spliced, next-store}
+use Rattle.text.proofs.Splice.{spliced-next, set-spliced, next-store}
 use Rattle.shapes.proofs.Laws.{next-byte}
 use Rattle.slips.specs.Text.{space, lineFeed, hyphen, lineText}
 use Rattle.slips.specs.Parts.{partText, slipText, Eight}

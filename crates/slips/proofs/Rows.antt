@@ -1,6 +1,6 @@
 -- THE LAW of `slips`: the line of an allowed row is the line of its words in their order, each the number of a text. Assumes nothing.
 use mathlib.Core.Path.{_≡_, refl, sym, ap, _∙_}
-use mathlib.Core.Bool.{Bool, true, false, _&&_}
+use mathlib.Core.Bool.{Bool, true, _&&_}
 use mathlib.Core.List.{List, [], _∷_, _++_, map, map-append}
 use Prim.Native.Nat.{ℕ, _+_, _≤_}
 use native.Mathlib.Omega.{arith}
@@ -22,7 +22,7 @@ use Rattle.rows.specs.declared.Arrival.{Arrival}
 use Rattle.rows.specs.declared.Track.{Track}
 use Rattle.rows.specs.declared.Row.{Row}
 use Rattle.rows.proofs.Words.{some-word, words-row}
-use Rattle.slips.specs.Text.{hyphen, lineText, arrivalParts, trackParts, rowText}
+use Rattle.slips.specs.Text.{hyphen, arrivalParts, trackParts, rowText}
 use Rattle.slips.specs.Parts.{partText, partsOf, slipText, Eight}
 
 -- ---- what an allowed row is, in parts

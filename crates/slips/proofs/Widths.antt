@@ -1,6 +1,6 @@
 -- How long the line of an allowed row can be: at most 71 bytes, the line feed among them. Assumes nothing.
-use mathlib.Core.Path.{_≡_, refl, ap, _∙_}
-use mathlib.Core.Bool.{Bool, true, false, _&&_, _||_, or-false}
+use mathlib.Core.Path.{_≡_, refl}
+use mathlib.Core.Bool.{true, _&&_}
 use mathlib.Core.List.{List, [], _∷_, _++_}
 use Prim.Native.Char.{code}
 use Prim.Native.Nat.{ℕ, _+_, _≤_}
@@ -8,9 +8,9 @@ use native.Mathlib.Omega.{arith}
 use lib.ListN.{length, length-append}
 use Rattle.text.specs.Bytes.{bytes}
 use Rattle.text.specs.Text.{textOf}
-use Rattle.text.proofs.Logic.{and-left, and-right, either-of, true-false, not-fails}
+use Rattle.text.proofs.Logic.{and-left, either-of, true-false, not-fails}
 use Rattle.shapes.specs.Pieces.{pieces}
-use Rattle.shapes.specs.Picture.{fits, pictures, fitsAny, oneOf, run, part}
+use Rattle.shapes.specs.Picture.{fits, fitsAny, oneOf, part}
 use Rattle.shapes.proofs.Laws.{fits-length, run-most}
 use Rattle.forms.specs.Form.{isStamp, isKey, isClock, isArrival, isPosition}
 use Rattle.forms.specs.Kind.{STAMP, KEY, POINT, ARRIVAL, GROUND-SPEED, TRACK-LEVEL, POSITION, isForm}
@@ -23,8 +23,8 @@ use Rattle.rows.specs.declared.ArrivalSlot.the-variants as arrival
 use Rattle.rows.specs.declared.TrackSlot.{TrackSlot}
 use Rattle.rows.specs.declared.TrackSlot.the-variants as track
 use Rattle.rows.specs.declared.Row.{Row}
-use Rattle.slips.specs.Text.{hyphen, lineText, arrivalParts, trackParts, rowText}
-use Rattle.slips.proofs.Rows.{Allowed, allowed, arrives, tracks}
+use Rattle.slips.specs.Text.{lineText, arrivalParts, trackParts, rowText}
+use Rattle.slips.proofs.Rows.{allowed, arrives, tracks}
 
 -- ---- each form
 

@@ -2,49 +2,45 @@
 use mathlib.Core.Path.{_≡_, ap}
 use mathlib.Core.Bool.{true}
 use mathlib.Core.List.{List}
-use Prim.Native.Nat.{ℕ, _+_, _*_, _-_, _≤_, _<_}
+use Prim.Native.Nat.{ℕ, _+_, _-_, _≤_, _<_}
 use native.Mathlib.Omega.{arith}
 use borrow.Author.Needs.{needs}
-use lib.ListN.{length, getD, drop}
-use Rattle.rows.specs.Row.{isRowWords}
-use Rattle.board.specs.Board.{W, isAllowed}
+use lib.ListN.{length, getD}
+use Rattle.board.specs.Board.{isAllowed}
 use Rattle.decimals.specs.Decimal.{decimal}
 use Rattle.decimals.proofs.Laws.{decimal-short}
 use Rattle.printer.specs.Print.{textIn}
-use Rattle.printer.proofs.Boards.{leftOf, lineAt, left-end, left-size, flights-few, board-long, row-held, text-size, text-short}
+use Rattle.printer.proofs.Boards.{board-long, text-size, text-short, Walk, walk-start, unprinted, line, walk-end, walk-next, walk-inside, row-whole, row-good, walk-size}
 use Rattle.printer.proofs.board_size.Statement.{statement}
 use Rattle.printer.proofs.board_size.Tie as tie
 
-record Inv (l : List ℕ) (total i : ℕ) : Type 0 where
-  good : isAllowed l ≡ true
-  few : i ≤ getD l 0 0
-  size : total + length (leftOf l i) ≡ length (textIn l)
+record Inv (l : List ℕ) (rows total p : ℕ) : Type 0 where
+  walk : Walk l p rows
+  size : total + length (unprinted walk) ≡ length (textIn l)
 
-start : (l : List ℕ) {n : ℕ} → isAllowed l ≡ true → n ≡ length (decimal (getD l 0 0)) → Inv l (9 + n) 0
-start l e told = record { good = e; few = omega arith; size = omega (arith, text-size l e) }
+start : (l : List ℕ) {n : ℕ} → isAllowed l ≡ true → n ≡ length (decimal (getD l 0 0)) → Inv l (getD l 0 0) (9 + n) 1
+start l e told = record { walk = walk-start l e; size = omega (arith, text-size l e) }
 
-module _ {l : List ℕ} {total i : ℕ} (v : Inv l total i) where
-  short : length (textIn l) ≤ 20000
-  short = text-short l (v .good)
+module _ {l : List ℕ} {rows total p : ℕ} (v : Inv l rows total p) where
+  module _ (more : 0 < rows) where
+    -- no sum up to the next row's end is large
+    small : total + length (line (v .walk)) ≤ 20000
+    small = omega (arith, v .size, walk-size (v .walk) more, text-short l (v .walk .good))
 
-  module _ (more : i < getD l 0 0) where
-    asks : (1 + W * i + 11 ≤ length l) × (isRowWords (drop (1 + W * i) l) ≡ true)
-    asks = (omega (arith, board-long l (v .good), flights-few l (v .good)), row-held l (v .good) i more)
+    inside : p + 11 ≤ 2817
+    inside = walk-inside (v .walk) more
 
-    next : total + length (lineAt l i) + length (leftOf l (i + 1)) ≡ length (textIn l)
-    next = omega (arith, v .size, left-size l i more)
+    again : {n : ℕ} → n ≡ length (line (v .walk)) → Inv l (rows - 1) (total + n) (p + 11)
+    again e = record { walk = walk-next (v .walk) more; size = omega (arith, v .size, walk-size (v .walk) more) }
 
-    again : {n : ℕ} → n ≡ length (lineAt l i) → Inv l (total + n) (i + 1)
-    again e = record { good = v .good; few = omega arith; size = omega (arith, next) }
-
-  done : getD l 0 0 ≤ i → total ≡ length (textIn l)
-  done h = omega (arith, v .size, ap length (left-end l i h))
+  done : rows ≤ 0 → total ≡ length (textIn l)
+  done h = omega (arith, v .size, ap length (walk-end (v .walk) h))
 
 abbrev Inv-loop : tie.InvT-loop
-Inv-loop board flights n total₀ i₀ total i = Inv board total i
+Inv-loop board flights rows₀ total₀ p₀ rows total p = Inv board rows total p
 
 abbrev μ-loop : tie.MeasureT-loop
-μ-loop board flights n total₀ i₀ total i = getD board 0 0 - i
+μ-loop board flights rows₀ total₀ p₀ rows total p = rows
 
 shared-slice-read-flights : tie.Need-shared-slice-read-flights Inv-loop μ-loop
 shared-slice-read-flights c = let s = c .before .before in omega (arith, board-long (s .args .board .now) (s .pre))
@@ -55,31 +51,20 @@ add-total c = omega (arith, c .size .ensures, decimal-short (getD (c .before .be
 loop-holds : tie.Need-loop-holds Inv-loop μ-loop
 loop-holds c = start _ (c .before .before .before .pre) (c .size .ensures)
 
-mul-size : tie.Need-mul-size Inv-loop μ-loop
-mul-size c = let s = c .before .before .before .before .before in omega (arith, c .loop-test .taken, flights-few (s .args .board .now) (s .pre))
-
-add-size : tie.Need-add-size Inv-loop μ-loop
-add-size c = let s = c .before .before .before .before .before in omega (arith, c .loop-test .taken, flights-few (s .args .board .now) (s .pre))
-
 size-requires-2 : tie.Need-size-requires-2 Inv-loop μ-loop
-size-requires-2 c κs = asks (c .before .loop .inv) (c .loop-test .taken)
+size-requires-2 c κs = let w = c .before .loop .inv .walk in (row-whole w (omega (arith, c .loop-test .taken)), row-good w (omega (arith, c .loop-test .taken)))
 
 add-total-2 : tie.Need-add-total-2 Inv-loop μ-loop
-add-total-2 c =
-    let l = c .before in
-    omega (arith, c .size2 .ensures, next (l .before .loop .inv) (l .loop-test .taken), short (l .before .loop .inv))
+add-total-2 c = let l = c .before in omega (arith, c .size2 .ensures, small (l .before .loop .inv) (omega (arith, l .loop-test .taken)))
 
-add-i : tie.Need-add-i Inv-loop μ-loop
-add-i c = let s = c .before .before .before .before .before .before in omega (arith, c .before .loop-test .taken, flights-few (s .args .board .now) (s .pre))
-
-loop-less : tie.Need-loop-less Inv-loop μ-loop
-loop-less c = omega (arith, c .before .loop-test .taken)
+add-p : tie.Need-add-p Inv-loop μ-loop
+add-p c = let l = c .before in omega (arith, inside (l .before .loop .inv) (omega (arith, l .loop-test .taken)))
 
 loop-again : tie.Need-loop-again Inv-loop μ-loop
-loop-again c = let l = c .before in again (l .before .loop .inv) (l .loop-test .taken) (c .size2 .ensures)
+loop-again c = let l = c .before in again (l .before .loop .inv) (omega (arith, l .loop-test .taken)) (c .size2 .ensures)
 
 returns : tie.Need-returns Inv-loop μ-loop
-returns c = done (c .before .loop .inv) (c .loop-test .left)
+returns c = done (c .before .loop .inv) (omega (arith, c .loop-test .left))
 
 pub board-size-spec : {M : Type 1} → statement M
 board-size-spec =
@@ -91,11 +76,10 @@ board-size-spec =
     (λ c κs. search needs)
     add-total
     loop-holds
-    mul-size
-    add-size
     size-requires-2
     add-total-2
-    add-i
-    loop-less
+    add-p
+    (λ c. search needs)
+    (λ c. search needs)
     loop-again
     returns)
