@@ -4,8 +4,8 @@ use mathlib.Core.Bool.{false}
 use mathlib.Core.List.{List, [], _++_}
 use Prim.Native.Nat.{ℕ, _+_, _-_, _≤_}
 use native.Mathlib.Omega.{arith}
-use lib.ListN.{length, replicate}
-use Rattle.feeding.specs.Fed.{Feeds, fedOf, boardFed, heldAfter}
+use lib.ListN.{length}
+use Rattle.feeding.specs.Fed.{fedOf, boardFed, heldAfter}
 use Rattle.feeding.specs.declared.AfterFeed.{AfterFeed}
 use Rattle.cutter.specs.Calls.{start}
 use Rattle.reports.specs.Run.{Read, begin, go-on}

@@ -4,7 +4,7 @@ use mathlib.Core.Bool.{Bool, true, false}
 use mathlib.Core.List.{List, [], _∷_, _++_}
 use Prim.Native.Nat.{ℕ, _+_}
 use native.Mathlib.Omega.{arith}
-use lib.ListN.{length, take}
+use lib.ListN.{length}
 use lib.Seq.{length-take-le}
 use Rattle.text.proofs.Logic.{true-false}
 use Rattle.shapes.specs.Cut.{upTo, has, before, after}
@@ -12,8 +12,8 @@ use Rattle.shapes.specs.Pieces.{pieces}
 use Rattle.shapes.proofs.Laws.{upTo-le}
 use Rattle.shapes.proofs.Joins.{cut-whole, before-none, no-cut}
 use Rattle.shapes.proofs.Pieces.{pieces-one}
-use Rattle.board.specs.Board.{rowsOf, isAllowed as isBoard}
-use Rattle.cutter.specs.Feed.{lineFeed, Line, Whole, TooLong}
+use Rattle.board.specs.Board.{isAllowed as isBoard}
+use Rattle.cutter.specs.Feed.{lineFeed, Line, TooLong}
 use Rattle.cutter.specs.State.{State, stateIn, isAllowed, more}
 use Rattle.cutter.specs.Calls.{start, heldClosed, takenOf, cutOf, heldCut, lineIn}
 use Rattle.cutter.specs.Cases.{toldBy, CutCase, NotAllowed, NoLineFeed, LineEnded, OverlongEnded, CutIs}
@@ -24,7 +24,6 @@ use Rattle.cutter.specs.declared.CutAnswer.{CutAnswer}
 use Rattle.cutter.specs.declared.CutAnswer.the-variants as cut
 use Rattle.feeding.specs.Tally.{lineFeeds, readOf}
 use Rattle.feeding.specs.Fed.{heldFed, begunFed, linesFed, readIn, fedWith, fedOf, boardFed, heldAfter}
-use Rattle.feeding.specs.declared.AfterFeed.{AfterFeed}
 use Rattle.feeding.specs.declared.FeedAnswer.the-variants.{Fed}
 use Rattle.feeding.proofs.Tallies.{read-free, read-cut, lines-told}
 use Rattle.feeding.proofs.Ways.{On}

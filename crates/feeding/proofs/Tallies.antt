@@ -1,16 +1,15 @@
 -- What is read of a part and how many line feeds are in it, where the part is cut at its first line feed; and the bounds of the counts.
 -- Assumes nothing.
-use mathlib.Core.Path.{_≡_, refl, sym, ap, _∙_}
+use mathlib.Core.Path.{_≡_, refl}
 use mathlib.Core.Bool.{Bool, true, false}
 use mathlib.Core.List.{List, [], _∷_, _++_}
 use Prim.Native.Nat.{ℕ, zero, suc, _+_, _-_, _≤_, _<_}
 use native.Mathlib.Omega.{arith}
 use lib.Dec.{eqb}
-use lib.ListN.{length, take, drop}
+use lib.ListN.{length, drop}
 use lib.Seq.{length-take-le, drop-append-add}
-use Rattle.shapes.specs.Cut.{upTo, has, before, after}
+use Rattle.shapes.specs.Cut.{upTo}
 use Rattle.shapes.specs.Pieces.{grow, pieces}
-use Rattle.shapes.proofs.Pieces.{piecesAfter, pieces-turn}
 use Rattle.history.specs.Steps.{Answer, Took, Refused, NoRoom, NotListed, rowsAfter, answer}
 use Rattle.rows.specs.declared.Row.{Row}
 use Rattle.cutter.specs.Feed.{lineFeed, Line}

@@ -1,11 +1,10 @@
 -- One line more: what is read of a part is its first line, and then what is read from the board and the state that this line leaves.
 -- Assumes nothing.
 use mathlib.Core.Path.{_≡_, refl, sym, ap, _∙_}
-use mathlib.Core.Bool.{Bool, true, false, cond, not, _&&_}
+use mathlib.Core.Bool.{Bool, true, false, not}
 use mathlib.Core.List.{List, [], _∷_, _++_, append-nil}
 use Prim.Native.Nat.{ℕ, zero, suc, _+_, _-_, _≤_, _<_}
 use native.Mathlib.Omega.{arith}
-use lib.Dec.{leb}
 use lib.ListN.{length, take, drop, take-append-drop}
 use lib.Seq.{drop-length}
 use borrow.Author.Tests.{le-leb, not-true}
@@ -14,7 +13,7 @@ use Rattle.text.proofs.Logic.{and-left, and-right}
 use Rattle.shapes.specs.Cut.{upTo, has, before, after}
 use Rattle.shapes.specs.Pieces.{pieces, noneHas}
 use Rattle.shapes.proofs.Joins.{cut-whole, joined-has, joined-before, whole-has, before-none, no-cut}
-use Rattle.shapes.proofs.Pieces.{piecesAfter, pieces-turn, pieces-none, pieces-cut}
+use Rattle.shapes.proofs.Pieces.{pieces-turn, pieces-none, pieces-cut}
 use Rattle.rows.specs.Rows.{isBoard as isRows}
 use Rattle.rows.specs.declared.Row.{Row}
 use Rattle.board.specs.Board.{rowsOf, wordsOf, isAllowed as isBoard}
@@ -25,10 +24,10 @@ use Rattle.history.proofs.Boards.{step-board}
 use Rattle.asks.specs.Asked.{askedOf}
 use Rattle.planner.specs.Apply.{lineEvent}
 use Rattle.planner.proofs.Ways.{line-event}
-use Rattle.cutter.specs.Feed.{lineFeed, most, Line, Whole, TooLong}
-use Rattle.cutter.specs.State.{State, Bytes, stateIn, isAllowed, more, moreIn, heldMore}
+use Rattle.cutter.specs.Feed.{lineFeed, Line, Whole, TooLong}
+use Rattle.cutter.specs.State.{stateIn, isAllowed, more, moreIn, heldMore}
 use Rattle.cutter.specs.Calls.{start, heldClosed, takenOf, cutOf, heldCut}
-use Rattle.cutter.specs.Told.{ended, told}
+use Rattle.cutter.specs.Told.{ended, told, left}
 use Rattle.cutter.specs.declared.Begun.{Begun}
 use Rattle.cutter.specs.declared.Begun.the-variants.{Held, Overlong}
 use Rattle.cutter.proofs.States.{begins, grown}
@@ -38,7 +37,7 @@ use Rattle.feeding.specs.Tally.{eventOf, one, rowsBy, takenBy, lineFeeds
 use Rattle.feeding.specs.Fed.{heldFed, begunFed, linesFed, readIn, fedWith, fedOf, boardFed, heldAfter}
 use Rattle.feeding.specs.declared.AfterFeed.{AfterFeed}
 use Rattle.feeding.specs.declared.FeedAnswer.the-variants.{Fed}
-use Rattle.feeding.proofs.Tallies.{read-none, read-zero, read-le, read-some, read-free, read-cut, drop-cut, feeds-free, feeds-cut, feeds-read, feeds-most, lines-told, taken-le}
+use Rattle.feeding.proofs.Tallies.{read-none, read-zero, read-le, read-some, read-free, read-cut, drop-cut, feeds-cut, feeds-read, feeds-most, lines-told, taken-le}
 
 -- ---- no bytes change nothing
 
@@ -71,6 +70,20 @@ pieces-allowed held begun (p ∷ []) n a = grown held begun p a .still (no-cut l
 pieces-allowed held begun (p ∷ (q ∷ ps)) n a =
     let f = no-cut lineFeed p (not-true (has lineFeed p) (and-left (not (has lineFeed p)) (noneHas lineFeed (q ∷ ps)) n)) in
     pieces-allowed (heldClosed held begun p) start (q ∷ ps) (and-right (not (has lineFeed p)) (noneHas lineFeed (q ∷ ps)) n) (closed-allowed held begun a p f)
+
+-- and the state is the one that the pieces leave
+pieces-state : (held : List ℕ) (begun : Begun) (ps : List (List ℕ)) → noneHas lineFeed ps ≡ true → isAllowed held begun ≡ true
+    → stateIn (heldFed held begun ps) (begunFed held begun ps) ≡ left (stateIn held begun) ps
+unfolding heldFed begunFed noneHas left stateIn
+pieces-state held begun [] n a = refl
+pieces-state held begun (p ∷ []) n a = grown held begun p a .state
+pieces-state held begun (p ∷ (q ∷ ps)) n a =
+    let f = no-cut lineFeed p (not-true (has lineFeed p) (and-left (not (has lineFeed p)) (noneHas lineFeed (q ∷ ps)) n)) in
+    pieces-state (heldClosed held begun p) start (q ∷ ps) (and-right (not (has lineFeed p)) (noneHas lineFeed (q ∷ ps)) n) (closed-allowed held begun a p f)
+
+pub state-fed : (held : List ℕ) (begun : Begun) → isAllowed held begun ≡ true → (s : List ℕ)
+    → stateIn (heldFed held begun (pieces lineFeed s)) (begunFed held begun (pieces lineFeed s)) ≡ left (stateIn held begun) (pieces lineFeed s)
+state-fed held begun a s = pieces-state held begun (pieces lineFeed s) (pieces-none lineFeed s) a
 
 line-is : (l : Line) → isEvent (eventOf l) ≡ true
 unfolding eventOf lineEvent

@@ -2,7 +2,7 @@
 use mathlib.Core.Path.{_≡_, refl, sym, ap, _∙_}
 use mathlib.Core.Bool.{Bool, true, false, cond}
 use mathlib.Core.List.{List, [], _∷_}
-use Prim.Native.Nat.{ℕ, _+_}
+use Prim.Native.Nat.{ℕ}
 use native.Mathlib.Omega.{arith}
 use lib.ListN.{length}
 use denote.Enum.Declared.{tagOf}
@@ -18,7 +18,6 @@ use Rattle.asks.specs.declared.Asked.the-variants as asked
 use Rattle.planner.specs.Apply.{eventOf as askedEvent, lineEvent, room, answerTo, Entered}
 use Rattle.planner.specs.declared.LineAnswer.{LineAnswer}
 use Rattle.planner.specs.declared.LineAnswer.the-variants as line
-use Rattle.planner.proofs.LineAnswer.{the-type as the-line}
 use Rattle.cutter.specs.State.{isAllowed}
 use Rattle.cutter.specs.Calls.{lineIn}
 use Rattle.cutter.specs.Cases.{toldBy}
@@ -56,7 +55,7 @@ module _ (a : CutAnswer) where
 -- ---- `apply_line`
 
 -- 1 for a line that is taken
-abbrev counted : LineAnswer → ℕ
+abbrev pub counted : LineAnswer → ℕ
 counted line.Taken = 1
 counted (line.Line x) = 0
 counted line.NotAllowed = 0
@@ -74,13 +73,6 @@ count-line rs (asked.Tz k x) = count-room (fits rs (k .0))
 count-line rs asked.Other = refl
 count-line rs (asked.Refused x) = refl
 
--- where it isn't taken, the code tells only the variant's number
-not-counted : (r : LineAnswer) → OneOf (1 ∷ 2 ∷ 3 ∷ []) (tagOf the-line r) → counted r ≡ 0
-not-counted line.Taken h = absurd (miss (1 ∷ 2 ∷ 3 ∷ []) 0 tt h)
-not-counted (line.Line x) h = refl
-not-counted line.NotAllowed h = refl
-not-counted line.Full h = refl
-
 module _ (l s : List ℕ) (r : LineAnswer) (l′ : List ℕ) (w : Entered l (askedOf s) r l′) where
   heard : counted r ≡ one (answer (rowsOf l) (lineEvent s))
   unfolding lineEvent
@@ -90,11 +82,8 @@ module _ (l s : List ℕ) (r : LineAnswer) (l′ : List ℕ) (w : Entered l (ask
   unfolding lineEvent
   shown = w .words
 
-  pub line-taken : r ≡ line.Taken → (1 ≡ one (answer (rowsOf l) (lineEvent s))) × (l′ ≡ wordsOf (rowsAfter (rowsOf l) (lineEvent s)))
-  line-taken e = (sym (ap counted e) ∙ heard, shown)
-
-  pub line-not : OneOf (1 ∷ 2 ∷ 3 ∷ []) (tagOf the-line r) → (0 ≡ one (answer (rowsOf l) (lineEvent s))) × (l′ ≡ wordsOf (rowsAfter (rowsOf l) (lineEvent s)))
-  line-not h = (sym (not-counted r h) ∙ heard, shown)
+  pub line-as : (x : LineAnswer) → r ≡ x → (counted x ≡ one (answer (rowsOf l) (lineEvent s))) × (l′ ≡ wordsOf (rowsAfter (rowsOf l) (lineEvent s)))
+  line-as x e = (sym (ap counted e) ∙ heard, shown)
 
 -- ---- `enter`
 

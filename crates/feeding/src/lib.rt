@@ -56,7 +56,9 @@ fn apply_line(board: &mut [u64], line: &[u8]) -> usize
     let answer = apply_allowed(board, line);
     match answer {
         LineAnswer::Taken => 1,
-        _ => 0,
+        LineAnswer::Line(_) => 0,
+        LineAnswer::NotAllowed => 0,
+        LineAnswer::Full => 0,
     }
 }
 

@@ -3,7 +3,7 @@ use mathlib.Core.Path.{_≡_, refl, sym, _∙_}
 use mathlib.Core.List.{List, [], _∷_}
 use Prim.Native.Nat.{ℕ, suc, _+_}
 use native.Mathlib.Omega.{arith}
-use Rattle.history.specs.Events.{Event, History, start, _then_}
+use Rattle.history.specs.Events.{History, start, _then_}
 use Rattle.history.specs.Steps.{Answer, Took, Refused, NoRoom, NotListed, rowsAfter, answer, after}
 use Rattle.history.specs.Promise.{Taken}
 use Rattle.cutter.specs.Feed.{Line}

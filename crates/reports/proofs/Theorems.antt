@@ -1,15 +1,13 @@
 -- THE REPORT OF A FEED: whatever the parts in which it is read, what is printed then is fixed by its bytes. Assumes nothing.
 use mathlib.Core.Path.{_≡_, refl, sym, ap, _∙_}
 use mathlib.Core.Bool.{true}
-use mathlib.Core.List.{List, [], _∷_, _++_}
+use mathlib.Core.List.{List, [], _++_}
 use Prim.Native.Nat.{ℕ, _+_, _-_, _≤_}
 use native.Mathlib.Omega.{arith}
 use borrow.Author.Tests.{le-leb}
 use denote.Ref.{now}
 use lib.ListN.{length, length-append}
-use Rattle.rows.specs.declared.Row.{Row}
 use Rattle.shapes.specs.Pieces.{pieces}
-use Rattle.shapes.proofs.Pieces.{pieces-none}
 use Rattle.text.specs.Text.{hasRoom, spliced, writtenNext, writtenBytes}
 use Rattle.text.specs.declared.Written.{Written}
 use Rattle.text.specs.declared.Written.the-variants as written
@@ -31,11 +29,10 @@ use Rattle.cutter.proofs.Feeds.{feed-then, start-lines}
 use Rattle.feeding.specs.Tally.{rowsBy, takenBy, lineFeeds}
 use Rattle.feeding.specs.Fed.{readIn, linesFed, fedWith, fedOf, boardFed, heldAfter}
 use Rattle.feeding.proofs.Tallies.{feeds-most, lines-told, taken-le}
-use Rattle.feeding.proofs.Turns.{fed-ready, board-ready, held-ready, board-still, held-still, words-show}
+use Rattle.feeding.proofs.Turns.{fed-ready, board-ready, held-ready, board-still, held-still, words-show, state-fed}
 use Rattle.reports.specs.Report.{rowsAfterFeed, linesIn, takenIn, reportOf}
 use Rattle.reports.specs.Run.{Read, begin, go-on, Prints, Counts}
 use Rattle.reports.proofs.Joins.{rows-then, taken-then, feeds-then, read-empty, read-then}
-use Rattle.reports.proofs.States.{state-fed}
 
 -- what stands after the parts of a feed have been read
 pub record Stands (limit : ℕ) (feed board held : List ℕ) (begun : Begun) (lines taken : ℕ) : Type 0 where
@@ -70,7 +67,7 @@ module _ (board held : List ℕ) (begun : Begun) (b : isBoard board ≡ true) (a
   unfolding fedWith
   state-both =
       rw (held-ready board held begun b a n part, fed-ready board held begun b a n part, is-t, feed-then (Bytes []) s t .1, ← h)
-      (state-fed held begun (pieces lineFeed t) (pieces-none lineFeed t) a)
+      (state-fed held begun a t)
 
 -- ---- any run of calls
 
@@ -101,6 +98,28 @@ read-stands limit (go-on {feed} {board} {held} {begun} {lines} {taken} part p c)
       state = rw (c .buffer, c .result, z) (state-both board held begun b a n part s (readIn n part) refl (q .state));
       lines-are = rw (c .result, z) (lines-count board held begun b a n part s (readIn n part) refl (q .state) lines (q .lines-are));
       taken-are = rw (c .result, z) (taken-both board held begun b a n part s (readIn n part) refl (q .state) taken (q .rows) (q .taken-are));
+    }
+
+-- every feed can be read so, in whatever parts: what has been read, and any part more
+pub record Readable (limit : ℕ) (feed : List ℕ) : Type 0 where
+  pub board : List ℕ
+  pub held : List ℕ
+  pub begun : Begun
+  pub lines : ℕ
+  pub taken : ℕ
+  pub read : Read limit feed board held begun lines taken
+
+pub any-part : (limit : ℕ) (feed part : List ℕ) → Readable limit feed → Readable limit (feed ++ part)
+any-part limit feed part p =
+    let n = limit - p .lines in
+    let r = fedOf (p .board) (p .held) (p .begun) n part in
+    record {
+      board = boardFed (p .board) (p .held) (p .begun) n part;
+      held = heldAfter (p .board) (p .held) (p .begun) n part;
+      begun = r .begun;
+      lines = p .lines + r .lines;
+      taken = p .taken + r .taken;
+      read = go-on part (p .read) (record { result = refl; words = refl; buffer = refl });
     }
 
 -- no more lines than the limit, and no more taken than lines

@@ -18,7 +18,7 @@ use Rattle.feeding.specs.Fed.{fedOf, boardFed, heldAfter}
 use Rattle.feeding.specs.declared.AfterFeed.{AfterFeed}
 use Rattle.feeding.specs.declared.FeedAnswer.the-variants.{Fed}
 use Rattle.feeding.proofs.Tallies.{read-none, read-zero}
-use Rattle.feeding.proofs.Turns.{summed, plus-none, none-plus, plus-plus, board-still, held-still, nothing-fed, nothing-board, nothing-held, Turn, turn, Counts, counts}
+use Rattle.feeding.proofs.Turns.{summed, plus-none, none-plus, plus-plus, board-still, held-still, nothing-fed, nothing-board, nothing-held, turn, Counts, counts}
 use borrow.Author.Needs.{needs}
 use Rattle.feeding.proofs.feed_allowed.Statement.{statement}
 use Rattle.feeding.proofs.feed_allowed.Tie as tie
@@ -72,11 +72,11 @@ module _ {board₀ held₀ : List ℕ} {begun₀ : Begun} {most : ℕ} {part boa
   read-all : length part ≤ fed .used → readOf (most - fed .lines) rest ≡ 0
   read-all h = rw (drop-of-length-le part h) (read-none (most - fed .lines))
 
-  read-most : fed .lines ≡ most → readOf (most - fed .lines) rest ≡ 0
+  read-most : most ≤ fed .lines → readOf (most - fed .lines) rest ≡ 0
   read-most h = let z : most - fed .lines ≡ 0 = omega arith in rw z (read-zero rest)
 
   -- one turn more
-  module _ (more : fed .used < length part) (fewer : fed .lines ≡ most → ⊥) (r : AfterFeed) (board′ held′ : List ℕ)
+  module _ (more : fed .used < length part) (fewer : fed .lines < most) (r : AfterFeed) (board′ held′ : List ℕ)
       (e : (r ≡ fedOf board held (fed .begun) 1 (take (length part - fed .used) rest))
       × ((board′ ≡ boardFed board held (fed .begun) 1 (take (length part - fed .used) rest)) × (held′ ≡ heldAfter board held (fed .begun) 1 (take (length part - fed .used) rest)))) where
     result′ : r ≡ fedOf board held (fed .begun) 1 rest
@@ -128,7 +128,11 @@ same-length-2 : tie.Need-same-length-2 Inv-loop μ-loop
 same-length-2 c = c .before .before .before .before .loop .inv .held-size
 
 returns : tie.Need-returns Inv-loop μ-loop
-returns c = let v = c .before .before .before .before .loop .inv in done v (read-most v (c .if2 .taken))
+returns c = let v = c .before .before .before .before .loop .inv in done v (read-most v (omega (arith, c .if2 .taken)))
+
+-- a line may still be read
+fewer-lines : (l : tie.Else2 Inv-loop μ-loop) → l .before .before .before .before .loop .fed .lines < l .before .before .before .before .before .before .before .before .args .most
+fewer-lines l = omega (arith, l .before .before .before .before .loop .inv .few, l .if2 .left)
 
 sub-step : tie.Need-sub-step Inv-loop μ-loop
 sub-step c = c .before .before .before .before .before .before .loop .inv .at
@@ -146,35 +150,35 @@ add-t12 : tie.Need-add-t12 Inv-loop μ-loop
 add-t12 c =
     let p = c .before .before .before .before .before in
     let l = p .before .before .before .before in
-    let n = again (l .before .before .before .before .loop .inv) (l .before .before .if1 .taken) (l .if2 .left) _ _ _ (p .step .ensures) in
+    let n = again (l .before .before .before .before .loop .inv) (l .before .before .if1 .taken) (fewer-lines l) _ _ _ (p .step .ensures) in
     omega (arith, n .at, l .before .before .before .before .before .before .before .before .good .1 .1 .1 .1 .0 .0)
 
 add-t22 : tie.Need-add-t22 Inv-loop μ-loop
 add-t22 c =
     let p = c .before .before .before .before .before .before .before in
     let l = p .before .before .before .before in
-    let n = again (l .before .before .before .before .loop .inv) (l .before .before .if1 .taken) (l .if2 .left) _ _ _ (p .step .ensures) in
+    let n = again (l .before .before .before .before .loop .inv) (l .before .before .if1 .taken) (fewer-lines l) _ _ _ (p .step .ensures) in
     omega (arith, n .at, n .counted, l .before .before .before .before .before .before .before .before .good .1 .1 .1 .1 .0 .0)
 
 add-t23 : tie.Need-add-t23 Inv-loop μ-loop
 add-t23 c =
     let p = c .before .before .before .before .before .before .before .before .before in
     let l = p .before .before .before .before in
-    let n = again (l .before .before .before .before .loop .inv) (l .before .before .if1 .taken) (l .if2 .left) _ _ _ (p .step .ensures) in
+    let n = again (l .before .before .before .before .loop .inv) (l .before .before .if1 .taken) (fewer-lines l) _ _ _ (p .step .ensures) in
     omega (arith, n .at, n .counted, n .less, l .before .before .before .before .before .before .before .before .good .1 .1 .1 .1 .0 .0)
 
 loop-less : tie.Need-loop-less Inv-loop μ-loop
 loop-less c =
     let p = c .before .before .before .before .before .before .before .before .before in
     let l = p .before .before .before .before in
-    let g = goes-on (l .before .before .before .before .loop .inv) (l .before .before .if1 .taken) (l .if2 .left) _ _ _ (p .step .ensures) in
+    let g = goes-on (l .before .before .before .before .loop .inv) (l .before .before .if1 .taken) (fewer-lines l) _ _ _ (p .step .ensures) in
     omega (arith, g .0, g .1)
 
 loop-again : tie.Need-loop-again Inv-loop μ-loop
 loop-again c =
     let p = c .before .before .before .before .before .before .before .before .before in
     let l = p .before .before .before .before in
-    again (l .before .before .before .before .loop .inv) (l .before .before .if1 .taken) (l .if2 .left) _ _ _ (p .step .ensures)
+    again (l .before .before .before .before .loop .inv) (l .before .before .if1 .taken) (fewer-lines l) _ _ _ (p .step .ensures)
 
 same-length-3 : tie.Need-same-length-3 Inv-loop μ-loop
 same-length-3 c = c .before .before .loop .inv .board-size
