@@ -21,7 +21,8 @@ use Rattle.printer.proofs.Printed.{the-type as the-printed}
 use Rattle.reports.specs.Report.{reportOf}
 use Rattle.reports.specs.Run.{Prints, Counts}
 use Rattle.reports.proofs.Theorems.{report-printed}
-use Rattle.desks.specs.Day.{limit, ReadTo, Fills}
+use Rattle.reports.proofs.Sizes.{report-size}
+use Rattle.desks.specs.Day.{limit, ReadTo, most, Fills}
 use Rattle.desks.specs.declared.Day.{Day}
 
 -- where nothing was written, the code tells only the variant's number
@@ -35,25 +36,28 @@ no-count (written.Next m) h n e = miss (1 ∷ 2 ∷ []) 0 tt h
 no-count written.NoRoom h n e = let z : _≡_ {A = ℕ} 0 1 = cc in omega arith
 no-count written.NoText h n e = let z : _≡_ {A = ℕ} 0 1 = cc in omega arith
 
-module _ (board : List ℕ) (d : Day) (out : List ℕ) (r : Printed) (out₁ : List ℕ) (p : Prints board out 0 r out₁) where
-  pub fills-nothing : OneOf (1 ∷ 2 ∷ []) (tagOf the-printed r) → Fills board d out 0 out₁
-  fills-nothing h feed held q room = absurd (no-print r h _ (report-printed limit q out 0 (omega arith) r out₁ p .0))
+module _ (board : List ℕ) (d : Day) (out : List ℕ) (big : most ≤ length out) (r : Printed) (out₁ : List ℕ) (p : Prints board out 0 r out₁) where
+  room : (feed : List ℕ) → 0 + length (reportOf limit feed) ≤ length out
+  room feed = omega (arith, report-size limit (omega arith) feed)
+
+  pub fills-nothing : OneOf (1 ∷ 2 ∷ []) (tagOf the-printed r) → Fills board d 0 out₁
+  fills-nothing h feed held q = absurd (no-print r h _ (report-printed limit q out 0 (room feed) r out₁ p .0))
 
   module _ (n : ℕ) (e : r ≡ printed.Next n) (w : Written) (out₂ : List ℕ) (k : Counts (d .lines) (d .taken) out₁ n w out₂) where
-    whole : (feed held : List ℕ) → ReadTo feed board held d → length (reportOf limit feed) ≤ length out
+    whole : (feed held : List ℕ) → ReadTo feed board held d
         → (w ≡ written.Next (0 + length (reportOf limit feed))) × (out₂ ≡ spliced out 0 (reportOf limit feed))
-    whole feed held q room =
-        let f = report-printed limit q out 0 (omega arith) r out₁ p in
+    whole feed held q =
+        let f = report-printed limit q out 0 (room feed) r out₁ p in
         let z : printed.Next n ≡ printed.Next (0 + length (textIn board)) = sym e ∙ f .0 in
         let y : n ≡ 0 + length (textIn board) = cc in
         f .1 w out₂ (rw y at k)
 
-    pub fills-none : OneOf (1 ∷ 2 ∷ []) (tagOf the-written w) → Fills board d out 0 out₂
-    fills-none h feed held q room = absurd (no-count w h _ (whole feed held q room .0))
+    pub fills-none : OneOf (1 ∷ 2 ∷ []) (tagOf the-written w) → Fills board d 0 out₂
+    fills-none h feed held q = absurd (no-count w h _ (whole feed held q .0))
 
-    pub fills-all : (m : ℕ) → w ≡ written.Next m → Fills board d out m out₂
-    fills-all m g feed held q room =
-        let f = whole feed held q room in
+    pub fills-all : (m : ℕ) → w ≡ written.Next m → Fills board d m out₂
+    fills-all m g feed held q =
+        let f = whole feed held q in
         let z : written.Next m ≡ written.Next (0 + length (reportOf limit feed)) = sym g ∙ f .0 in
         let y : m ≡ 0 + length (reportOf limit feed) = cc in
         let x : m ≡ length (reportOf limit feed) = omega arith in

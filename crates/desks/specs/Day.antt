@@ -24,10 +24,13 @@ Kept board held d = (feed : List ℕ) × ReadTo feed board held d
 abbrev pub TakesIn : List ℕ → List ℕ → Day → List ℕ → List ℕ → List ℕ → Day → Type 0
 TakesIn board held d block board′ held′ d′ = (feed : List ℕ) → ReadTo feed board held d → ReadTo (feed ++ block) board′ held′ d′
 
--- the first r bytes of out′ are the report of the feed that was read, where out has room for it
-abbrev pub Fills : List ℕ → Day → List ℕ → ℕ → List ℕ → Type 0
-Fills board d out r out′ = (feed held : List ℕ) → ReadTo feed board held d → length (reportOf limit feed) ≤ length out
-    → (r ≡ length (reportOf limit feed)) × (take r out′ ≡ reportOf limit feed)
+-- no report is longer (`reports/proofs/Sizes`)
+abbrev pub most : ℕ
+most = 18300
+
+-- the first r bytes of out′ are the report of the feed that was read
+abbrev pub Fills : List ℕ → Day → ℕ → List ℕ → Type 0
+Fills board d r out′ = (feed held : List ℕ) → ReadTo feed board held d → (r ≡ length (reportOf limit feed)) × (take r out′ ≡ reportOf limit feed)
 
 -- the board without rows, and a buffer for the cutter
 abbrev pub AtStart : List ℕ → List ℕ → Type 0

@@ -10,7 +10,7 @@ returns c =
     let p = c .before .before .before in
     let s = p .before .before .before .before in
     let e = p .print .ensures in
-    (omega arith, fills-nothing _ (s .args .day) _ _ _ (e .0, e .1 .0) (c .match .keys2))
+    (omega arith, fills-nothing _ (s .args .day) _ (s .pre .1) _ _ (e .0, e .1 .0) (c .match .keys2))
 
 returns-2 : tie.Need-returns-2
 returns-2 c =
@@ -19,7 +19,7 @@ returns-2 c =
     let p = n .before .before .before .before in
     let s = p .before .before .before .before in
     let e = p .print .ensures in
-    (omega arith, fills-none _ (s .args .day) _ _ _ (e .0, e .1 .0) _ (n .printed .given .1) _ _ (k .print-counts .ensures) (c .match2 .keys2))
+    (omega arith, fills-none _ (s .args .day) _ (s .pre .1) _ _ (e .0, e .1 .0) _ (n .printed .given .1) _ _ (k .print-counts .ensures) (c .match2 .keys2))
 
 returns-3 : tie.Need-returns-3
 returns-3 c =
@@ -29,8 +29,8 @@ returns-3 c =
     let s = p .before .before .before .before in
     let e = p .print .ensures in
     let m = c .before .counted .given .1 in (
-      inside _ (s .args .day) _ _ _ (e .0, e .1 .0) _ (n .printed .given .1) _ _ (k .print-counts .ensures) _ m,
-      fills-all _ (s .args .day) _ _ _ (e .0, e .1 .0) _ (n .printed .given .1) _ _ (k .print-counts .ensures) _ m,
+      inside _ (s .args .day) _ (s .pre .1) _ _ (e .0, e .1 .0) _ (n .printed .given .1) _ _ (k .print-counts .ensures) _ m,
+      fills-all _ (s .args .day) _ (s .pre .1) _ _ (e .0, e .1 .0) _ (n .printed .given .1) _ _ (k .print-counts .ensures) _ m,
     )
 
 pub fill-spec : {M : Type 1} → statement M

@@ -3,7 +3,6 @@ use mathlib.Core.Path.{_≡_, refl, _∙_}
 use mathlib.Core.List.{[]}
 use native.Mathlib.Omega.{arith}
 use lib.ListN.{length}
-use borrow.Author.Needs.{needs}
 use Rattle.desks.specs.Day.{Kept}
 use Rattle.desks.proofs.Days.{kept-first}
 use Rattle.desks.proofs.read_all.Statement.{statement}

@@ -9,7 +9,7 @@ use Rattle.desks.proofs.run.Tie as tie
 fill-requires : tie.Need-fill-requires
 fill-requires c κs =
     let r = c .before .before .before .before .before .read-all in
-    (kept-lines _ _ (r .result) (r .ensures), kept-taken _ _ (r .result) (r .ensures))
+    ((kept-lines _ _ (r .result) (r .ensures), kept-taken _ _ (r .result) (r .ensures)), search needs)
 
 report-part : tie.Need-slice-aggregate-write-all
 report-part c = let f = c .before .before .fill in sym (length-take-le _ _ (f .ensures .0))
