@@ -11,8 +11,8 @@ use Rattle.shapes.specs.Cut.{upTo, has}
 use Rattle.shapes.specs.Pieces.{pieces, eachAfter, noneHas}
 use Rattle.shapes.proofs.Joins.{no-cut}
 use Rattle.shapes.proofs.Pieces.{piecesAfter, pieces-turn, pieces-text, pieces-none, prefixed, pieces-free, pieces-cut, pieces-one}
-use Rattle.cutter.specs.Feed.{lineFeed, most, feedOf, allButLast, last, textsOf, restOf, Line, Whole, TooLong, lineOf, linesOf}
-use Rattle.cutter.specs.State.{State, Bytes, Mark, stateOf, more}
+use Rattle.cutter.specs.Feed.{lineFeed, most, feedOf, allButLast, last, textsOf, restOf, Whole, TooLong, lineOf, linesOf}
+use Rattle.cutter.specs.State.{State, Bytes, stateOf, more}
 use Rattle.cutter.specs.Told.{ended, told, left}
 use Rattle.cutter.proofs.States.{more-more}
 

@@ -1,6 +1,6 @@
 -- What is kept from block to block of a feed: the board, the cutter's buffer and state, and the counts that reading a feed leaves,
 -- whatever its parts were. Assumes nothing.
-use Prim.Native.Nat.{ℕ, _≤_}
+use Prim.Native.Nat.{ℕ}
 use mathlib.Core.Path.{_≡_}
 use mathlib.Core.List.{List, _++_}
 use lib.ListN.{length, take, replicate}

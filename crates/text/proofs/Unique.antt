@@ -1,7 +1,6 @@
 -- Two answers that the promise of a public function of `text` allows are equal: of each, `Post` is its `ensures` as it stands in
 -- the source, r and r′ are two results, s and s′ two states at exit. Assumes nothing.
 use mathlib.Core.Path.{_≡_, sym, _∙_}
-use denote.Ref.{now}
 use Rattle.text.proofs.code.Reads as code
 use Rattle.text.proofs.pack.Reads as pack
 use Rattle.text.proofs.number.Reads as number
