@@ -11,12 +11,12 @@ pub enum Age {
 
 /// How old `stamp` is, given now and the last day of the previous month; or 19: "now, the
 /// stamp, or the month's last day, out of range". Each number's own range is all that 19
-/// tests (docs/DECISIONS.md 26).
+/// tests (docs/DECISIONS.md).
 pub fn age(now: Stamp, last_day: u8, stamp: Stamp) -> Result<Age, u8> {
     if !now.in_range() || !stamp.in_range() || !(28..=31).contains(&last_day) {
         return Err(19);
     }
-    // "The day before the 1st is that last day"; of any other day, the day less 1 (docs/DECISIONS.md 27).
+    // "The day before the 1st is that last day"; of any other day, the day less 1 (docs/DECISIONS.md).
     let day_before = if now.day == 1 { last_day } else { now.day - 1 };
     if stamp.day == now.day {
         if stamp.second_of_day() <= now.second_of_day() {
@@ -74,7 +74,7 @@ mod tests {
         assert_eq!(asked("06081700", 30, "30000000"), Ok(Age::Old));
     }
 
-    /// "The day before the 1st is that last day"; docs/DECISIONS.md 26 and 27.
+    /// "The day before the 1st is that last day"; docs/DECISIONS.md.
     #[test]
     fn around_the_1st() {
         for last_day in 28..=31 {

@@ -71,7 +71,7 @@ impl Board {
             Ok(message) => message,
             Err(refusal) => return (refusal.number, refusal.place),
         };
-        // For every readable line, HB too (docs/DECISIONS.md 18).
+        // For every readable line, HB too (docs/DECISIONS.md).
         if !self.allowed {
             return (13, 0);
         }
@@ -94,7 +94,7 @@ impl Board {
     }
 
     /// Removes a flight: "9 for a key not of that form, place 1, then 13, 14". The form is
-    /// the board's key without a computer number (docs/DECISIONS.md 25).
+    /// the board's key without a computer number (docs/DECISIONS.md).
     pub fn strike(&mut self, key: &[u8]) -> (u8, usize) {
         if !field::is_key(key) {
             return (9, 1);
@@ -157,7 +157,7 @@ fn are_allowed(rows: &BTreeMap<Vec<u8>, Row>) -> bool {
             .all(|(key, row)| field::is_key(key) && is_allowed_row(row))
 }
 
-/// Each entry is judged alone (docs/DECISIONS.md 19).
+/// Each entry is judged alone (docs/DECISIONS.md).
 fn is_allowed_row(row: &Row) -> bool {
     let arrival_is_allowed = match &row.arrival {
         Some(arrival) => {
@@ -441,7 +441,7 @@ mod tests {
         track("06081500", "310", "240C", "3015N/08430W").unwrap()
     }
 
-    /// 13: a key, a row or an entry that these rules do not allow; and docs/DECISIONS.md 19.
+    /// 13: a key, a row or an entry that these rules do not allow; and docs/DECISIONS.md.
     #[test]
     fn boards_that_are_not_allowed() {
         let good_row = Row {
@@ -512,7 +512,7 @@ mod tests {
         assert!(!Board::of_rows(rows(257)).is_allowed());
     }
 
-    /// docs/DECISIONS.md 18: every readable line answers 13, a line with an answer of its own keeps it.
+    /// docs/DECISIONS.md: every readable line answers 13, a line with an answer of its own keeps it.
     /// Strike: 9, then 13, then 14. The board stays as it was.
     #[test]
     fn answers_on_a_board_that_is_not_allowed() {

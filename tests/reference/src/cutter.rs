@@ -5,7 +5,7 @@ use crate::line::MOST_LINE;
 
 /// "A cutter state is the bytes of a begun line, at most 2,048 and no line feed among them,
 /// or the mark that it is overlong; no other is allowed." The mark stands instead of the
-/// bytes (docs/DECISIONS.md 31).
+/// bytes (docs/DECISIONS.md).
 #[derive(Clone, Debug, PartialEq, Eq)]
 pub enum State {
     Begun(Vec<u8>),
@@ -89,7 +89,7 @@ pub fn cut(state: &mut State, part: &[u8]) -> Cut {
 }
 
 /// The end of the feed: "a begun line, overlong or not, answers 17, and is no line; at a
-/// line's start the end answers 0". 13 first (docs/DECISIONS.md 32).
+/// line's start the end answers 0". 13 first (docs/DECISIONS.md).
 pub fn end(state: &mut State) -> u8 {
     if !state.is_allowed() {
         return 13;
@@ -186,7 +186,7 @@ mod tests {
         }
     }
 
-    /// docs/DECISIONS.md 30: the mark is set without a line feed at 0; 2 comes once, at the line feed.
+    /// docs/DECISIONS.md: the mark is set without a line feed at 0; 2 comes once, at the line feed.
     #[test]
     fn overlong_answers_2_once() {
         let mut state = State::at_start();
@@ -221,7 +221,7 @@ mod tests {
         assert_eq!(state, State::at_start());
     }
 
-    /// 13 first, nothing used, the state as it was; for the end too (docs/DECISIONS.md 32).
+    /// 13 first, nothing used, the state as it was; for the end too (docs/DECISIONS.md).
     #[test]
     fn states_that_are_not_allowed() {
         for wrong in [vec![b'x'; 2049], b"a\nb".to_vec(), b"\n".to_vec()] {

@@ -45,7 +45,7 @@ pub fn is_key(text: &[u8]) -> bool {
     alnums(text, 2, 7) && is_letter(text[0])
 }
 
-/// "a computer number: digit, digit, alnum"; so 000's /FFF is none (docs/DECISIONS.md 8)
+/// "a computer number: digit, digit, alnum"; so 000's /FFF is none (docs/DECISIONS.md)
 fn is_computer_number(text: &[u8]) -> bool {
     text.len() == 3 && is_digit(text[0]) && is_digit(text[1]) && is_alnum(text[2])
 }
@@ -91,7 +91,7 @@ fn is_prefix(text: &[u8]) -> bool {
 }
 
 /// aircraft: "optional prefix and slash; type of 2 to 4 alnum; optional slash and letter".
-/// All its readings, each once: every cut of the field is tried (docs/DECISIONS.md 17). None is
+/// All its readings, each once: every cut of the field is tried (docs/DECISIONS.md). None is
 /// answer 9, and two different ones are answer 18.
 pub fn aircraft_readings(text: &[u8]) -> Vec<Aircraft<'_>> {
     // Each way to begin: no prefix, or a prefix of one or two bytes and a slash.
@@ -146,7 +146,7 @@ pub fn is_point(text: &[u8]) -> bool {
     alnums(text, 2, 12)
 }
 
-/// fix: "2 to 11 alnum, or 2 to 5, a slash, 1 to 6", all of them alnum (docs/DECISIONS.md 9)
+/// fix: "2 to 11 alnum, or 2 to 5, a slash, 1 to 6", all of them alnum (docs/DECISIONS.md)
 pub fn is_fix(text: &[u8]) -> bool {
     let with_slash = match around(text, b'/') {
         Some((front, back)) => alnums(front, 2, 5) && alnums(back, 1, 6),
@@ -181,7 +181,7 @@ pub fn is_arrival_clock(text: &[u8]) -> bool {
 // ---- levels ----
 
 /// level (AF, FZ, UZ): "2 or 3 digits, or two such with B between"; a falling block such as
-/// 350B310 reads (docs/DECISIONS.md 14)
+/// 350B310 reads (docs/DECISIONS.md)
 pub fn is_level(text: &[u8]) -> bool {
     let block = match around(text, b'B') {
         Some((front, back)) => digits(front, 2, 3) && digits(back, 2, 3),
@@ -422,7 +422,7 @@ mod tests {
         }
     }
 
-    /// docs/DECISIONS.md 17: two different readings never happen. All texts of a letter, a digit and a
+    /// docs/DECISIONS.md: two different readings never happen. All texts of a letter, a digit and a
     /// slash, up to ten bytes; an aircraft field has at most nine.
     #[test]
     fn aircraft_never_has_two_readings() {

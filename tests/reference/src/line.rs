@@ -210,7 +210,7 @@ pub fn read(line: &[u8]) -> Result<Message<'_>, Refusal> {
     let Some(message_type) = Type::read(&line[16..18]) else {
         return refused(7, 0);
     };
-    // From the F to the line's end, a space at the end counted; UZ never (docs/DECISIONS.md 1, 2).
+    // From the F to the line's end, a space at the end counted; UZ never (docs/DECISIONS.md).
     if message_type == Type::FZ && line[16..].len() > MOST_FZ {
         return refused(11, 0);
     }
@@ -251,7 +251,7 @@ pub fn read(line: &[u8]) -> Result<Message<'_>, Refusal> {
         let place = index + 1;
         read_field(*form, texts[index], place)?;
         // The E rule: "when it has E, the fix must be a position, else the time field is at
-        // fault". FZ and UZ only (docs/DECISIONS.md 4), and the time's own form came first, above.
+        // fault". FZ and UZ only (docs/DECISIONS.md), and the time's own form came first, above.
         let has_e_rule = message_type == Type::FZ || message_type == Type::UZ;
         if has_e_rule
             && *form == Form::Time
@@ -261,7 +261,7 @@ pub fn read(line: &[u8]) -> Result<Message<'_>, Refusal> {
             return refused(9, place);
         }
     }
-    // Only AF has fields beyond those of the table; strictly by place (docs/DECISIONS.md 12).
+    // Only AF has fields beyond those of the table; strictly by place (docs/DECISIONS.md).
     for index in (forms.len()..count).step_by(2) {
         let (number, content) = (texts[index], texts[index + 1]);
         let Some(which) = AMENDMENTS.iter().position(|(known, _)| *known == number) else {
@@ -420,7 +420,7 @@ mod tests {
         line
     }
 
-    /// Known: "FZ of 439 bytes reads, of 440 answers 11"; and docs/DECISIONS.md 1.
+    /// Known: "FZ of 439 bytes reads, of 440 answers 11"; and docs/DECISIONS.md.
     #[test]
     fn known_reading_longest_fz() {
         assert_eq!(answer(&filed("FZ", 439, "")), (0, 0));
@@ -432,7 +432,7 @@ mod tests {
         assert_eq!(answer(&filed("UZ", 2033, "")), (2, 0));
     }
 
-    /// docs/DECISIONS.md 2: 11 stands before 8 and 9, and after 1 to 7.
+    /// docs/DECISIONS.md: 11 stands before 8 and 9, and after 1 to 7.
     #[test]
     fn a_long_fz_answers_11_whatever_its_body_is() {
         assert_eq!(body(&format!("FZ{}", "X".repeat(438))), (11, 0));
@@ -463,7 +463,7 @@ mod tests {
             };
             assert_eq!(answer(&line), expected, "byte {byte}");
         }
-        // docs/DECISIONS.md 13: a carriage return is a byte like another.
+        // docs/DECISIONS.md: a carriage return is a byte like another.
         assert_eq!(answer(b"000106081500KZAAHB\r"), (3, 0));
         assert_eq!(answer(b"000106081500KZAARZ N5 AB CD\r"), (3, 0));
     }
@@ -497,7 +497,7 @@ mod tests {
                 "{facility}"
             );
         }
-        // docs/DECISIONS.md 10: the heartbeat printed in 000 6.3.
+        // docs/DECISIONS.md: the heartbeat printed in 000 6.3.
         assert_eq!(answer(b"123F23152309    HB"), (6, 0));
         for text in ["hb", "HX", "ZA", "A ", "  ", "ZZ", "FA"] {
             assert_eq!(body(text), (7, 0), "{text}");
@@ -533,7 +533,7 @@ mod tests {
         assert_eq!(body("DZ N5 C172 AB D0816 CD 2400"), (9, 6));
     }
 
-    /// docs/DECISIONS.md 11, and the error of the trade "splitting at any run of spaces, so that a
+    /// docs/DECISIONS.md, and the error of the trade "splitting at any run of spaces, so that a
     /// missing field shifts the rest".
     #[test]
     fn spacing_and_field_count() {
@@ -651,7 +651,7 @@ mod tests {
         assert_eq!(body("AF N5 AB CD 10 1"), (0, 0));
     }
 
-    /// docs/DECISIONS.md 12: strictly by place.
+    /// docs/DECISIONS.md: strictly by place.
     #[test]
     fn af_order_of_9_and_10() {
         assert_eq!(body("AF N5 AB CD 08 1 04 12"), (9, 5));
@@ -674,7 +674,7 @@ mod tests {
         }
     }
 
-    /// docs/DECISIONS.md 3: the E rule takes a position with its ranges, and the fault is the time's.
+    /// docs/DECISIONS.md: the E rule takes a position with its ranges, and the fault is the time's.
     #[test]
     fn e_rule() {
         for message_type in ["FZ", "UZ"] {
@@ -700,7 +700,7 @@ mod tests {
             assert_eq!(filed("ABC", "E0816", "5"), (9, 5));
             assert_eq!(filed("3015N/08430W", "E0816", "5"), (9, 6));
         }
-        // docs/DECISIONS.md 4: not in AF; and not in DZ, which has no fix.
+        // docs/DECISIONS.md: not in AF; and not in DZ, which has no fix.
         assert_eq!(body("AF N5 AB CD 06 SJC 07 E1200"), (0, 0));
         assert_eq!(body("DZ N5 C172 AB E0816 CD 0930"), (0, 0));
     }
@@ -723,7 +723,7 @@ mod tests {
         assert_eq!(requested("000106081500KZAARZ N5 AB CD"), None);
     }
 
-    /// docs/DECISIONS.md 5 to 9, 14 to 16.
+    /// docs/DECISIONS.md to 9, 14 to 16.
     #[test]
     fn other_readings_of_the_fields() {
         assert_eq!(body("DZ N5 C172 AB P0816 CD 0930"), (0, 0));

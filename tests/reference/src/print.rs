@@ -9,7 +9,7 @@ use crate::write::{put, write};
 /// "It stops reading after 4,294,967,295 lines."
 pub const MOST_LINES: u64 = 4_294_967_295;
 
-/// The text of a board: the FLIGHTS line and one row per flight (docs/DECISIONS.md 35), or 13.
+/// The text of a board: the FLIGHTS line and one row per flight (docs/DECISIONS.md), or 13.
 pub fn print(board: &Board) -> Result<Vec<u8>, u8> {
     if !board.is_allowed() {
         return Err(13);
@@ -58,8 +58,8 @@ fn print_row(key: &[u8], row: &Row, text: &mut Vec<u8>) {
 /// The board printer's whole output for a feed: each line is applied to a board that begins
 /// empty, until the feed ends or `limit` lines were read; then the board, and the line LINES
 /// and TAKEN. LINES counts line feeds, those of overlong and empty lines too and not an
-/// unended last line; TAKEN counts the lines that answered 0, of every type (docs/DECISIONS.md 33).
-/// Not one byte after the last of `limit` line feeds is looked at (docs/DECISIONS.md 36).
+/// unended last line; TAKEN counts the lines that answered 0, of every type (docs/DECISIONS.md).
+/// Not one byte after the last of `limit` line feeds is looked at (docs/DECISIONS.md).
 pub fn report(feed: &[u8], limit: u64) -> Vec<u8> {
     let mut board = Board::empty();
     let mut lines: u64 = 0;
@@ -183,7 +183,7 @@ mod tests {
         assert_eq!(limited(6), reported(CASE));
     }
 
-    /// docs/DECISIONS.md 36: nothing after the last line feed of the limit is used.
+    /// docs/DECISIONS.md: nothing after the last line feed of the limit is used.
     #[test]
     fn nothing_is_read_past_the_limit() {
         let long = format!("{CASE}{}", CASE.replace("QQX12", "QQX13"));
@@ -204,7 +204,7 @@ mod tests {
         assert_eq!(listed(""), "");
     }
 
-    /// docs/DECISIONS.md 33: LINES counts empty and overlong lines and not an unended last one; TAKEN
+    /// docs/DECISIONS.md: LINES counts empty and overlong lines and not an unended last one; TAKEN
     /// counts every type.
     #[test]
     fn lines_and_taken() {

@@ -1,11 +1,11 @@
 //! The writer (document 01, "Answer numbers", 15 and 16): from a message to its line, without
-//! a line feed (docs/DECISIONS.md 37).
+//! a line feed (docs/DECISIONS.md).
 
 use crate::line::{read, Message};
 
 /// The line of a message, or 16: "values to write that no line has".
 ///
-/// A message is allowed exactly if some line reads as it (docs/DECISIONS.md 38). A line that does so
+/// A message is allowed exactly if some line reads as it (docs/DECISIONS.md). A line that does so
 /// can only be the message's own parts put one after another, so these are put together and
 /// read again: either they read as this very message, or no line does.
 pub fn write(message: &Message) -> Result<Vec<u8>, u8> {
@@ -204,7 +204,7 @@ mod tests {
         );
     }
 
-    /// docs/DECISIONS.md 38: marks that are not those of the amendments, and a number that comes twice.
+    /// docs/DECISIONS.md: marks that are not those of the amendments, and a number that comes twice.
     #[test]
     fn amendments_that_no_line_has() {
         let amended = "000106081500KZAAAF N5 AB CD 08 050 09 060";
@@ -228,7 +228,7 @@ mod tests {
         });
     }
 
-    /// docs/DECISIONS.md 38: a line over 2,048 bytes, and an FZ over 439.
+    /// docs/DECISIONS.md: a line over 2,048 bytes, and an FZ over 439.
     #[test]
     fn lines_too_long_to_be_written() {
         let long = vec![b'X'; 3000];
