@@ -1,0 +1,121 @@
+// The known readings of document 01 and the sample lines of source 003: of each line its answer number and place, and of one that
+// reads its type, its flight's key if it has one, and whether writing what was read gives the same bytes.
+use libc::STDIN_FILENO;
+use libc::STDOUT_FILENO;
+use line::LineRead;
+use line::free;
+use line::read;
+use messages::Message;
+use messages::type_in;
+use text::Written;
+use values::values_in;
+use writer::write;
+
+fn say(bytes: &[u8]) {
+    io::write_all(STDOUT_FILENO, bytes);
+}
+
+fn is_same(a: &[u8], b: &[u8]) -> bool {
+    if a.len() != b.len() {
+        return false;
+    }
+    let mut i = 0;
+    while i < a.len() {
+        if a[i] != b[i] {
+            return false;
+        }
+        i += 1;
+    }
+    true
+}
+
+// The answer number and the place, and what comes after them.
+fn answer(number: u64, place: usize, after: &[u8]) {
+    io::print_decimal(STDOUT_FILENO, number);
+    say(b" ");
+    io::print_decimal(STDOUT_FILENO, place as u64);
+    say(after);
+}
+
+fn refuse(number: u64, place: usize) {
+    answer(number, place, b"\n");
+}
+
+// The key of the flight, after a space, where there is one.
+fn say_key(key: u64) {
+    if key == 0 {
+        return;
+    }
+    let mut room = [0u8; 13];
+    room[0] = b' ';
+    let written = writing::put(key, &mut room, 1);
+    let Written::Next(n) = written else {
+        return;
+    };
+    say(&room[..n]);
+}
+
+fn writes_same(m: Message, line: &[u8]) -> bool {
+    let rest = free(line);
+    let mut room = [0u8; 2048];
+    let written = write(m, rest, &mut room, 0);
+    let Written::Next(n) = written else {
+        return false;
+    };
+    is_same(&room[..n], line)
+}
+
+fn show(m: Message, line: &[u8]) {
+    let body = m.body;
+    let kind = type_in(body);
+    let mut letters = [0u8; 2];
+    answer(0, 0, b" ");
+    kind.put(&mut letters, 0);
+    say(&letters);
+    let values = values_in(body);
+    say_key(values[0].a);
+    if writes_same(m, line) {
+        say(b" same\n");
+    } else {
+        say(b" differs\n");
+    }
+}
+
+fn show_line(line: &[u8]) {
+    let read = read(line);
+    match read {
+        LineRead::Read(m) => show(m, line),
+        LineRead::Short => refuse(1, 0),
+        LineRead::Long => refuse(2, 0),
+        LineRead::Unprintable => refuse(3, 0),
+        LineRead::NoSequence => refuse(4, 0),
+        LineRead::NoStamp => refuse(5, 0),
+        LineRead::NoFacility => refuse(6, 0),
+        LineRead::NoType => refuse(7, 0),
+        LineRead::Spacing => refuse(8, 0),
+        LineRead::Field(place) => refuse(9, place),
+        LineRead::Number(place) => refuse(10, place),
+        LineRead::LongPlan => refuse(11, 0),
+        LineRead::Two(place) => refuse(18, place),
+    }
+}
+
+// Each line that a line feed ends.
+fn show_all(feed: &[u8]) {
+    let mut at: usize = 0;
+    while at < feed.len() {
+        let n = shapes::find(10, &feed[at..]);
+        if n >= feed.len() - at {
+            return;
+        }
+        let end = at + n;
+        show_line(&feed[at..end]);
+        at = end + 1;
+    }
+}
+
+fn main() {
+    let mut feed = [0u8; 131072];
+    let n = io::read_full(STDIN_FILENO, &mut feed);
+    show_all(&feed[..n]);
+}
