@@ -1,0 +1,196 @@
+//! The comparison: `compare PROVED FOLDER [SEED [LINES]]` hands random feeds to the proved
+//! programs and to the reference until so many lines were compared, and shows the first
+//! difference. It is started by the script `run` beside this folder.
+
+#![forbid(unsafe_code)]
+
+mod chance;
+mod damage;
+mod feeds;
+mod fields;
+mod lines;
+mod program;
+mod tally;
+
+use chance::Chance;
+use program::{parts, run, Printed};
+use reference::print::{list, report, MOST_LINES};
+use std::env;
+use std::fs;
+use std::io;
+use std::path::Path;
+use std::process::ExitCode;
+use tally::Tally;
+
+const SEED: u64 = 1;
+const LINES: u64 = 200_000;
+
+/// What is compared: a program, by the script that runs it and its name, and what the reference
+/// prints for the same feed.
+struct Pair<'a> {
+    proved: &'a Path,
+    name: &'static str,
+    reference: fn(&[u8]) -> Vec<u8>,
+    /// The longest feed that the program takes.
+    most: usize,
+}
+
+/// The board printer, and the program that lists the answer and the place of each line.
+fn pairs(proved: &Path) -> [Pair<'_>; 2] {
+    [
+        Pair {
+            proved,
+            name: "flights",
+            reference: |feed| report(feed, MOST_LINES),
+            most: usize::MAX,
+        },
+        Pair {
+            proved,
+            name: "readings",
+            reference: list,
+            most: 131_072,
+        },
+    ]
+}
+
+fn main() -> ExitCode {
+    let arguments: Vec<String> = env::args().skip(1).collect();
+    let number = |index: usize, otherwise: u64| match arguments.get(index) {
+        Some(text) => text.parse::<u64>().ok(),
+        None => Some(otherwise),
+    };
+    let (Some(seed), Some(lines), 2..=4) = (number(2, SEED), number(3, LINES), arguments.len())
+    else {
+        eprintln!("usage: run [SEED [LINES]], two whole numbers");
+        return ExitCode::from(2);
+    };
+    match compare(
+        Path::new(&arguments[0]),
+        Path::new(&arguments[1]),
+        seed,
+        lines,
+    ) {
+        Ok(true) => ExitCode::SUCCESS,
+        Ok(false) => ExitCode::FAILURE,
+        Err(error) => {
+            eprintln!("compare: {error}");
+            ExitCode::from(2)
+        }
+    }
+}
+
+/// Compares feed after feed. Whether there was no difference.
+fn compare(proved: &Path, folder: &Path, seed: u64, lines: u64) -> io::Result<bool> {
+    println!("seed {seed}, {lines} lines");
+    let pairs = pairs(proved);
+    let mut listed: u64 = 0;
+    let mut seeds = Chance::of_seed(seed);
+    let mut tally = Tally::default();
+    while tally.lines < lines {
+        let mut chance = Chance::of_seed(seeds.draw());
+        let most = usize::try_from(lines - tally.lines).unwrap_or(usize::MAX);
+        let feed = feeds::feed(&mut chance, most);
+        let parts = parts(&mut chance, &feed);
+        tally.count(&feed);
+        for pair in pairs.iter().filter(|pair| feed.len() <= pair.most) {
+            let printed = run(pair.proved, pair.name, &feed, &parts)?;
+            let expected = (pair.reference)(&feed);
+            if differs(&printed, &expected) {
+                println!("feed {} differs in {}", tally.feeds, pair.name);
+                show(&printed, &expected);
+                keep(pair, folder, &feed)?;
+                return Ok(false);
+            }
+            if pair.name == "readings" {
+                listed += expected.iter().filter(|&&byte| byte == b'\n').count() as u64;
+            }
+        }
+    }
+    tally.print();
+    println!(
+        "compared {} feeds, {} lines, {} taken, {listed} with number and place: no difference",
+        tally.feeds,
+        tally.lines,
+        tally.taken()
+    );
+    Ok(true)
+}
+
+fn differs(printed: &Printed, expected: &[u8]) -> bool {
+    printed.bad_end.is_some() || printed.text != expected
+}
+
+/// Shows the first line that differs, and two lines around it on each side.
+fn show(printed: &Printed, expected: &[u8]) {
+    if let Some(status) = &printed.bad_end {
+        println!("the program ended badly: {status}");
+    }
+    let expected: Vec<&[u8]> = expected.split_inclusive(|&byte| byte == b'\n').collect();
+    let got: Vec<&[u8]> = printed
+        .text
+        .split_inclusive(|&byte| byte == b'\n')
+        .collect();
+    let same = expected
+        .iter()
+        .zip(&got)
+        .take_while(|(line, other)| line == other)
+        .count();
+    for (name, lines) in [("expected", &expected), ("got", &got)] {
+        println!(
+            "{name}, from line {} of {}:",
+            same.saturating_sub(2) + 1,
+            lines.len()
+        );
+        for (index, line) in lines.iter().enumerate() {
+            if (same.saturating_sub(2)..=same + 2).contains(&index) {
+                let mark = if index == same { '>' } else { ' ' };
+                println!("{mark} {}", line.escape_ascii());
+            }
+        }
+    }
+}
+
+/// Keeps the feed, and beside it the least part of it that was found to differ.
+fn keep(pair: &Pair, folder: &Path, feed: &[u8]) -> io::Result<()> {
+    let whole = folder.join("difference.feed");
+    fs::write(&whole, feed)?;
+    println!("the feed: {}", whole.display());
+    if !differs_whole(pair, feed)? {
+        println!("given in one part it does not differ");
+        return Ok(());
+    }
+    let small = lessen(pair, feed)?;
+    let least = folder.join("difference-least.feed");
+    fs::write(&least, &small)?;
+    println!("its least part: {}", least.display());
+    for line in small.split_inclusive(|&byte| byte == b'\n').take(5) {
+        println!("  {}", line[..line.len().min(300)].escape_ascii());
+    }
+    Ok(())
+}
+
+/// Whether a feed differs when it is given in one part.
+fn differs_whole(pair: &Pair, feed: &[u8]) -> io::Result<bool> {
+    let printed = run(pair.proved, pair.name, feed, &[feed.len()])?;
+    Ok(differs(&printed, &(pair.reference)(feed)))
+}
+
+/// Takes lines away, many at once and then fewer, as long as the feed still differs.
+fn lessen(pair: &Pair, feed: &[u8]) -> io::Result<Vec<u8>> {
+    let mut lines: Vec<&[u8]> = feed.split_inclusive(|&byte| byte == b'\n').collect();
+    let mut width = lines.len();
+    while width > 1 {
+        width = width.div_ceil(2);
+        let mut from = 0;
+        while from < lines.len() && lines.len() > 1 {
+            let to = (from + width).min(lines.len());
+            let fewer = [&lines[..from], &lines[to..]].concat();
+            if differs_whole(pair, &fewer.concat())? {
+                lines = fewer;
+            } else {
+                from = to;
+            }
+        }
+    }
+    Ok(lines.concat())
+}
