@@ -1,19 +1,16 @@
 -- How many digits a number has, and its last one: what `size` and `put` count and write. Assumes nothing.
 use mathlib.Core.Path.{_≡_, refl}
 use mathlib.Core.Bool.{Bool, true, false}
-use mathlib.Core.List.{List, [], _∷_, _++_, map-append, append-nil, append-assoc}
+use mathlib.Core.List.{[], _∷_, _++_, map-append}
 use Prim.Native.Nat.{ℕ, zero, suc, _+_, _*_, _/_, _%_, _^_, _≤_, _<_}
-use native.Mathlib.Nat.{add-zero, pow-zero, pow-suc, pow-succ', one-le-pow, mod-lt, mod-eq-of-lt, one-mul, div-one, div-div-eq-div-mul}
+use native.Mathlib.Nat.{pow-succ'}
 use native.Mathlib.Omega.{arith}
-use lib.Arith.{mod-mul, digits-div, digits-mod}
 use lib.Dec.{ltb, lit≤}
-use lib.ListN.{length, take, drop, set, length-append, take-append-drop}
-use lib.Seq.{length-take-le, drop-at, take-set-le, set-split, append-snoc}
+use lib.ListN.{length}
 use borrow.Author.Tests.{lt-ltb, le-ltb, ltb-true, ltb-false, le-leb}
 use Rattle.text.specs.Code.{byteOf}
-use Rattle.text.specs.Place.{places}
 use Rattle.text.specs.Number.{padded}
-use Rattle.text.specs.Text.{spliced}
+use Rattle.text.proofs.Places.{places-last}
 use Rattle.text.proofs.Numbers.{length-padded}
 use Rattle.decimals.specs.Decimal.{widthBy, widthOf, decimal}
 
@@ -62,20 +59,6 @@ width-least (suc k) n h = go (ltb n 10) refl (width-least k (n / 10))
 
 -- ---- the last
 
-module _ (B hi : ℕ) (hB : hi < B) where
-  pos : (w : ℕ) → 0 < B ^ w
-  pos w = one-le-pow w B (omega arith)
-
-  pub places-last : (w n : ℕ) → n < B ^ suc w → places B (suc w) n ≡ places B w (n / B) ++ (n % B) ∷ []
-  unfolding places
-  places-last zero n h =
-      let l : n < B = omega (arith, rw (pow-zero, one-mul) at (pow-suc B 0)) in
-      rw (pow-zero, div-one, mod-eq-of-lt l)
-  places-last (suc w) n h =
-      let e : n % B ^ suc w ≡ (n / B % B ^ w) * B + n % B = rw pow-suc (mod-mul n (pos w) (omega arith)) in
-      let l : n % B < B = mod-lt n (omega arith) in
-      rw (places-last w (n % B ^ suc w) (mod-lt n (pos (suc w))), e, digits-div (n / B % B ^ w) l, digits-mod (n / B % B ^ w) l, div-div-eq-div-mul, pow-succ')
-
 pub byte-digit : (d : ℕ) → d ≤ 9 → byteOf (suc d) ≡ 48 + d
 unfolding byteOf
 byte-digit d h = rw (le-leb (suc d) 10 (omega arith)) (omega arith)
@@ -88,18 +71,3 @@ padded-last w n h = rw (places-last 10 9 (lit≤ tt) w n h, map-append, ← byte
 pub decimal-long : (n : ℕ) → length (decimal n) ≡ widthOf n
 unfolding decimal
 decimal-long n = length-padded 10 (widthOf n) n
-
--- ---- written before what was written
-
-pub splice-none : (l : List ℕ) (i : ℕ) → spliced l i [] ≡ l
-unfolding spliced
-splice-none l i = rw (append-nil, add-zero, take-append-drop)
-
--- one store, and then what comes before it, is both at once
-pub splice-last : (l vs : List ℕ) (i m b : ℕ) → length vs ≡ m → i + m < length l → spliced (set l (i + m) b) i vs ≡ spliced l i (vs ++ b ∷ [])
-unfolding spliced
-splice-last l vs i m b e h =
-    let j = i + m in
-    let back : drop j (set l j b) ≡ b ∷ drop (suc j) l = rw (set-split l j b h) (drop-at (take j l) (b ∷ drop (suc j) l) j (length-take-le j l (omega arith))) in
-    let next : i + length (vs ++ b ∷ []) ≡ suc j = omega (arith, length-append vs (b ∷ [])) in
-    rw (take-set-le i l j b (omega arith), e, back, next, ← (append-assoc (take i l) vs (b ∷ [])), append-snoc)

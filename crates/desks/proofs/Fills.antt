@@ -1,5 +1,5 @@
 -- The report in a buffer: written where it has room, and nothing else counts as one. Assumes nothing.
-use mathlib.Core.Path.{_≡_, sym, ap, _∙_}
+use mathlib.Core.Path.{_≡_, sym, _∙_}
 use mathlib.Core.Bool.{true}
 use mathlib.Core.List.{List, [], _∷_}
 use Prim.Native.Nat.{ℕ, _+_, _≤_}
@@ -11,8 +11,8 @@ use Rattle.text.specs.Text.{spliced}
 use Rattle.text.specs.declared.Written.{Written}
 use Rattle.text.specs.declared.Written.the-variants as written
 use Rattle.text.proofs.Written.{the-type as the-written}
-use Rattle.text.proofs.Laws.{has-room, next-known}
-use Rattle.text.proofs.Splice.{length-spliced, take-spliced}
+use Rattle.text.proofs.Wrote.{next-inside}
+use Rattle.text.proofs.Splice.{take-spliced}
 use Rattle.printer.specs.Text.{countsText}
 use Rattle.printer.specs.Print.{textIn}
 use Rattle.printer.specs.declared.Printed.{Printed}
@@ -22,7 +22,7 @@ use Rattle.reports.specs.Report.{reportOf}
 use Rattle.reports.specs.Run.{Prints, Counts}
 use Rattle.reports.proofs.Theorems.{report-printed}
 use Rattle.reports.proofs.Sizes.{report-size}
-use Rattle.desks.specs.Day.{limit, ReadTo, most, Fills}
+use Rattle.desks.specs.Day.{limit, ReadTo, longest, Fills}
 use Rattle.desks.specs.declared.Day.{Day}
 
 -- where nothing was written, the code tells only the variant's number
@@ -36,9 +36,9 @@ no-count (written.Next m) h n e = miss (1 ∷ 2 ∷ []) 0 tt h
 no-count written.NoRoom h n e = let z : _≡_ {A = ℕ} 0 1 = cc in omega arith
 no-count written.NoText h n e = let z : _≡_ {A = ℕ} 0 1 = cc in omega arith
 
-module _ (board : List ℕ) (d : Day) (out : List ℕ) (big : most ≤ length out) (r : Printed) (out₁ : List ℕ) (p : Prints board out 0 r out₁) where
+module _ (board : List ℕ) (d : Day) (out : List ℕ) (big : longest ≤ length out) (r : Printed) (out₁ : List ℕ) (p : Prints board out 0 r out₁) where
   room : (feed : List ℕ) → 0 + length (reportOf limit feed) ≤ length out
-  room feed = omega (arith, report-size limit (omega arith) feed)
+  room feed = omega (arith, report-size limit feed)
 
   pub fills-nothing : OneOf (1 ∷ 2 ∷ []) (tagOf the-printed r) → Fills board d 0 out₁
   fills-nothing h feed held q = absurd (no-print r h _ (report-printed limit q out 0 (room feed) r out₁ p .0))
@@ -64,8 +64,4 @@ module _ (board : List ℕ) (d : Day) (out : List ℕ) (big : most ≤ length ou
         (x, rw (f .1) (take-spliced out (reportOf limit feed) m x))
 
     pub inside : (m : ℕ) → w ≡ written.Next m → m ≤ length out₂
-    inside m g =
-        let c = countsText (d .lines) (d .taken) in
-        let b = next-known c out₁ n {ok = true} {n = m} (sym (k .0) ∙ g) in
-        let y : out₂ ≡ spliced out₁ n c = k .1 ∙ sym (has-room c out₁ n {ok = true} (b .0) (b .2) .1) in
-        omega (arith, ap length y, length-spliced out₁ c n (b .2), b .1)
+    inside m g = next-inside true (countsText (d .lines) (d .taken)) out₁ n (sym (k .0) ∙ g) (k .1)

@@ -25,8 +25,8 @@ abbrev pub TakesIn : List ℕ → List ℕ → Day → List ℕ → List ℕ →
 TakesIn board held d block board′ held′ d′ = (feed : List ℕ) → ReadTo feed board held d → ReadTo (feed ++ block) board′ held′ d′
 
 -- no report is longer (`reports/proofs/Sizes`)
-abbrev pub most : ℕ
-most = 18300
+abbrev pub longest : ℕ
+longest = 18300
 
 -- the first r bytes of out′ are the report of the feed that was read
 abbrev pub Fills : List ℕ → Day → ℕ → List ℕ → Type 0

@@ -10,7 +10,7 @@ ghost use mathlib.Core.Path.{_≡_};
 ghost use mathlib.Core.Bool.{false};
 ghost use Prim.Native.Nat.{_≤_};
 ghost use lib.ListN.{length};
-ghost use Rattle.desks.specs.Day.{limit, Kept, TakesIn, most, Fills, AtStart};
+ghost use Rattle.desks.specs.Day.{limit, Kept, TakesIn, longest, Fills, AtStart};
 
 // "It stops reading after 4,294,967,295 lines."
 const LIMIT: usize = 4294967295;
@@ -102,7 +102,7 @@ fn read_all(fd: i32, name: &[u8], block: &mut [u8], board: &mut [u64], held: &mu
 // The report at the start of out, which has room for any: how many bytes it has.
 fn fill(board: &[u64], day: Day, out: &mut [u8]) -> usize
     requires { ⌜ (day .lines ≤ limit) × (day .taken ≤ limit) ⌝ }
-    requires { ⌜ most ≤ length (now out) ⌝ }
+    requires { ⌜ longest ≤ length (now out) ⌝ }
     ensures { λ r. ⌜ r ≤ length (now (out .exit)) ⌝ }
     ensures { λ r. ⌜ Fills (now (board .entry)) day r (now (out .exit)) ⌝ }
 {

@@ -1,17 +1,14 @@
 -- The text of an allowed board, row by row: what is left from a row on, and how long it can be. Assumes nothing.
 use mathlib.Core.Path.{_≡_, refl, sym, ap, _∙_}
 use mathlib.Core.Bool.{true}
-use mathlib.Core.List.{List, [], _∷_, _++_, append-nil, append-assoc}
+use mathlib.Core.List.{List, [], _∷_, _++_}
 use Prim.Native.Nat.{ℕ, zero, suc, _+_, _*_, _-_, _≤_, _<_}
-use native.Mathlib.Nat.{zero-add, le-of-eq, le-of-suc-le-suc, not-suc-le-zero}
+use native.Mathlib.Nat.{le-of-suc-le-suc, not-suc-le-zero}
 use native.Mathlib.Omega.{arith}
-use lib.ListN.{length, getD, take, drop, length-drop, length-append, drop-of-length-le}
+use lib.ListN.{length, getD, drop, length-drop, length-append, drop-of-length-le}
 use lib.Seq.{drop-drop}
-use borrow.Rule.Slice.PartMut.{putMid}
 use Rattle.text.specs.Bytes.{bytes}
-use Rattle.text.specs.Text.{spliced}
 use Rattle.text.proofs.Logic.{and-left, and-right}
-use Rattle.shapes.proofs.Laws.{rest-all}
 use Rattle.rows.specs.Row.{rowOf, isRow, isRowWords}
 use Rattle.rows.specs.Rows.{allRows}
 use Rattle.rows.specs.declared.Row.{Row}
@@ -26,14 +23,6 @@ use Rattle.printer.specs.Text.{boardText}
 use Rattle.printer.specs.Print.{textIn}
 use Rattle.printer.specs.Asks.{counted}
 use Rattle.printer.proofs.Counts.{counted-size, flights-line}
-
--- what is written at the start of the rest that is lent on, from m, is written at m
-pub lend-on : (l us : List ℕ) (m : ℕ) {ys : List ℕ} → ys ≡ spliced (take (length l - m) (drop m l)) 0 us → putMid m (length l - m) l ys ≡ spliced l m us
-unfolding spliced
-lend-on l us m e =
-    let after = us ++ drop (0 + length us) (drop m l) in
-    rw (e, rest-all l m, drop-of-length-le (drop m l) (le-of-eq (length-drop m l)), append-nil after, zero-add, drop-drop (length us) m l)
-    (sym (append-assoc (take m l) us (drop (m + length us) l)))
 
 -- ---- rows
 

@@ -11,6 +11,7 @@ use Rattle.history.specs.Steps.{rowsAfter}
 use Rattle.cutter.specs.Feed.{lineFeed, Line}
 use Rattle.feeding.specs.Tally.{eventOf, rowsBy, takenBy, lineFeeds, readOf}
 use Rattle.feeding.specs.Fed.{readIn}
+use Rattle.feeding.proofs.Tallies.{read-none, read-zero}
 
 pub rows-then : (rs : List Row) (ls ms : List Line) → rowsBy rs (ls ++ ms) ≡ rowsBy (rowsBy rs ls) ms
 unfolding rowsBy
@@ -42,19 +43,16 @@ read-other : (n x : ℕ) (s : List ℕ) → eqb x lineFeed ≡ false → readIn 
 unfolding readOf
 read-other n x s q = rw q
 
-read-none : (s : List ℕ) → readIn 0 s ≡ []
-unfolding readOf
-read-none s = refl
+none-read : (s : List ℕ) → readIn 0 s ≡ []
+none-read s = rw (read-zero s)
 
 pub read-empty : (n : ℕ) → readIn n [] ≡ []
-unfolding readOf
-read-empty zero = refl
-read-empty (suc n) = refl
+read-empty n = rw (read-none n)
 
 -- reading a text and then another, as far as so many lines allow: the first, and of the second what is still allowed
 pub read-then : (n : ℕ) (a b : List ℕ) → readIn n (a ++ b) ≡ readIn n a ++ readIn (n - lineFeeds (readIn n a)) b
 unfolding lineFeeds
-read-then zero a b = rw (read-none (a ++ b), read-none a, read-none b)
+read-then zero a b = rw (none-read (a ++ b), none-read a, none-read b)
 read-then (suc n) [] b = rw (read-empty (suc n), sub-zero)
 read-then (suc n) (x ∷ a) b = go (eqb x lineFeed) refl (read-then n a b) (read-then (suc n) a b)
   where

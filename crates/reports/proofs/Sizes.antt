@@ -2,7 +2,7 @@
 use mathlib.Core.Path.{_≡_, refl, ap}
 use mathlib.Core.Bool.{true}
 use mathlib.Core.List.{List, [], _∷_}
-use Prim.Native.Nat.{ℕ, _+_, _*_, _^_, _≤_, _<_}
+use Prim.Native.Nat.{ℕ, _+_, _*_, _≤_}
 use native.Mathlib.Omega.{arith}
 use lib.ListN.{length, length-append}
 use Rattle.text.specs.Bytes.{bytes}
@@ -60,7 +60,7 @@ on-short s =
       counts-short (linesIn s) (takenIn s),
     )
 
--- THE LAW. Below 10 to the 20th the counts are printed with all their digits; `decimal` never gives more than twenty.
-pub report-size : (limit : ℕ) → limit < 10 ^ 20 → (feed : List ℕ) → length (reportOf limit feed) ≤ 18300
+-- THE LAW
+pub report-size : (limit : ℕ) (feed : List ℕ) → length (reportOf limit feed) ≤ 18300
 unfolding reportOf
-report-size limit h feed = on-short (readIn limit feed)
+report-size limit feed = on-short (readIn limit feed)

@@ -11,7 +11,7 @@ use lib.Dec.{eqb}
 use lib.ListN.{length, getD, take, length-append}
 use borrow.Author.Tests.{ne-eqb, eqb-true}
 use Rattle.text.specs.Text.{textOf}
-use Rattle.text.proofs.Logic.{and-left, and-right}
+use Rattle.text.proofs.Logic.{and-left, and-right, and-four}
 use Rattle.text.proofs.Laws.{text-is, packed-text}
 use Rattle.forms.specs.Kind.{STAMP, KEY, POINT, ARRIVAL, GROUND-SPEED, TRACK-LEVEL, POSITION}
 use Rattle.words.specs.Word.{isWord}
@@ -36,19 +36,13 @@ some-word k t e =
     let p = word-packed k t e in
     ne-eqb t 0 (λ z. packed-some (textOf t) (text-is t p) (word-some k t e) (packed-text t p ∙ z))
 
-four : (a b c d : Bool) → (a && b && c && d) ≡ true → (a ≡ true) × (b ≡ true) × (c ≡ true) × (d ≡ true)
-four a b c d e =
-    let f = and-left (a && b && c) d e in
-    let g = and-left (a && b) c f in
-    (and-left a b g, and-right a b g, and-right (a && b) c f, and-right (a && b && c) d e)
-
 -- ---- an entry and its four words
 
 departure-some : (a b c d : ℕ) → (isWord POINT a && isWord POINT b && isWord ARRIVAL c && isWord STAMP d) ≡ true → eqb a 0 ≡ false
-departure-some a b c d e = some-word POINT a (four (isWord POINT a) (isWord POINT b) (isWord ARRIVAL c) (isWord STAMP d) e .0)
+departure-some a b c d e = some-word POINT a (and-four (isWord POINT a) (isWord POINT b) (isWord ARRIVAL c) (isWord STAMP d) e .0)
 
 speed-some : (a b c d : ℕ) → (isWord GROUND-SPEED a && isWord TRACK-LEVEL b && isWord POSITION c && isWord STAMP d) ≡ true → eqb a 0 ≡ false
-speed-some a b c d e = some-word GROUND-SPEED a (four (isWord GROUND-SPEED a) (isWord TRACK-LEVEL b) (isWord POSITION c) (isWord STAMP d) e .0)
+speed-some a b c d e = some-word GROUND-SPEED a (and-four (isWord GROUND-SPEED a) (isWord TRACK-LEVEL b) (isWord POSITION c) (isWord STAMP d) e .0)
 
 abbrev cell : List ℕ → ℕ → ℕ
 cell w i = getD w i 0
@@ -116,7 +110,7 @@ module _ (k : ℕ) (rest : List ℕ) where
 
 parts : (r : Row) → isRow r ≡ true → (isWord KEY (r .key .0) ≡ true) × (isArrival (r .arrival) ≡ true) × (isTrack (r .track) ≡ true) × (hasEntry (r .arrival) (r .track) ≡ true)
 unfolding isRow
-parts r e = four (isWord KEY (r .key .0)) (isArrival (r .arrival)) (isTrack (r .track)) (hasEntry (r .arrival) (r .track)) e
+parts r e = and-four (isWord KEY (r .key .0)) (isArrival (r .arrival)) (isTrack (r .track)) (hasEntry (r .arrival) (r .track)) e
 
 pub row-key : (r : Row) → isRow r ≡ true → isWord KEY (r .key .0) ≡ true
 row-key r e = parts r e .0
@@ -191,7 +185,7 @@ tab-take (suc n) (x ∷ w) h = ap (λ (z : List ℕ). x ∷ z) (tab-take n w (le
 six : (a b c d e f : Bool) → (a && b && c && d && e && f) ≡ true → (a ≡ true) × (b ≡ true) × (c ≡ true) × (d ≡ true) × (e ≡ true) × (f ≡ true)
 six a b c d e f h =
     let g = and-left (a && b && c && d && e) f h in
-    let p = four a b c d (and-left (a && b && c && d) e g) in
+    let p = and-four a b c d (and-left (a && b && c && d) e g) in
     (p .0, p .1, p .2, p .3, and-right (a && b && c && d) e g, and-right (a && b && c && d && e) f h)
 
 -- eleven words that pass are the words of their row, and it is allowed

@@ -1,4 +1,3 @@
-pub mod Wrote
 pub mod Sizes
 pub mod Lines
 pub mod Unique

@@ -1,6 +1,6 @@
 -- THE LAW of `slips`: the line of an allowed row is the line of its words in their order, each the number of a text. Assumes nothing.
 use mathlib.Core.Path.{_≡_, refl, sym, ap, _∙_}
-use mathlib.Core.Bool.{Bool, true, _&&_}
+use mathlib.Core.Bool.{true}
 use mathlib.Core.List.{List, [], _∷_, _++_, map, map-append}
 use Prim.Native.Nat.{ℕ, _+_, _≤_}
 use native.Mathlib.Omega.{arith}
@@ -9,7 +9,7 @@ use lib.Seq.{getD-take, getD-drop}
 use Rattle.text.specs.Class.{all}
 use Rattle.text.specs.Place.{tight}
 use Rattle.text.specs.Text.{textOf, isPacked}
-use Rattle.text.proofs.Logic.{and-left, and-right}
+use Rattle.text.proofs.Logic.{and-four}
 use Rattle.forms.specs.Kind.{STAMP, KEY, POINT, ARRIVAL, GROUND-SPEED, TRACK-LEVEL, POSITION}
 use Rattle.words.specs.Word.{isWord}
 use Rattle.words.proofs.Laws.{word-packed}
@@ -27,12 +27,6 @@ use Rattle.slips.specs.Parts.{partText, partsOf, slipText, Eight}
 
 -- ---- what an allowed row is, in parts
 
-four : (a b c d : Bool) → (a && b && c && d) ≡ true → (a ≡ true) × (b ≡ true) × (c ≡ true) × (d ≡ true)
-four a b c d e =
-    let f = and-left (a && b && c) d e in
-    let g = and-left (a && b) c f in
-    (and-left a b g, and-right a b g, and-right (a && b) c f, and-right (a && b && c) d e)
-
 pub record Arrives (a : Arrival) : Type 0 where
   pub departure : isWord POINT (a .departure .0) ≡ true
   pub destination : isWord POINT (a .destination .0) ≡ true
@@ -47,13 +41,13 @@ pub record Tracks (t : Track) : Type 0 where
 pub arrives : (a : Arrival) → isArrival (arrival.Entry a) ≡ true → Arrives a
 unfolding isArrival
 arrives a e =
-    let f = four (isWord POINT (a .departure .0)) (isWord POINT (a .destination .0)) (isWord ARRIVAL (a .clock .0)) (isWord STAMP (a .stamp .0)) e in
+    let f = and-four (isWord POINT (a .departure .0)) (isWord POINT (a .destination .0)) (isWord ARRIVAL (a .clock .0)) (isWord STAMP (a .stamp .0)) e in
     record { departure = f .0; destination = f .1; clock = f .2 }
 
 pub tracks : (t : Track) → isTrack (track.Entry t) ≡ true → Tracks t
 unfolding isTrack
 tracks t e =
-    let f = four (isWord GROUND-SPEED (t .speed .0)) (isWord TRACK-LEVEL (t .level .0)) (isWord POSITION (t .position .0)) (isWord STAMP (t .stamp .0)) e in
+    let f = and-four (isWord GROUND-SPEED (t .speed .0)) (isWord TRACK-LEVEL (t .level .0)) (isWord POSITION (t .position .0)) (isWord STAMP (t .stamp .0)) e in
     record { stamp = f .3; speed = f .0; level = f .1; position = f .2 }
 
 pub record Allowed (r : Row) : Type 0 where
@@ -64,7 +58,7 @@ pub record Allowed (r : Row) : Type 0 where
 pub allowed : (r : Row) → isRow r ≡ true → Allowed r
 unfolding isRow
 allowed r e =
-    let f = four (isWord KEY (r .key .0)) (isArrival (r .arrival)) (isTrack (r .track)) (hasEntry (r .arrival) (r .track)) e in
+    let f = and-four (isWord KEY (r .key .0)) (isArrival (r .arrival)) (isTrack (r .track)) (hasEntry (r .arrival) (r .track)) e in
     record { key = f .0; arrival = f .1; track = f .2 }
 
 -- ---- the words of a row in the order of its line

@@ -3,6 +3,7 @@ pub mod Codes
 pub mod Places
 pub mod Laws
 pub mod Splice
+pub mod Wrote
 pub mod Joined
 pub mod Numbers
 pub mod Order

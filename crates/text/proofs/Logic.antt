@@ -15,6 +15,13 @@ pub and-right : (a b : Bool) → (a && b) ≡ true → b ≡ true
 and-right true b e = e
 and-right false b e = absurd (subst (λ (t : Bool). T t) (sym e) tt)
 
+-- four tests together
+pub and-four : (a b c d : Bool) → (a && b && c && d) ≡ true → (a ≡ true) × (b ≡ true) × (c ≡ true) × (d ≡ true)
+and-four a b c d e =
+    let f = and-left (a && b && c) d e in
+    let g = and-left (a && b) c f in
+    (and-left a b g, and-right a b g, and-right (a && b) c f, and-right (a && b && c) d e)
+
 pub true-false : {X : Type 0} {t : Bool} → t ≡ true → t ≡ false → X
 true-false p q = absurd (subst (λ (t : Bool). T t) (sym p ∙ q) tt)
 

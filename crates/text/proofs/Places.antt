@@ -1,11 +1,11 @@
 -- The laws of places, over any base and width: the value of digits and the digits of a value give each other. Assumes nothing.
 use mathlib.Core.Path.{_≡_, refl, sym, ap, _∙_}
 use mathlib.Core.Bool.{Bool, true, false, _&&_}
-use mathlib.Core.List.{List, [], _∷_}
+use mathlib.Core.List.{List, [], _∷_, _++_}
 use Prim.Native.Nat.{ℕ, zero, suc, _+_, _-_, _*_, _/_, _%_, _^_, _≤_, _<_, zero-le}
-use native.Mathlib.Nat.{pow-zero, pow-succ', one-le-pow, div-add-mod', mod-lt, div-lt-iff-lt-mul, le-div-iff-mul-le, mul-pos, mul-le-mul-right, le-of-suc-le-suc, not-suc-le-zero, suc-inj}
+use native.Mathlib.Nat.{pow-zero, pow-suc, pow-succ', mod-eq-of-lt, one-mul, div-one, div-div-eq-div-mul, one-le-pow, div-add-mod', mod-lt, div-lt-iff-lt-mul, le-div-iff-mul-le, mul-pos, mul-le-mul-right, le-of-suc-le-suc, not-suc-le-zero, suc-inj}
 use native.Mathlib.Omega.{arith}
-use lib.Arith.{digits-lt, digits-div, digits-mod}
+use lib.Arith.{mod-mul, digits-lt, digits-div, digits-mod}
 use lib.Dec.{leb, eqb}
 use lib.ListN.{length}
 use borrow.Author.Tests.{le-leb, ne-eqb, leb-true, eqb-true}
@@ -158,3 +158,15 @@ module _ (B hi : ℕ) (hB : hi < B) where
   places-in (suc w) n k h =
       let d : n / B ^ w < B = div-lt-iff-lt-mul (pow-pos B hi hB w) .1 (rw (← pow-succ') h) in
       allIn-more 0 hi (n / B ^ w) (places B w (n % B ^ w)) zero-le (omega arith) ∙ places-in w (n % B ^ w) k (mod-lt n (pow-pos B hi hB w))
+
+-- the digits of n are those of n / B, and then its last
+module _ (B hi : ℕ) (hB : hi < B) where
+  pub places-last : (w n : ℕ) → n < B ^ suc w → places B (suc w) n ≡ places B w (n / B) ++ (n % B) ∷ []
+  unfolding places
+  places-last zero n h =
+      let l : n < B = omega (arith, rw (pow-zero, one-mul) at (pow-suc B 0)) in
+      rw (pow-zero, div-one, mod-eq-of-lt l)
+  places-last (suc w) n h =
+      let e : n % B ^ suc w ≡ (n / B % B ^ w) * B + n % B = rw pow-suc (mod-mul n (pow-pos B hi hB w) (omega arith)) in
+      let l : n % B < B = mod-lt n (omega arith) in
+      rw (places-last w (n % B ^ suc w) (mod-lt n (pow-pos B hi hB (suc w))), e, digits-div (n / B % B ^ w) l, digits-mod (n / B % B ^ w) l, div-div-eq-div-mul, pow-succ')

@@ -1,16 +1,14 @@
 -- Writing a line part by part: the rest of a buffer lent on, fields one after the other, and a body. Assumes nothing.
 use mathlib.Core.Path.{_≡_, refl, sym, ap, _∙_}
 use mathlib.Core.Bool.{Bool, true, false, and-false}
-use mathlib.Core.List.{List, [], _∷_, _++_, append-nil, append-assoc}
+use mathlib.Core.List.{List, [], _∷_, _++_, append-assoc}
 use Prim.Native.Nat.{ℕ, _+_, _-_, _≤_, _<_}
-use native.Mathlib.Nat.{zero-add, add-zero, le-of-eq}
 use native.Mathlib.Omega.{arith}
-use lib.ListN.{length, take, drop, set, length-set, length-drop, length-append, drop-of-length-le, take-append-drop}
-use lib.Seq.{drop-drop}
+use lib.ListN.{length, take, drop, set, length-set, length-drop, length-append}
 use borrow.Rule.Slice.PartMut.{putMid}
 use Rattle.text.specs.Text.{spliced, writtenBytes}
 use Rattle.text.proofs.Logic.{true-false, not-fails}
-use Rattle.text.proofs.Splice.{set-spliced, spliced-next, next-store, length-spliced}
+use Rattle.text.proofs.Splice.{set-spliced, spliced-next, next-store, length-spliced, lend-on}
 use Rattle.shapes.proofs.Laws.{rest-all}
 use Rattle.spacing.specs.Body.{space, bodyOf}
 use Rattle.kinds.specs.Field.{leftOf, shown}
@@ -23,23 +21,11 @@ use Rattle.messages.specs.Body.{typeIn, fieldCount, valuesIn}
 use Rattle.messages.specs.Allowed.{isWhole, kindsIn, bodyText, isFielded, isBody}
 use Rattle.messages.specs.declared.Body.{Body}
 use Rattle.sizes.specs.Size.{fieldsText}
-use Rattle.sizes.proofs.Wrote.{wrote}
+use Rattle.text.proofs.Wrote.{wrote}
 use Rattle.sizes.proofs.Lines.{Has, has-kinds, has-values, has-length}
 use Rattle.writer.specs.Asks.{PutAsks, BodyAsks}
 
 -- ---- bytes
-
--- what is written at the start of the rest that is lent on, from m, is written at m
-pub lend-on : (l us : List ℕ) (m : ℕ) {ys : List ℕ} → ys ≡ spliced (take (length l - m) (drop m l)) 0 us → putMid m (length l - m) l ys ≡ spliced l m us
-unfolding spliced
-lend-on l us m e =
-    let after = us ++ drop (0 + length us) (drop m l) in
-    rw (e, rest-all l m, drop-of-length-le (drop m l) (le-of-eq (length-drop m l)), append-nil after, zero-add, drop-drop (length us) m l)
-    (sym (append-assoc (take m l) us (drop (m + length us) l)))
-
-pub spliced-none : (l : List ℕ) (i : ℕ) → spliced l i [] ≡ l
-unfolding spliced
-spliced-none l i = rw (append-nil, add-zero) (take-append-drop i l)
 
 -- a byte stored, and bytes after it
 pub stored-next : (l us : List ℕ) (i b : ℕ) → i < length l → spliced (set l i b) (i + 1) us ≡ spliced l i (b ∷ us)

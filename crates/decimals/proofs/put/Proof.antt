@@ -8,6 +8,7 @@ use native.Mathlib.Omega.{arith}
 use lib.ListN.{length, set, length-set}
 use denote.Ref.{now}
 use borrow.Author.Needs.{needs}
+use Rattle.text.proofs.Splice.{spliced-none, spliced-last}
 use Rattle.text.specs.Place.{places}
 use Rattle.text.specs.Number.{padded}
 use Rattle.text.specs.Text.{spliced}
@@ -15,7 +16,7 @@ use Rattle.text.specs.declared.Written.the-variants.{Next}
 use Rattle.text.proofs.Laws.{has-room, no-room-told, room-told}
 use Rattle.text.proofs.Numbers.{length-padded}
 use Rattle.decimals.specs.Decimal.{widthOf, decimal}
-use Rattle.decimals.proofs.Digits.{width-enough, decimal-long, padded-last, splice-none, splice-last}
+use Rattle.decimals.proofs.Digits.{width-enough, decimal-long, padded-last}
 use Rattle.decimals.proofs.put.Statement.{statement}
 use Rattle.decimals.proofs.put.Tie as tie
 
@@ -45,7 +46,7 @@ module _ {n at w : ℕ} {out₀ out : List ℕ} {r k : ℕ} (v : Inv n at w out�
   whole h =
       let z : k ≡ 0 = omega arith in
       let e : spliced out at (padded 10 0 r) ≡ spliced out₀ at (decimal n) = rw z at (v .rest) in
-      sym (splice-none out at) ∙ e
+      sym (spliced-none out at) ∙ e
 
   module _ (more : 0 < k) where
     inside : at + (k - 1) < length out
@@ -62,7 +63,7 @@ module _ {n at w : ℕ} {out₀ out : List ℕ} {r k : ℕ} (v : Inv n at w out�
           room = v .room;
           same = length-set out (at + (k - 1)) b ∙ v .same;
           rest =
-              splice-last out (padded 10 (k - 1) (r / 10)) at (k - 1) b (length-padded 10 (k - 1) (r / 10)) inside
+              spliced-last out (padded 10 (k - 1) (r / 10)) at (k - 1) b (length-padded 10 (k - 1) (r / 10)) inside
               ∙ rw (e, ← (padded-last (k - 1) r small)) rest;
         }
 

@@ -7,13 +7,12 @@ use borrow.Author.Needs.{needs}
 use borrow.Rule.Slice.PartMut.{putMid}
 use lib.ListN.{length, getD, take, drop, length-drop}
 use Rattle.text.specs.Text.{spliced}
-use Rattle.text.proofs.Splice.{length-spliced, spliced-next}
+use Rattle.text.proofs.Splice.{length-spliced, spliced-next, spliced-none, lend-on}
 use Rattle.shapes.proofs.Laws.{rest-all}
 use Rattle.board.specs.Board.{rowsOf}
 use Rattle.slips.specs.Text.{rowsText}
 use Rattle.printer.specs.Asks.{RowsAsk}
-use Rattle.decimals.proofs.Digits.{splice-none}
-use Rattle.printer.proofs.Boards.{lend-on, board-long, Walk, walk-start, unprinted, line, walk-end, walk-next, walk-inside, row-whole, row-good, walk-text, walk-size}
+use Rattle.printer.proofs.Boards.{board-long, Walk, walk-start, unprinted, line, walk-end, walk-next, walk-inside, row-whole, row-good, walk-text, walk-size}
 use Rattle.printer.proofs.put_rows.Statement.{statement}
 use Rattle.printer.proofs.put_rows.Tie as tie
 
@@ -62,7 +61,7 @@ module _ {l out₀ out : List ℕ} {at left p j : ℕ} (v : Inv l out₀ at out 
         }
 
   done : left ≤ 0 → out ≡ spliced out₀ at (rowsText (rowsOf l))
-  done h = sym (splice-none out j) ∙ (rw (walk-end (v .walk) h) at (v .text))
+  done h = sym (spliced-none out j) ∙ (rw (walk-end (v .walk) h) at (v .text))
 
 abbrev Inv-loop : tie.InvT-loop
 Inv-loop board out₀ at left₀ p₀ j₀ out left p j = Inv board out₀ at out left p j

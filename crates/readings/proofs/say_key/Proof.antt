@@ -1,14 +1,15 @@
 -- `say_key` is safe: the text that was written lies in the room. Assumes nothing.
 use borrow.Author.Needs.{needs}
-use Rattle.readings.proofs.Inside.{inside, part}
+use mathlib.Core.Path.{sym, _∙_}
+use Rattle.text.proofs.Wrote.{next-inside, next-part}
 use Rattle.readings.proofs.say_key.Statement.{statement}
 use Rattle.readings.proofs.say_key.Tie as tie
 
 room : tie.Need-array-share-prefix-room
-room c = let p = c .before .before .before .before in inside _ _ _ _ _ _ (p .put .ensures) _ (c .before .written .given .1)
+room c = let p = c .before .before .before .before in next-inside _ _ _ _ (sym (p .put .ensures .0) ∙ c .before .written .given .1) (p .put .ensures .1)
 
 text : tie.Need-slice-aggregate-say
-text c = let p = c .before .before .before .before .before in part _ _ _ _ _ _ (p .put .ensures) _ (c .before .before .written .given .1)
+text c = let p = c .before .before .before .before .before in next-part _ _ _ _ (sym (p .put .ensures .0) ∙ c .before .before .written .given .1) (p .put .ensures .1)
 
 pub say-key-spec : {M : Type 1} → statement M
 say-key-spec =

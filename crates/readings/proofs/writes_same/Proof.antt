@@ -1,14 +1,15 @@
 -- `writes_same` is safe: the line that was written lies in the room. Assumes nothing.
 use borrow.Author.Needs.{needs}
-use Rattle.readings.proofs.Inside.{inside, part}
+use mathlib.Core.Path.{sym, _∙_}
+use Rattle.text.proofs.Wrote.{next-inside, next-part}
 use Rattle.readings.proofs.writes_same.Statement.{statement}
 use Rattle.readings.proofs.writes_same.Tie as tie
 
 room : tie.Need-array-share-prefix-room
-room c = let p = c .before .before .before .before in inside _ _ _ _ _ _ (p .write .ensures) _ (c .before .written .given .1)
+room c = let p = c .before .before .before .before in next-inside _ _ _ _ (sym (p .write .ensures .0) ∙ c .before .written .given .1) (p .write .ensures .1)
 
 text : tie.Need-slice-aggregate-is-same
-text c = let p = c .before .before .before .before .before in part _ _ _ _ _ _ (p .write .ensures) _ (c .before .before .written .given .1)
+text c = let p = c .before .before .before .before .before in next-part _ _ _ _ (sym (p .write .ensures .0) ∙ c .before .before .written .given .1) (p .write .ensures .1)
 
 pub writes-same-spec : {M : Type 1} → statement M
 writes-same-spec =

@@ -6,7 +6,7 @@ use borrow.Author.Tests.{ne-eqb}
 use Rattle.text.proofs.Laws.{next-known, no-room-known, no-text-known}
 use Rattle.kinds.proofs.Laws.{shown-short}
 use Rattle.sizes.proofs.Sizes.{field-not, field-is}
-use Rattle.sizes.proofs.Wrote.{next-text}
+use Rattle.text.proofs.Wrote.{next-text}
 use borrow.Author.Needs.{needs}
 use Rattle.sizes.proofs.size_field.Statement.{statement}
 use Rattle.sizes.proofs.size_field.Tie as tie

@@ -11,7 +11,7 @@ use borrow.Author.Needs.{needs}
 use borrow.Rule.Slice.PartMut.{putMid}
 use denote.Ref.{now}
 use Rattle.text.specs.Text.{spliced}
-use Rattle.text.proofs.Splice.{length-spliced}
+use Rattle.text.proofs.Splice.{length-spliced, lend-on, spliced-none}
 use Rattle.shapes.proofs.Laws.{rest-all, next-byte}
 use Rattle.spacing.specs.Body.{space, bodyOf}
 use Rattle.kinds.specs.Field.{leftOf, marksOf, shown}
@@ -22,7 +22,7 @@ use Rattle.messages.proofs.Bodies.{allowed-first, allowed-rest, allowed-length}
 use Rattle.sizes.specs.Size.{fieldsText}
 use Rattle.sizes.proofs.Sizes.{next-value}
 use Rattle.writer.specs.Asks.{FieldAsks, PutAsks}
-use Rattle.writer.proofs.Puts.{lend-on, spliced-none, fields-none, fields-next, fields-length, fields-turn}
+use Rattle.writer.proofs.Puts.{fields-none, fields-next, fields-length, fields-turn}
 use Rattle.writer.proofs.put_all.Statement.{statement}
 use Rattle.writer.proofs.put_all.Tie as tie
 

@@ -22,7 +22,7 @@ use Rattle.messages.specs.declared.Message.{Message}
 use Rattle.line.specs.Line.{lineOf}
 use Rattle.line.proofs.Steps.{Allows, allowed-allows, headIn}
 use Rattle.line.proofs.Heads.{Parts, headed-parts}
-use Rattle.sizes.proofs.Wrote.{wrote}
+use Rattle.text.proofs.Wrote.{wrote}
 use Rattle.writer.specs.Asks.{BodyAsks, LineAsks}
 use Rattle.writer.proofs.Puts.{restFrom, given, rest-long, part-next, written-next}
 use borrow.Author.Needs.{needs}

@@ -1,14 +1,13 @@
 -- `writer::put_one` meets its contract: there is a text, and room for it. Assumes nothing.
 use mathlib.Core.Path.{_≡_, sym, ap, _∙_}
 use native.Mathlib.Omega.{arith}
-use lib.Seq.{length-take-le}
 use denote.Ref.{now}
 use Rattle.text.specs.Text.{writtenNext}
 use Rattle.text.specs.declared.Written.the-variants.{Next}
 use Rattle.text.proofs.Logic.{true-false}
 use Rattle.text.proofs.Laws.{no-room-known, no-text-known}
 use Rattle.kinds.specs.Field.{leftOf, isValue, shown}
-use Rattle.sizes.proofs.Wrote.{next-size, next-bytes, next-inside, next-text}
+use Rattle.text.proofs.Wrote.{next-size, next-bytes, next-inside, next-part, next-text}
 use borrow.Author.Needs.{needs}
 use Rattle.writer.proofs.put_one.Statement.{statement}
 use Rattle.writer.proofs.put_one.Tie as tie
@@ -21,18 +20,18 @@ told w = sym (w .before .before .before .before .put-field .ensures .0) ∙ w .w
 slice-reshare-prefix-left : tie.Need-slice-reshare-prefix-left
 slice-reshare-prefix-left c =
     let w = c .before in
-    next-inside _ _ _ (told w) (w .before .before .before .before .put-field .ensures .1)
+    next-inside _ _ _ _ (told w) (w .before .before .before .before .put-field .ensures .1)
 
 slice-aggregate-left : tie.Need-slice-aggregate-left
 slice-aggregate-left c =
     let w = c .before .before in
-    sym (length-take-le _ _ (next-inside _ _ _ (told w) (w .before .before .before .before .put-field .ensures .1)))
+    next-part _ _ _ _ (told w) (w .before .before .before .before .put-field .ensures .1)
 
 returns : tie.Need-returns
 returns c =
     let w = c .before .before .before in
     let is = w .before .before .before .before .put-field .ensures .1 in
-    (next-size _ _ _ (told w) is, (c .left .ensures ∙ ap (leftOf _) (next-text _ _ _ (told w) is), next-bytes _ _ _ (told w) is))
+    (next-size _ _ _ (told w) is, (c .left .ensures ∙ ap (leftOf _) (next-text _ _ _ (told w) is), next-bytes _ _ _ _ (told w) is))
 
 returns-2 : tie.Need-returns-2
 returns-2 c =

@@ -8,6 +8,7 @@ use native.Mathlib.Omega.{arith}
 use lib.ListN.{length, length-drop}
 use borrow.Author.Tests.{leb-true}
 use denote.Ref.{now}
+use Rattle.text.proofs.Splice.{lend-on}
 use Rattle.text.specs.Text.{spliced, writtenNext, writtenBytes}
 use Rattle.text.specs.declared.Written.the-variants.{Next}
 use Rattle.text.proofs.Logic.{so}
@@ -17,7 +18,7 @@ use Rattle.messages.specs.declared.Message.{Message}
 use Rattle.line.specs.Line.{lineOf, isAllowed}
 use Rattle.sizes.proofs.Lines.{line-known, line-unknown}
 use Rattle.writer.specs.Asks.{LineAsks}
-use Rattle.writer.proofs.Puts.{lend-on, restFrom, given}
+use Rattle.writer.proofs.Puts.{restFrom, given}
 use borrow.Author.Needs.{needs}
 use Rattle.writer.proofs.write.Statement.{statement}
 use Rattle.writer.proofs.write.Tie as tie
