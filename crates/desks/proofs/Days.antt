@@ -1,22 +1,28 @@
 -- A block more: what is kept after it, and that the counts stay within the limit. Assumes nothing.
 use mathlib.Core.Path.{_≡_, sym, subst}
-use mathlib.Core.Bool.{false}
+use mathlib.Core.Bool.{true, false}
 use mathlib.Core.List.{List, [], _++_}
 use Prim.Native.Nat.{ℕ, _+_, _-_, _≤_}
 use native.Mathlib.Omega.{arith}
 use lib.ListN.{length}
 use Rattle.feeding.specs.Fed.{fedOf, boardFed, heldAfter}
 use Rattle.feeding.specs.declared.AfterFeed.{AfterFeed}
+use Rattle.board.specs.Board.{isAllowed as isBoard}
+use Rattle.cutter.specs.State.{isAllowed}
 use Rattle.cutter.specs.Calls.{start}
 use Rattle.reports.specs.Run.{Read, begin, go-on}
-use Rattle.reports.proofs.Theorems.{read-bounds}
+use Rattle.reports.proofs.Theorems.{read-bounds, read-stands}
 use Rattle.desks.specs.Day.{limit, ReadTo, Kept, TakesIn, AtStart}
 use Rattle.desks.specs.declared.Day.{Day}
 
 pub kept-lines : (board held : List ℕ) (d : Day) → Kept board held d → d .lines ≤ limit
 kept-lines board held d k = read-bounds limit (k .1) .0
 
--- a call of `feed` with what the limit still allows
+-- reading leaves an allowed board and an allowed cutter state, so that neither is tested again
+pub kept-allowed : (board held : List ℕ) (d : Day) → Kept board held d → (isBoard board ≡ true) × (isAllowed held (d .begun) ≡ true)
+kept-allowed board held d k = let s = read-stands limit (k .1) in (s .board-allowed, s .state-allowed)
+
+-- a call of `feed_allowed` with what the limit still allows
 module _ (board held : List ℕ) (d : Day) (block : List ℕ) (r : AfterFeed) (board′ held′ : List ℕ)
     (f : (r ≡ fedOf board held (d .begun) (limit - d .lines) block) × ((board′ ≡ boardFed board held (d .begun) (limit - d .lines) block) × (held′ ≡ heldAfter board held (d .begun) (limit - d .lines) block))) where
   pub reads-on : (feed : List ℕ) → ReadTo feed board held d → Read limit (feed ++ block) board′ held′ (r .begun) (d .lines + r .lines) (d .taken + r .taken)

@@ -1,6 +1,6 @@
 // The board printer: a feed read to its end in large blocks, and its report written out. Memory is fixed, whatever the feed.
 use cutter::Begun;
-use feeding::feed;
+use feeding::feed_allowed;
 use libc::STDOUT_FILENO;
 use printer::Printed;
 use printer::print;
@@ -29,7 +29,7 @@ fn take_in(board: &mut [u64], held: &mut [u8], day: Day, block: &[u8]) -> Day
     ensures { λ r. ⌜ TakesIn (now (board .entry)) (now (held .entry)) day (now (block .entry)) (now (board .exit)) (now (held .exit)) r ⌝ }
 {
     let begun = day.begun;
-    let fed = feed(board, held, begun, LIMIT - day.lines, block);
+    let fed = feed_allowed(board, held, begun, LIMIT - day.lines, block);
     let begun = fed.begun;
     let lines = day.lines + fed.lines;
     Day {

@@ -1,4 +1,4 @@
--- What a call of `feed` promises, its case, and what follows of it. Assumes nothing.
+-- What a call of `feed` or `feed_allowed` promises, its case, and what follows of it. Assumes nothing.
 use mathlib.Core.Path.{_≡_, sym, _∙_}
 use mathlib.Core.Bool.{true}
 use mathlib.Core.List.{List}
@@ -16,15 +16,20 @@ use Rattle.feeding.specs.Fed.{readIn, fedWith, Feeds, numberOf}
 use Rattle.feeding.specs.Cases.{Outcome, FeedCase, outcomeOf}
 use Rattle.feeding.specs.declared.AfterFeed.{AfterFeed}
 use Rattle.feeding.proofs.feed.Reads as feed
+use Rattle.feeding.proofs.feed_allowed.Reads as feed-allowed
 use Rattle.feeding.proofs.Tallies.{read-le, read-some, lines-told}
 use Rattle.feeding.proofs.Turns.{fed-ready, board-still, held-still}
 use Rattle.feeding.proofs.Cases.{read-all, feed-case, case-one, fed-back}
 
--- ---- the promise in the source, as three equations
+-- ---- the promise in the source, as three equations: `feed` and `feed_allowed` have the same
 
 pub feed-promise : (κs : _) (a : _) (r : _) (s : _) → feed.Post κs a r s
     → Feeds (now (a .0)) (now (a .1 .0)) (a .1 .1 .0) (a .1 .1 .1 .0) (now (a .1 .1 .1 .1 .0)) r (now (s .0)) (now (s .1 .0))
 feed-promise κs a r s p = record { result = p .0; words = p .1 .0; buffer = p .1 .1 }
+
+pub feed-allowed-promise : (κs : _) (a : _) (r : _) (s : _) → feed-allowed.Post κs a r s
+    → Feeds (now (a .0)) (now (a .1 .0)) (a .1 .1 .0) (a .1 .1 .1 .0) (now (a .1 .1 .1 .1 .0)) r (now (s .0)) (now (s .1 .0))
+feed-allowed-promise κs a r s p = record { result = p .0; words = p .1 .0; buffer = p .1 .1 }
 
 -- ---- THE COUNT OF LINES is that of the lines told
 

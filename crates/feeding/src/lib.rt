@@ -97,8 +97,8 @@ fn step(board: &mut [u64], held: &mut [u8], begun: Begun, rest: &[u8]) -> AfterF
     }
 }
 
-// Line by line, on a board and a cutter state that are known to be allowed.
-fn feed_allowed(
+// As `feed`, on a board and a cutter state that are known to be allowed, so that a run of parts tests them once.
+pub fn feed_allowed(
     board: &mut [u64],
     held: &mut [u8],
     begun: Begun,
