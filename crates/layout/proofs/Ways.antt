@@ -16,9 +16,9 @@ use Rattle.spacing.specs.Body.{fieldsOf, fieldsIn, countOf}
 use Rattle.spacing.specs.declared.Counted.the-variants as counted
 use Rattle.spacing.proofs.Laws.{count-known}
 use Rattle.kinds.specs.Field.{plain, leftOf}
-use Rattle.table.specs.Read.{padded, answerOf, valuesOf, routeIn, routeOf}
+use Rattle.table.specs.Read.{Ready, padded, answerOf, valuesOf, routeIn, routeOf}
 use Rattle.table.specs.declared.Answer.the-variants as answer
-use Rattle.table.proofs.Ways.{read-wrong, route-no-kinds, route-no-fields, route-later}
+use Rattle.table.proofs.Ways.{read-wrong, ready, route-no-kinds, route-no-fields, route-later}
 use Rattle.counts.specs.Table.{tableOf, countWith, isCount}
 use Rattle.layout.specs.Table.{dotted, kindsOf, countIn, answerBy, valuesBy, routeBy}
 
@@ -37,6 +37,21 @@ count-kinds Uz n e = omega (arith, eqb-true n 7 e)
 count-kinds Rt n e = omega (arith, eqb-true n 0 e)
 count-kinds To n e = omega (arith, eqb-true n 0 e)
 count-kinds Hb n e = omega (arith, eqb-true n 0 e)
+
+table-few : (t : MessageType) → length (tableOf t) ≤ 19
+table-few Af = omega arith
+table-few Az = omega arith
+table-few Dz = omega arith
+table-few Fz = omega arith
+table-few Rz = omega arith
+table-few Tz = omega arith
+table-few Uz = omega arith
+table-few Rt = omega arith
+table-few To = omega arith
+table-few Hb = omega arith
+
+count-few : (t : MessageType) (n : ℕ) → isCount t n ≡ true → n ≤ 19
+count-few t n e = omega (arith, count-kinds t n e, table-few t)
 
 -- as many kinds as the count says
 pub kinds-length : (t : MessageType) (n : ℕ) → isCount t n ≡ true → length (kindsOf t n) ≡ n
@@ -68,6 +83,12 @@ module _ (t : MessageType) (s : List ℕ) where
     pub by-not : isCount t n ≡ false → (answer.Spacing ≡ answerBy t s) × (padded [] ≡ padded (valuesBy t s))
     unfolding answerBy valuesBy
     by-not f = (rw (count-in, f), rw (count-in, f))
+
+    -- the kinds that the table is read with are as many as the fields
+    pub by-ready : isCount t n ≡ true → Ready (take n (dotted t)) s b
+    by-ready f =
+        let k = length-take-le n (dotted t) (count-dotted t n f) in
+        ready (take n (dotted t)) s e (sym k) (count-few t n f)
 
     pub by-count : isCount t n ≡ true → (answerOf (take n (dotted t)) s ≡ answerBy t s) × (padded (valuesOf (take n (dotted t)) s) ≡ padded (valuesBy t s))
     unfolding answerBy valuesBy

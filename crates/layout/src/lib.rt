@@ -47,14 +47,14 @@ pub fn read(t: MessageType, body: &[u8]) -> TableRead
     ensures { λ r. ⌜ r .answer ≡ answerBy t (now (body .entry)) ⌝ }
     ensures { λ r. ⌜ r .values ≡ padded (valuesBy t (now (body .entry))) ⌝ }
 {
-    let Counted::Fields(n, _) = spacing::count(body) else {
+    let Counted::Fields(n, trailing) = spacing::count(body) else {
         return table::refused();
     };
     if !counts::is_count(t, n) {
         return table::refused();
     }
     let kinds = kinds_of(t);
-    table::read(&kinds[..n], body)
+    table::read(&kinds[..n], body, trailing)
 }
 
 // The route among the fields of a type's body, as a part of it; an empty part where there is none.

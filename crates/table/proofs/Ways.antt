@@ -123,7 +123,7 @@ sets-padded vs h = sets-eq vs (replicate 19 none) 0 (omega (arith, zero-add (len
 
 -- ---- the ways of `read`
 
--- a body that is refused, or filled, from what `refused` and `fill` promise
+-- a body that is refused, or read, from what `refused` and `read` promise
 pub through : {A B : Type 0} {r a a′ : A} {s b b′ : B} → (r ≡ a) × (s ≡ b) → (a ≡ a′) × (b ≡ b′) → (r ≡ a′) × (s ≡ b′)
 through p q = (p .0 ∙ q .0, p .1 ∙ q .1)
 
@@ -132,33 +132,15 @@ module _ (ks body : List ℕ) where
   unfolding answerOf answers valuesOf values
   read-wrong e = let w = count-wrong body e in (rw w, rw w)
 
-  module _ {n : ℕ} {t : Bool} (e : countOf body ≡ counting.Fields n t) where
-    pub read-count : (n ≡ length ks → ⊥) → (Spacing ≡ answerOf ks body) × (padded [] ≡ padded (valuesOf ks body))
-    unfolding answerOf answers valuesOf values counted
-    read-count h =
-        let k = count-known body e in
-        let z : eqb (length (fieldsOn body)) (length ks) ≡ false = ne-eqb (length (fieldsOn body)) (length ks) (λ q. h (k .1 ∙ q)) in
-        (rw (k .0, z), rw (k .0, z))
+  pub ready : {n : ℕ} {t : Bool} → countOf body ≡ counting.Fields n t → n ≡ length ks → n ≤ 19 → Ready ks body t
+  ready e h m = let k = count-known body e in record { split = k .0; count = sym (k .1) ∙ h; few = omega arith }
 
-    module _ (h : n ≡ length ks) where
-      pub read-many : 19 < n → (Spacing ≡ answerOf ks body) × (padded [] ≡ padded (valuesOf ks body))
-      unfolding answerOf answers valuesOf values counted
-      read-many m =
-          let k = count-known body e in
-          let z : eqb (length (fieldsOn body)) (length ks) ≡ true = eq-eqb (length (fieldsOn body)) (length ks) (sym (k .1) ∙ h) in
-          let y : leb (length ks) 19 ≡ false = lt-leb (length ks) 19 (omega arith) in
-          (rw (k .0, z, y), rw (k .0, z, y))
-
-      pub ready : n ≤ 19 → Ready ks body
-      ready m = let k = count-known body e in record { trailing = t; split = k .0; count = sym (k .1) ∙ h; few = omega arith }
-
-      pub read-filled : n ≤ 19 → (answerFrom 1 t ks 0 0 (fieldsOn body) ≡ answerOf ks body) × (padded (valuesFrom ks 0 0 (fieldsOn body)) ≡ padded (valuesOf ks body))
-      unfolding answerOf answers valuesOf values counted
-      read-filled m =
-          let k = count-known body e in
-          let z : eqb (length (fieldsOn body)) (length ks) ≡ true = eq-eqb (length (fieldsOn body)) (length ks) (sym (k .1) ∙ h) in
-          let y : leb (length ks) 19 ≡ true = le-leb (length ks) 19 (omega arith) in
-          (rw (k .0, z, y), rw (k .0, z, y))
+  pub read-ready : {t : Bool} → Ready ks body t → (answerFrom 1 t ks 0 0 (fieldsOn body) ≡ answerOf ks body) × (valuesFrom ks 0 0 (fieldsOn body) ≡ valuesOf ks body)
+  unfolding answerOf answers valuesOf values counted
+  read-ready r =
+      let z : eqb (length (fieldsOn body)) (length ks) ≡ true = eq-eqb (length (fieldsOn body)) (length ks) (r .count) in
+      let y : leb (length ks) 19 ≡ true = le-leb (length ks) 19 (r .few) in
+      (rw (r .split, z, y), rw (r .split, z, y))
 
 -- ---- the route
 

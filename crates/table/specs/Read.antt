@@ -73,8 +73,8 @@ answerOf ks body = answers ks (fieldsOf body)
 unfoldable pub valuesOf : List ℕ → List ℕ → List Value
 valuesOf ks body = values ks (fieldsOf body)
 
-pub record Ready (ks body : List ℕ) : Type 0 where
-  pub trailing : Bool
+-- the body has as many fields as there are kinds, and trailing says whether a space stands at its end
+pub record Ready (ks body : List ℕ) (trailing : Bool) : Type 0 where
   pub split : fieldsOf body ≡ Fields (fieldsIn (fieldsOf body)) trailing
   pub count : length (fieldsIn (fieldsOf body)) ≡ length ks
   pub few : length ks ≤ 19

@@ -4,9 +4,8 @@ use kinds::ROUTE;
 use kinds::Value;
 use spacing::Counted;
 ghost use mathlib.Core.Path.{_≡_};
-ghost use Rattle.spacing.specs.Body.{fieldsOf, fieldsIn};
 ghost use mathlib.Core.List.{[]};
-ghost use Rattle.table.specs.Read.{Ready, padded, faultAt, answerFrom, valuesFrom, answerOf, valuesOf, routeOf};
+ghost use Rattle.table.specs.Read.{Ready, padded, faultAt, answerOf, valuesOf, routeOf};
 ghost use Rattle.table.specs.declared.Answer.the-variants.{Spacing};
 
 // A body that is taken, whether a space stands at its end, and the marks of its amendments; or its spacing or its count of
@@ -48,11 +47,11 @@ pub fn refused() -> TableRead
     }
 }
 
-// Reads the fields until one is not read.
-fn fill(kinds: &[u8], body: &[u8], trailing: bool) -> TableRead
-    requires { ⌜ Ready (now kinds) (now body) ⌝ }
-    ensures { λ r. ⌜ r .answer ≡ answerFrom 1 trailing (now (kinds .entry)) 0 0 (fieldsIn (fieldsOf (now (body .entry)))) ⌝ }
-    ensures { λ r. ⌜ r .values ≡ padded (valuesFrom (now (kinds .entry)) 0 0 (fieldsIn (fieldsOf (now (body .entry))))) ⌝ }
+// Reads a body that has as many fields as there are kinds, until one is not read; `trailing` is whether a space stands at its end.
+pub fn read(kinds: &[u8], body: &[u8], trailing: bool) -> TableRead
+    requires { ⌜ Ready (now kinds) (now body) trailing ⌝ }
+    ensures { λ r. ⌜ r .answer ≡ answerOf (now (kinds .entry)) (now (body .entry)) ⌝ }
+    ensures { λ r. ⌜ r .values ≡ padded (valuesOf (now (kinds .entry)) (now (body .entry))) ⌝ }
 {
     let mut values = [Value { a: 0, b: 0, c: 0 }; 19];
     let mut at: usize = 0;
@@ -80,23 +79,6 @@ fn fill(kinds: &[u8], body: &[u8], trailing: bool) -> TableRead
         answer: Answer::Taken(trailing, marks),
         values,
     }
-}
-
-// Reads a body by its kinds, of which a table has at most 19.
-pub fn read(kinds: &[u8], body: &[u8]) -> TableRead
-    ensures { λ r. ⌜ r .answer ≡ answerOf (now (kinds .entry)) (now (body .entry)) ⌝ }
-    ensures { λ r. ⌜ r .values ≡ padded (valuesOf (now (kinds .entry)) (now (body .entry))) ⌝ }
-{
-    let Counted::Fields(n, trailing) = spacing::count(body) else {
-        return refused();
-    };
-    if n != kinds.len() {
-        return refused();
-    }
-    if n > 19 {
-        return refused();
-    }
-    fill(kinds, body, trailing)
 }
 
 // The route among the fields, as a part of the body; an empty part where there is none.

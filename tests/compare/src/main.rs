@@ -9,6 +9,7 @@ mod damage;
 mod feeds;
 mod fields;
 mod lines;
+mod once;
 mod program;
 mod tally;
 
@@ -53,8 +54,17 @@ fn pairs(proved: &Path) -> [Pair<'_>; 2] {
     ]
 }
 
+fn pair_of<'a>(proved: &'a Path, name: &str) -> Option<Pair<'a>> {
+    pairs(proved).into_iter().find(|pair| pair.name == name)
+}
+
 fn main() -> ExitCode {
     let arguments: Vec<String> = env::args().skip(1).collect();
+    if let [word, name, seed, bytes, folder] = arguments.as_slice() {
+        if word == "once" {
+            return once(name, seed, bytes, Path::new(folder));
+        }
+    }
     let number = |index: usize, otherwise: u64| match arguments.get(index) {
         Some(text) => text.parse::<u64>().ok(),
         None => Some(otherwise),
@@ -72,6 +82,21 @@ fn main() -> ExitCode {
     ) {
         Ok(true) => ExitCode::SUCCESS,
         Ok(false) => ExitCode::FAILURE,
+        Err(error) => {
+            eprintln!("compare: {error}");
+            ExitCode::from(2)
+        }
+    }
+}
+
+/// `once NAME SEED BYTES FOLDER` writes one feed for a program, and its expected output.
+fn once(name: &str, seed: &str, bytes: &str, folder: &Path) -> ExitCode {
+    let (Ok(seed), Ok(bytes)) = (seed.parse(), bytes.parse()) else {
+        eprintln!("usage: once NAME SEED BYTES FOLDER");
+        return ExitCode::from(2);
+    };
+    match once::write(name, seed, bytes, folder) {
+        Ok(()) => ExitCode::SUCCESS,
         Err(error) => {
             eprintln!("compare: {error}");
             ExitCode::from(2)

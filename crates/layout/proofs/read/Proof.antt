@@ -8,7 +8,7 @@ use Rattle.spacing.specs.Body.{countOf}
 use Rattle.spacing.specs.declared.Counted.the-variants as counted
 use Rattle.table.proofs.Ways.{through}
 use Rattle.counts.specs.Table.{isCount}
-use Rattle.layout.proofs.Ways.{by-wrong, by-not, by-count, count-dotted}
+use Rattle.layout.proofs.Ways.{by-wrong, by-not, by-ready, by-count, count-dotted}
 use borrow.Author.Needs.{needs}
 use Rattle.layout.proofs.read.Statement.{statement}
 use Rattle.layout.proofs.read.Tie as tie
@@ -35,6 +35,11 @@ array-share-prefix-kinds c = rw (c .kinds-of .ensures) (count-dotted _ _ (right 
 slice-aggregate-read : tie.Need-slice-aggregate-read
 slice-aggregate-read c = sym (length-take-le _ _ (rw (c .before .kinds-of .ensures) (count-dotted _ _ (right (c .before .before)))))
 
+read-requires : tie.Need-read-requires
+read-requires c κs =
+    let c₃ = c .before .before in
+    rw (c .before .kinds-of .ensures) (by-ready _ _ (told (c₃ .before .before)) (right c₃))
+
 returns-3 : tie.Need-returns-3
 returns-3 c =
     let c₂ = c .before .before in
@@ -56,5 +61,5 @@ read-spec =
     (λ c κs. search needs)
     array-share-prefix-kinds
     slice-aggregate-read
-    (λ c κs. search needs)
+    read-requires
     returns-3)
