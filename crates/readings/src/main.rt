@@ -1,5 +1,5 @@
-// The known readings of document 01 and the sample lines of source 003: of each line its answer number and place, and of one that
-// reads its type, its flight's key if it has one, and whether writing what was read gives the same bytes.
+// The known readings of document 01 and the sample lines of sources 003 and 000: of each line its answer number and place, and of one
+// that reads its type, its flight's key if it has one, and whether writing what was read gives the same bytes.
 use libc::STDIN_FILENO;
 use libc::STDOUT_FILENO;
 use line::LineRead;
