@@ -1,11 +1,10 @@
--- The laws of the walks over a board: one for the start, one for each way that a turn goes, and one for the end.
--- Assumes nothing.
+-- The laws of the search for a key and of the walks over a board: one for the start, one for each way that a turn goes,
+-- and one for the end. Assumes nothing.
 use mathlib.Core.Path.{_≡_, sym, ap, _∙_}
 use mathlib.Core.Bool.{Bool, true, false, cond, _&&_}
 use mathlib.Core.List.{List}
 use Prim.Native.Nat.{ℕ, suc, _+_, _*_, _-_, _≤_, _<_}
 use native.Mathlib.Numerals.{add-one}
-use native.Mathlib.Nat.{zero-add}
 use native.Mathlib.Omega.{arith}
 use borrow.Author.Tests.{lt-ltb, le-ltb, eq-eqb, ne-eqb}
 use lib.ListN.{length, getD, drop, drop-of-length-le}
@@ -14,37 +13,25 @@ use lib.Dec.{ltb, eqb}
 use Rattle.rows.specs.Row.{rowOf, isRowWords}
 use Rattle.rows.specs.Rows.{keyOf, above, rises, Place, At, Gap, further, findIn}
 use Rattle.rows.specs.declared.Row.{Row}
+use Rattle.rows.proofs.Order.{rising-test}
+use Rattle.rows.proofs.Places.{shift, find-after}
 use Rattle.board.specs.Board.{W, readRows, rowsOf, rowsHold, allZero}
-use Rattle.board.proofs.Words.{row-next, key-at, length-read, hold-next}
+use Rattle.board.proofs.Words.{row-next, getD-read, key-at, length-read, hold-next}
 
 -- ---- where a key stands
-
--- n places further on
-abbrev pub shift : ℕ → Place → Place
-shift n (At i) = At (n + i)
-shift n (Gap i) = Gap (n + i)
-
-pub shift-zero : (f : Place) → f ≡ shift 0 f
-shift-zero (At i) = ap At (sym (zero-add i))
-shift-zero (Gap i) = ap Gap (sym (zero-add i))
-
-shift-more : (i : ℕ) (f : Place) → shift i (further f) ≡ shift (i + 1) f
-shift-more i (At j) = ap At (omega arith)
-shift-more i (Gap j) = ap Gap (omega arith)
 
 add-nought : (i : ℕ) → i + 0 ≡ i
 add-nought i = omega arith
 
 module _ (l : List ℕ) (k i : ℕ) (h : i < getD l 0 0) where
-  pub find-past : getD l (1 + W * i) 0 < k → shift i (findIn (drop i (rowsOf l)) k) ≡ shift (i + 1) (findIn (drop (i + 1) (rowsOf l)) k)
+  -- where keys rise, the rows up to one with a smaller key are passed
+  pub find-past : rises (rowsOf l) ≡ true → getD l (1 + W * i) 0 < k
+      → findIn (rowsOf l) k ≡ shift (i + 1) (findIn (drop (i + 1) (rowsOf l)) k)
   unfolding rowsOf
-  find-past q =
+  find-past up q =
       let r : Row = rowOf (drop (W * i) (drop 1 l)) in
-      let f : Place = findIn (drop (i + 1) (rowsOf l)) k in
-      let t : ltb (keyOf r) k ≡ true = lt-ltb (keyOf r) k (rw (key-at l i) q) in
-      ap (λ (x : List Row). shift i (findIn x k)) (row-next l (getD l 0 0) i h)
-      ∙ ap (λ (b : Bool). shift i (cond b (further f) (cond (eqb (keyOf r) k) (At 0) (Gap 0)))) t
-      ∙ shift-more i f
+      let e : keyOf (getD (rowsOf l) i r) ≡ getD l (1 + W * i) 0 = ap keyOf (getD-read _ i (drop 1 l) r h) ∙ key-at l i in
+      rw add-one (find-after (rowsOf l) k i r (rising-test (rowsOf l) up) (rw length-read h) (rw e q))
 
   pub find-at : getD l (1 + W * i) 0 ≡ k → shift i (findIn (drop i (rowsOf l)) k) ≡ At i
   unfolding rowsOf

@@ -21,24 +21,30 @@ ghost use Rattle.slides.specs.Slides.{slidRight, slidLeft, zeroed};
 ghost use Rattle.board.specs.Board.{W, rowsOf, isAllowed, foundOf};
 ghost use Rattle.board.specs.Posts.{Wrote, Stricken};
 
-// The place of a key, or the place where it would go: a walk from the top.
+// The place of a key, or the place where it would go: the keys rise, so half of the rows that are left fall away
+// with each look.
 pub fn find(board: &[u64], key: Key) -> Found
     requires { ⌜ isAllowed (now board) ≡ true ⌝ }
     ensures { λ r. ⌜ r ≡ foundOf (findIn (rowsOf (now (board .entry))) (key .0)) ⌝ }
 {
     let n = board[0] as usize;
-    let mut i: usize = 0;
-    while i < n {
-        let k = board[1 + 11 * i];
-        if key.0 <= k {
-            if k == key.0 {
-                return Found::At(i);
-            }
-            return Found::Gap(i);
+    let mut lo: usize = 0;
+    let mut hi = n;
+    while lo < hi {
+        let mid = lo + (hi - lo) / 2;
+        if board[1 + 11 * mid] < key.0 {
+            lo = mid + 1;
+        } else {
+            hi = mid;
         }
-        i += 1;
     }
-    Found::Gap(i)
+    if lo == n {
+        return Found::Gap(lo);
+    }
+    if board[1 + 11 * lo] == key.0 {
+        return Found::At(lo);
+    }
+    Found::Gap(lo)
 }
 
 // The row of a key; a row without entries where the flight is not listed.

@@ -1,14 +1,15 @@
 -- Where a key stands and what it shows; how many rows there are, and when one more has room. Assumes nothing.
-use Prim.Native.Nat.{ℕ, suc, _≤_, _<_}
+use Prim.Native.Nat.{ℕ, zero, suc, _+_, _≤_, _<_}
+use native.Mathlib.Nat.{zero-add, le-of-suc-le-suc, not-suc-le-zero}
 use native.Mathlib.Omega.{arith}
 use mathlib.Core.Path.{_≡_, refl, sym, ap, _∙_}
 use mathlib.Core.Bool.{Bool, true, false, cond, false≢true}
 use mathlib.Core.List.{List, [], _∷_, _++_}
 use mathlib.Core.Option.{Option, none, some}
 use borrow.Author.Tests.{ltb-true, ltb-false, eqb-true, lt-ltb, le-ltb}
-use lib.ListN.{length, take, drop, length-set, length-append, length-take, length-drop}
+use lib.ListN.{length, getD, take, drop, length-set, length-append, length-take, length-drop}
 use lib.Dec.{ltb, eqb}
-use Rattle.rows.specs.Rows.{CAP, keyOf, Rising, lookup, Place, At, Gap, further, findIn, writtenAt, fitsAt, written, fits, struckAt, isAt, struck, isListed}
+use Rattle.rows.specs.Rows.{CAP, keyOf, Above, Rising, lookup, Place, At, Gap, further, findIn, writtenAt, fitsAt, written, fits, struckAt, isAt, struck, isListed}
 use Rattle.rows.specs.declared.Row.{Row}
 use Rattle.rows.proofs.Lookup.{none-below, above-rising}
 
@@ -92,3 +93,40 @@ length-new r rs h e room = go (findIn rs (keyOf r)) (at-shown (keyOf r) rs h ∙
     go : (p : Place) → isAt p ≡ false → length (writtenAt p r rs) ≡ suc (length rs)
     go (At i) s = absurd (false≢true (sym s))
     go (Gap i) s = ap (λ (b : Bool). length (cond b (take i rs ++ r ∷ drop i rs) rs)) (lt-ltb (length rs) CAP room) ∙ by i
+
+-- ---- where keys rise, a look at one row tells of all before it
+
+-- n places further on
+abbrev pub shift : ℕ → Place → Place
+shift n (At i) = At (n + i)
+shift n (Gap i) = Gap (n + i)
+
+pub shift-zero : (f : Place) → f ≡ shift 0 f
+shift-zero (At i) = ap At (sym (zero-add i))
+shift-zero (Gap i) = ap Gap (sym (zero-add i))
+
+shift-more : (n : ℕ) (f : Place) → further (shift n f) ≡ shift (suc n) f
+shift-more n (At i) = ap At (omega arith)
+shift-more n (Gap i) = ap Gap (omega arith)
+
+above-each : (j : ℕ) (rs : List Row) (i : ℕ) (d : Row) → Above j rs → i < length rs → j < keyOf (getD rs i d)
+above-each j [] i d a h = absurd (not-suc-le-zero h)
+above-each j (x ∷ xs) zero d a h = a .0
+above-each j (x ∷ xs) (suc i) d a h =
+    let lt : j < keyOf x = a .0 in
+    omega (arith, above-each (keyOf x) xs i d (a .1) (le-of-suc-le-suc h))
+
+past-first : (x : Row) (xs : List Row) (k : ℕ) → keyOf x < k → findIn (x ∷ xs) k ≡ further (findIn xs k)
+past-first x xs k h =
+    ap (λ (b : Bool). cond b (further (findIn xs k)) (cond (eqb (keyOf x) k) (At 0) (Gap 0))) (lt-ltb (keyOf x) k h)
+
+-- a key above that of row i stands, or would go, among the rows after it
+pub find-after : (rs : List Row) (k i : ℕ) (d : Row) → Rising rs → i < length rs → keyOf (getD rs i d) < k
+    → findIn rs k ≡ shift (suc i) (findIn (drop (suc i) rs) k)
+find-after [] k i d up h q = absurd (not-suc-le-zero h)
+find-after (x ∷ xs) k zero d up h q = past-first x xs k q ∙ ap further (shift-zero (findIn xs k)) ∙ shift-more 0 (findIn xs k)
+find-after (x ∷ xs) k (suc i) d up h q =
+    let lt : keyOf x < k = omega (arith, above-each (keyOf x) xs i d up (le-of-suc-le-suc h)) in
+    past-first x xs k lt
+    ∙ ap further (find-after xs k i d (above-rising (keyOf x) xs up) (le-of-suc-le-suc h) q)
+    ∙ shift-more (suc i) (findIn (drop (suc i) xs) k)
