@@ -1,8 +1,8 @@
 //! How fast the proved board printer is, beside the plain reference and `wc -l`, on the same feeds in one run.
 //!
 //! `bench FLIGHTS REFERENCE FOLDER`: the two programs, and a folder for the feeds. Each program reads each feed from its
-//! file, five times; the best time counts, that of starting a process included. Memory is the most that the process held
-//! when it had read all of a feed from a pipe.
+//! file, seven times, and the best time counts: once as it is, and once without the start of a process, which is the time that
+//! the program takes for an empty feed. Memory is the most that the process held when it had read all of a feed from a pipe.
 
 #![forbid(unsafe_code)]
 
@@ -13,7 +13,7 @@ use std::process::{Command, ExitCode, Stdio};
 use std::time::{Duration, Instant};
 
 const SIZES: [usize; 3] = [10_000, 100_000, 1_000_000];
-const RUNS: usize = 5;
+const RUNS: usize = 7;
 const FLIGHTS: u64 = 200;
 
 /// Numbers that are the same on every machine.
@@ -90,8 +90,10 @@ fn memory(command: &[&str], path: &str) -> io::Result<Option<u64>> {
 }
 
 fn run(flights: &str, reference: &str, folder: &str) -> io::Result<()> {
-    println!("| lines | bytes | program | ns a line | lines a second | megabytes a second | kilobytes held |");
-    println!("|---|---|---|---|---|---|---|");
+    println!("| lines | bytes | program | ns a line | without the start | lines a second | megabytes a second | kilobytes held |");
+    println!("|---|---|---|---|---|---|---|---|");
+    let empty = format!("{folder}/0.feed");
+    write_feed(&empty, 0)?;
     for lines in SIZES {
         let path = format!("{folder}/{lines}.feed");
         let bytes = write_feed(&path, lines)?;
@@ -99,10 +101,12 @@ fn run(flights: &str, reference: &str, folder: &str) -> io::Result<()> {
             [("flights, proved", vec![flights]), ("reference, plain", vec![reference, "report"]), ("wc -l", vec!["wc", "-l"])];
         for (name, command) in &programs {
             let seconds = best_time(command, &path)?.as_secs_f64();
+            let start = best_time(command, &empty)?.as_secs_f64();
             let held = memory(command, &path)?.map_or("-".to_string(), |k| k.to_string());
             println!(
-                "| {lines} | {bytes} | {name} | {:.0} | {:.0} | {:.0} | {held} |",
+                "| {lines} | {bytes} | {name} | {:.0} | {:.0} | {:.0} | {:.0} | {held} |",
                 seconds * 1e9 / lines as f64,
+                (seconds - start) * 1e9 / lines as f64,
                 lines as f64 / seconds,
                 bytes as f64 / seconds / 1e6
             );
