@@ -6,38 +6,49 @@ use clocks::is_time;
 use forms::is_fix;
 use forms::is_key;
 use forms::is_position;
-use shapes::fits;
+use shapes::is_of;
 use shapes::one_of;
 use shapes::run;
 ghost use mathlib.Core.Path.{_≡_};
+ghost use Rattle.forms.specs.Form.{isNumber, isTrackLevel};
 ghost use Rattle.forms.specs.Kind.{isForm};
-ghost use Rattle.rules.specs.Drawn.{isFigure, isDrawn};
+ghost use Rattle.rules.specs.Drawn.{isDrawn};
 
-// Speeds, levels and an amendment's number, whose rules are pictures. (They stand apart from the pictures below because a
-// function with many byte strings is dear to the checker.)
-fn is_figure(kind: u8, s: &[u8]) -> bool
-    ensures { λ r. ⌜ r ≡ isFigure kind (now (s .entry)) ⌝ }
+// Two digits and an alnum.
+fn is_number(s: &[u8]) -> bool
+    ensures { λ r. ⌜ r ≡ isNumber (now (s .entry)) ⌝ }
 {
-    match kind {
-        forms::FILED_SPEED => one_of(b"dd|ddd|dddd|lddd|SC", s),
-        forms::GROUND_SPEED => fits(b"ddd", s),
-        forms::LEVEL => one_of(b"dd|ddd|ddBdd|ddBddd|dddBdd|dddBddd", s),
-        forms::TRACK_LEVEL => one_of(b"ddd|dddl", s),
-        forms::AMENDMENT => one_of(b"02|03|05|06|07|08|09|10", s),
-        _ => false,
+    if s.len() != 3 {
+        return false;
     }
+    run(b'd', 2, 2, &s[..2]) && is_of(b'a', s[2])
 }
 
-// The kinds whose rule is one or more pictures.
+// Three digits, and a letter after them or none.
+fn is_track_level(s: &[u8]) -> bool
+    ensures { λ r. ⌜ r ≡ isTrackLevel (now (s .entry)) ⌝ }
+{
+    if s.len() == 4 {
+        return run(b'd', 3, 3, &s[..3]) && is_of(b'l', s[3]);
+    }
+    run(b'd', 3, 3, s)
+}
+
+// The kinds whose rule is one or more pictures. (Digits and letters that follow each other are tested as runs, which is quicker.)
 fn is_drawn(kind: u8, s: &[u8]) -> bool
     ensures { λ r. ⌜ r ≡ isDrawn kind (now (s .entry)) ⌝ }
 {
     match kind {
-        forms::SEQUENCE => fits(b"hhhh", s),
-        forms::NUMBER => fits(b"dda", s),
+        forms::SEQUENCE => run(b'h', 4, 4, s),
+        forms::NUMBER => is_number(s),
         forms::PREFIX => one_of(b"a|da", s),
-        forms::LETTER => fits(b"l", s),
-        _ => is_figure(kind, s),
+        forms::LETTER => run(b'l', 1, 1, s),
+        forms::FILED_SPEED => run(b'd', 2, 4, s) || one_of(b"lddd|SC", s),
+        forms::GROUND_SPEED => run(b'd', 3, 3, s),
+        forms::LEVEL => run(b'd', 2, 3, s) || one_of(b"ddBdd|ddBddd|dddBdd|dddBddd", s),
+        forms::TRACK_LEVEL => is_track_level(s),
+        forms::AMENDMENT => one_of(b"02|03|05|06|07|08|09|10", s),
+        _ => false,
     }
 }
 
