@@ -1,45 +1,23 @@
 -- THE LAWS of decimals, for every number below 10 to the 20th, and so for every word: the digits of n are digits, they have the number n and
 -- no zero in front, and no other digits do. Of any number at all they are at most twenty. Assumes nothing.
 use mathlib.Core.Path.{_≡_, refl, sym, _∙_}
-use mathlib.Core.Bool.{Bool, true, false, not, Bool·beq}
+use mathlib.Core.Bool.{Bool, true, false, not}
 use mathlib.Core.List.{List, [], _∷_}
 use Prim.Native.Nat.{ℕ, zero, suc, _+_, _-_, _*_, _/_, _^_, _≤_, _<_}
 use native.Mathlib.Nat.{pow-succ', one-le-pow, pow-le-pow-right, mul-le-mul-right, div-lt-iff-lt-mul, le-div-iff-mul-le}
 use native.Mathlib.Omega.{arith}
 use lib.Dec.{leb, ltb, eqb, lit≤}
 use lib.ListN.{length}
-use borrow.Author.Tests.{ltb-true, ltb-false, leb-true, leb-false, le-leb, lt-leb, ne-eqb, eqb-false, not-true}
-use Rattle.text.specs.Class.{all, isDigit, isLetter}
+use borrow.Author.Tests.{ltb-true, ltb-false, leb-true, leb-false, ne-eqb, eqb-false, not-true}
+use Rattle.text.specs.Class.{all, isDigit}
 use Rattle.text.specs.Code.{codeOf}
-use Rattle.text.specs.Place.{value, places, inRange}
-use Rattle.text.specs.Number.{isDigitTo, digitOf, numberOf, padded}
-use Rattle.text.proofs.Logic.{and-left, true-false, beq-eq, below, below-at}
-use Rattle.text.proofs.Codes.{code-high, class-all, digits-all}
+use Rattle.text.specs.Place.{value, places}
+use Rattle.text.specs.Number.{digitOf, numberOf, padded}
+use Rattle.text.proofs.Logic.{and-left, true-false}
+use Rattle.text.proofs.Codes.{digits-same}
 use Rattle.text.proofs.Numbers.{number-lt, number-padded, padded-number, padded-digits}
 use Rattle.decimals.specs.Decimal.{widthBy, widthOf, decimal, noZeroFront}
 use Rattle.decimals.proofs.Digits.{width-one, width-turn, width-some, width-enough, width-least, byte-digit, decimal-long}
-
--- ---- the digits 0 to 9 are the digits to the base 10
-
-same : ℕ → Bool
-same b = Bool·beq (isDigit b) (inRange 1 10 (codeOf b))
-
-same-all : below same 91 ≡ true
-unfolding same codeOf isDigit isLetter
-same-all = refl
-
-digit-is : (b : ℕ) → isDigit b ≡ inRange 1 10 (codeOf b)
-unfolding same isDigit
-digit-is b = go (leb b 90) refl
-  where
-    go : (t : Bool) → leb b 90 ≡ t → isDigit b ≡ inRange 1 10 (codeOf b)
-    go true q = beq-eq (isDigit b) (inRange 1 10 (codeOf b)) (below-at same 91 same-all b (omega (arith, leb-true b 90 q)))
-    go false q =
-        let h = leb-false b 90 q in
-        rw (le-leb 48 b (omega arith), lt-leb b 57 (omega arith), code-high b h)
-
-digits-same : (s : List ℕ) → all isDigit s ≡ all (isDigitTo 10) s
-digits-same s = class-all isDigit 1 10 digit-is s ∙ sym (digits-all 10 s)
 
 -- ---- the digits of n
 

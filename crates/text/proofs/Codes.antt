@@ -1,5 +1,5 @@
 -- The laws of codes: a byte and its code give each other, and a class of bytes is a range of codes. Assumes nothing.
-use mathlib.Core.Path.{_≡_, refl, ap₂, _∙_}
+use mathlib.Core.Path.{_≡_, refl, sym, ap₂, _∙_}
 use mathlib.Core.Bool.{Bool, true, false, _&&_, _||_, Bool·beq}
 use mathlib.Core.List.{List, [], _∷_, _++_, map}
 use Prim.Native.Nat.{ℕ, _≤_, _<_}
@@ -85,6 +85,10 @@ by-test f lo hi pos low high b = go (leb b 90) refl
     go true q = beq-eq (f b) (inRange lo hi (codeOf b)) (below-at (λ b. Bool·beq (f b) (inRange lo hi (codeOf b))) 91 low b (omega (arith, leb-true b 90 q)))
     go false q = high b (leb-false b 90 q) ∙ rw (code-high b (leb-false b 90 q), lt-leb lo 0 pos)
 
+digit-is : (b : ℕ) → isDigit b ≡ inRange 1 10 (codeOf b)
+unfolding isDigit isLetter codeOf
+digit-is = by-test isDigit 1 10 (lit≤ tt) refl (λ b h. rw (lt-leb b 57 (omega arith), le-leb 48 b (omega arith)))
+
 pub alnum-is : (b : ℕ) → isAlnum b ≡ inRange 1 36 (codeOf b)
 unfolding isAlnum isDigit isLetter codeOf
 alnum-is = by-test isAlnum 1 36 (lit≤ tt) refl (λ b h. rw (lt-leb b 57 (omega arith), lt-leb b 90 h, le-leb 48 b (omega arith), le-leb 65 b (omega arith)))
@@ -104,3 +108,7 @@ text-all = class-all isTextByte 1 37 text-byte-is
 pub digits-all : (B : ℕ) (s : List ℕ) → all (isDigitTo B) s ≡ allIn 1 B (map codeOf s)
 unfolding isDigitTo
 digits-all B = class-all (isDigitTo B) 1 B (λ b. refl)
+
+-- the digits 0 to 9 are the digits to the base 10
+pub digits-same : (s : List ℕ) → all isDigit s ≡ all (isDigitTo 10) s
+digits-same s = class-all isDigit 1 10 digit-is s ∙ sym (digits-all 10 s)

@@ -6,6 +6,7 @@ pub mod Splice
 pub mod Wrote
 pub mod Joined
 pub mod Numbers
+pub mod Parts
 pub mod Order
 pub mod Unique
 pub mod Turn

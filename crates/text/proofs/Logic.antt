@@ -1,6 +1,6 @@
 -- Laws of tests: what two tests together say, and a test at every number below a bound. Assumes nothing.
 use mathlib.Core.Path.{_≡_, refl, sym, _∙_, subst}
-use mathlib.Core.Bool.{Bool, true, false, cond, not, _&&_, _||_, Bool·beq}
+use mathlib.Core.Bool.{Bool, true, false, cond, not, _&&_, _||_, and-false, Bool·beq}
 use Prim.Native.Nat.{ℕ, zero, suc, _<_}
 use native.Mathlib.Nat.{le-of-suc-le-suc, not-suc-le-zero}
 use lib.Arith.{lt-of-le-ne}
@@ -14,6 +14,10 @@ and-left false b e = e
 pub and-right : (a b : Bool) → (a && b) ≡ true → b ≡ true
 and-right true b e = e
 and-right false b e = absurd (subst (λ (t : Bool). T t) (sym e) tt)
+
+pub and-left-comm : (a b c : Bool) → (a && (b && c)) ≡ (b && (a && c))
+and-left-comm true b c = refl
+and-left-comm false b c = sym (and-false b)
 
 -- four tests together
 pub and-four : (a b c d : Bool) → (a && b && c && d) ≡ true → (a ≡ true) × (b ≡ true) × (c ≡ true) × (d ≡ true)
