@@ -1,19 +1,19 @@
 -- The laws of pictures, runs and cuts. Assumes nothing.
-use mathlib.Core.Path.{_≡_, refl, sym, ap}
-use mathlib.Core.Bool.{Bool, true, false, _&&_, _||_, or-false}
-use mathlib.Core.List.{List, [], _∷_}
+use mathlib.Core.Path.{_≡_, refl, sym, ap, _∙_}
+use mathlib.Core.Bool.{Bool, true, false, _&&_, _||_, and-assoc, or-false}
+use mathlib.Core.List.{List, [], _∷_, _++_}
 use Prim.Native.Char.{code}
-use Prim.Native.Nat.{ℕ, suc, _+_, _-_, _≤_, _<_}
+use Prim.Native.Nat.{ℕ, zero, suc, _+_, _-_, _≤_, _<_}
 use native.Mathlib.Nat.{not-suc-le-zero}
 use native.Mathlib.Numerals.{add-one}
 use native.Mathlib.Omega.{arith}
 use lib.Dec.{eqb, leb}
 use lib.ListN.{length, take, drop, getD, length-drop}
-use lib.Seq.{take-all, drop-cons}
+use lib.Seq.{take-all, take-take, drop-cons, drop-drop}
 use borrow.Author.Tests.{lt-ltb, le-ltb, eq-eqb, ne-eqb, eqb-true, leb-true}
 use Rattle.text.specs.Class.{all}
 use Rattle.text.proofs.Logic.{and-left, and-right, true-false, not-holds}
-use Rattle.shapes.specs.Picture.{isOf, fits, fitsAny, oneOf, run}
+use Rattle.shapes.specs.Picture.{isOf, fits, fitsAny, oneOf, run, part}
 use Rattle.shapes.specs.Cut.{upTo, has, before, after, joins}
 use Rattle.shapes.proofs.Pieces.{pieces-more, pieces-one}
 
@@ -24,6 +24,16 @@ rest-all s a = take-all (length s - a) (drop a s) (omega (arith, length-drop a s
 -- what is left from i on, one byte and the rest
 pub next-byte : (s : List ℕ) (i : ℕ) → i < length s → drop i s ≡ getD s i 0 ∷ drop (i + 1) s
 next-byte s i h = rw (add-one, drop-cons s i 0)
+
+-- a part of a part
+front-part : (m i k : ℕ) (s : List ℕ) → i + k ≤ m → part i k (take m s) ≡ part i k s
+front-part m zero k s h = take-take k m s (omega arith)
+front-part zero (suc i) k s h = absurd (omega arith)
+front-part (suc m) (suc i) k [] h = refl
+front-part (suc m) (suc i) k (b ∷ s) h = front-part m i k s (omega arith)
+
+pub part-part : (j m i k : ℕ) (s : List ℕ) → i + k ≤ m → part i k (part j m s) ≡ part (j + i) k s
+part-part j m i k s h = front-part m i k (drop j s) h ∙ rw drop-drop
 
 -- ---- the place of a byte
 
@@ -68,6 +78,13 @@ fits-length (k ∷ p) (b ∷ s) e = ap suc (fits-length p s (and-right (isOf k b
 
 pub fits-apart : (p s : List ℕ) → (length p ≡ length s → ⊥) → fits p s ≡ false
 fits-apart p s h = not-holds (fits p s) (λ e. h (sym (fits-length p s e)))
+
+-- a picture in two parts
+pub fits-append : (p q s : List ℕ) → fits (p ++ q) s ≡ (fits p (take (length p) s) && fits q (drop (length p) s))
+unfolding fits
+fits-append [] q s = refl
+fits-append (k ∷ p) q [] = refl
+fits-append (k ∷ p) q (b ∷ s) = rw (fits-append p q s) (sym (and-assoc (isOf k b) (fits p (take (length p) s)) (fits q (drop (length p) s))))
 
 -- the first picture, and those after its bar
 abbrev pub bar : ℕ
