@@ -1,3 +1,4 @@
 pub mod Held
+pub mod Minutes
 pub mod Parts
 pub mod Unique

@@ -1,11 +1,15 @@
 // The forms of document 01's fields, as tests on bytes; those of stamps, clocks and times stand in `clocks`.
 use shapes::find;
-use shapes::fits;
 use shapes::is_of;
 use shapes::one_of;
 use shapes::run;
-use shapes::within;
+use text::Numeral;
 ghost use mathlib.Core.Path.{_≡_};
+ghost use mathlib.Core.Bool.{_&&_};
+ghost use Prim.Native.Nat.{_%_};
+ghost use lib.Dec.{leb};
+ghost use Rattle.text.specs.Number.{numberOf};
+ghost use Rattle.shapes.specs.Picture.{within};
 ghost use Rattle.forms.specs.Form.{isFacility, isKey, isFix, isPosition, isRoute};
 
 // The kinds of fields that are held as their text. (I, J, R and Z are left for what is no such field.)
@@ -45,11 +49,14 @@ pub const POSITION: u8 = b'O';
 
 pub const AMENDMENT: u8 = b'B';
 
-// Four characters, right justified.
+// Four characters, right justified. Few have a space, so those without are asked first.
 pub fn is_facility(s: &[u8]) -> bool
     ensures { λ r. ⌜ r ≡ isFacility (now (s .entry)) ⌝ }
 {
-    one_of(b"aaaa| aaa|  aa|   a", s)
+    if run(b'a', 4, 4, s) {
+        return true;
+    }
+    one_of(b" aaa|  aa|   a", s)
 }
 
 // A letter and one to six alnum.
@@ -74,23 +81,33 @@ pub fn is_fix(s: &[u8]) -> bool
     run(b'a', 2, 5, &s[..i]) && run(b'a', 1, 6, &s[j..])
 }
 
+// Degrees and minutes, written together: at most `most`, minutes to 59.
+fn is_degrees(most: u64, s: &[u8]) -> bool
+    ensures { λ r. ⌜ r ≡ (within 0 most (now (s .entry)) && leb (numberOf 10 (now (s .entry)) % 100) 59) ⌝ }
+{
+    let Numeral::Value(n) = text::number(s, 10) else {
+        return false;
+    };
+    n <= most && n % 100 <= 59
+}
+
 // ddmm, N or S, slash, dddmm, E or W, in range.
 pub fn is_position(s: &[u8]) -> bool
     ensures { λ r. ⌜ r ≡ isPosition (now (s .entry)) ⌝ }
 {
-    if !fits(b"ddddn/ddddde", s) {
+    if s.len() != 12 {
         return false;
     }
-    if !within(0, 59, &s[2..4]) {
+    if !is_of(b'n', s[4]) {
         return false;
     }
-    if !within(0, 59, &s[9..11]) {
+    if s[5] != b'/' {
         return false;
     }
-    if !within(0, 9000, &s[0..4]) {
+    if !is_of(b'e', s[11]) {
         return false;
     }
-    within(0, 18000, &s[6..11])
+    is_degrees(9000, &s[0..4]) && is_degrees(18000, &s[6..11])
 }
 
 // One or more bytes 33 to 126. A route is no short text, so it has no kind here.
