@@ -15,7 +15,8 @@ use Rattle.text.specs.declared.Numeral.the-variants.{Value, Nothing}
 use Rattle.text.proofs.Logic.{and-left-comm}
 use Rattle.text.proofs.Numbers.{number-known, number-none}
 use Rattle.shapes.specs.Picture.{isOf, fits, within, part}
-use Rattle.shapes.proofs.Laws.{next-byte, part-part, fits-append}
+use Rattle.shapes.proofs.Laws.{next-byte, part-part}
+use Rattle.shapes.proofs.Parts.{fits-parts}
 use Rattle.shapes.proofs.Digits.{digits-fit, within-part}
 use Rattle.forms.specs.Form.{isPosition}
 
@@ -49,7 +50,7 @@ module _ (s : List ℕ) (long : length s ≡ 12) where
   drawn : fits (bytes "ddddn/ddddde") s ≡ (fits (bytes "dddd") (part 0 4 s) && (isOf (code "n") (getD s 4 0) && (eqb (getD s 5 0) (code "/") && (fits (bytes "ddddd") (part 6 5 s) && isOf (code "e") (getD s 11 0)))))
   unfolding fits isOf
   drawn =
-      rw (fits-append (bytes "dddd") (bytes "n/ddddde") s, next-byte s 4 (omega arith), next-byte s 5 (omega arith), fits-append (bytes "ddddd") (bytes "e") (drop 6 s), drop-drop, next-byte s 11 (omega arith), drop-of-length-le s {i = 12} (omega arith), and-true)
+      rw (fits-parts (bytes "dddd") (bytes "n/ddddde") s, next-byte s 4 (omega arith), next-byte s 5 (omega arith), fits-parts (bytes "ddddd") (bytes "e") (drop 6 s), drop-drop, next-byte s 11 (omega arith), drop-of-length-le s {i = 12} (omega arith), and-true)
 
   north : (fits (bytes "dddd") (part 0 4 s) && within 0 9000 (part 0 4 s) && within 0 59 (part 2 2 s)) ≡ withMinutes 9000 (part 0 4 s)
   north = rw (part-part 0 4 2 2 s (lit≤ tt)) at (minutes-are 9000 (part 0 4 s) 2 (lit≤ tt) (length-take-le 4 s (omega arith)))

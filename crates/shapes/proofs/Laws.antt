@@ -1,7 +1,7 @@
 -- The laws of pictures, runs and cuts. Assumes nothing.
 use mathlib.Core.Path.{_≡_, refl, sym, ap, _∙_}
-use mathlib.Core.Bool.{Bool, true, false, _&&_, _||_, and-assoc, or-false}
-use mathlib.Core.List.{List, [], _∷_, _++_}
+use mathlib.Core.Bool.{Bool, true, false, _&&_, _||_, or-false}
+use mathlib.Core.List.{List, [], _∷_}
 use Prim.Native.Char.{code}
 use Prim.Native.Nat.{ℕ, zero, suc, _+_, _-_, _≤_, _<_}
 use native.Mathlib.Nat.{not-suc-le-zero}
@@ -78,13 +78,6 @@ fits-length (k ∷ p) (b ∷ s) e = ap suc (fits-length p s (and-right (isOf k b
 
 pub fits-apart : (p s : List ℕ) → (length p ≡ length s → ⊥) → fits p s ≡ false
 fits-apart p s h = not-holds (fits p s) (λ e. h (sym (fits-length p s e)))
-
--- a picture in two parts
-pub fits-append : (p q s : List ℕ) → fits (p ++ q) s ≡ (fits p (take (length p) s) && fits q (drop (length p) s))
-unfolding fits
-fits-append [] q s = refl
-fits-append (k ∷ p) q [] = refl
-fits-append (k ∷ p) q (b ∷ s) = rw (fits-append p q s) (sym (and-assoc (isOf k b) (fits p (take (length p) s)) (fits q (drop (length p) s))))
 
 -- the first picture, and those after its bar
 abbrev pub bar : ℕ

@@ -1,12 +1,11 @@
-// What the rules of fields are made of, as tests on bytes: a picture, a run of one class, a number within limits, and the
-// place of a byte. Nothing here knows which fields there are.
-use text::Numeral;
+// What the rules of fields are made of, as tests on bytes: a picture, a run of one class, and the place of a byte. Nothing here knows
+// which fields there are.
 ghost use mathlib.Core.Path.{_≡_};
 ghost use mathlib.Core.Bool.{_&&_};
 ghost use lib.Dec.{leb};
 ghost use Rattle.text.specs.Class.{isAlnum};
 ghost use Rattle.text.specs.Place.{allIn};
-ghost use Rattle.shapes.specs.Picture.{isOf, fits as fitting, oneOf, run as running, within as lying, either};
+ghost use Rattle.shapes.specs.Picture.{isOf, fits as fitting, oneOf, run as running, either};
 ghost use Rattle.shapes.specs.Cut.{upTo};
 
 fn between(lo: u8, hi: u8, b: u8) -> bool
@@ -127,15 +126,4 @@ pub fn each_within(lo: u8, hi: u8, s: &[u8]) -> bool
         i += 1;
     }
     true
-}
-
-// Whether s is digits whose number is from lo to hi.
-pub fn within(lo: u64, hi: u64, s: &[u8]) -> bool
-    ensures { λ r. ⌜ r ≡ lying lo hi (now (s .entry)) ⌝ }
-{
-    let n = text::number(s, 10);
-    match n {
-        Numeral::Value(n) => lo <= n && n <= hi,
-        Numeral::Nothing => false,
-    }
 }

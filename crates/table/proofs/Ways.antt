@@ -1,7 +1,7 @@
 -- The ways of the functions that read a body by its kinds: a walk from field to field, one field that is read or at fault, the
 -- values in their nineteen places, the refusals, and the route. Assumes nothing.
 use mathlib.Core.Path.{_≡_, refl, sym, _∙_}
-use mathlib.Core.Bool.{Bool, true, false}
+use mathlib.Core.Bool.{Bool, true}
 use mathlib.Core.List.{List, [], _∷_}
 use mathlib.Core.Logic.{⊎-elim}
 use Prim.Native.Nat.{ℕ, zero, suc, _+_, _-_, _≤_, _<_}
@@ -13,7 +13,7 @@ use types.Run.{OneOf}
 use lib.Dec.{eqb, leb}
 use lib.ListN.{length, drop, getD, replicate}
 use lib.Seq.{sets, sets-eq, drop-cons}
-use borrow.Author.Tests.{eq-eqb, ne-eqb, le-leb, lt-leb}
+use borrow.Author.Tests.{eq-eqb, ne-eqb, le-leb}
 use Rattle.spacing.specs.Body.{Fields, fieldsOf, fieldsIn, countOf, endOf}
 use Rattle.spacing.specs.declared.Counted.the-variants as counting
 use Rattle.spacing.proofs.Laws.{rest, Turn, turn, split-rest, count-known, count-wrong}
