@@ -99,6 +99,9 @@ text-byte-is =
     by-test isTextByte 1 37 (lit≤ tt) refl
     (λ b h. rw (lt-leb b 57 (omega arith), lt-leb b 90 h, le-leb 48 b (omega arith), le-leb 65 b (omega arith), ne-eqb b 47 (λ e. omega arith)))
 
+pub text-some : (b : ℕ) → isTextByte b ≡ true → 1 ≤ codeOf b
+text-some b e = leb-true 1 (codeOf b) (and-left (leb 1 (codeOf b)) (leb (codeOf b) 37) (sym (text-byte-is b) ∙ e))
+
 pub alnum-all : (s : List ℕ) → all isAlnum s ≡ allIn 1 36 (map codeOf s)
 alnum-all = class-all isAlnum 1 36 alnum-is
 

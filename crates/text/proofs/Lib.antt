@@ -10,3 +10,4 @@ pub mod Parts
 pub mod Order
 pub mod Unique
 pub mod Turn
+pub mod Packs

@@ -1,9 +1,11 @@
 // Short texts of capitals, digits and '/', at most 12 bytes, each held as one u64: 12 places of base 38, left-justified,
 // 0 for no byte, '0'..'9' 1 to 10, 'A'..'Z' 11 to 36, '/' 37. Digits to any base. Nothing here knows of lines or fields.
 ghost use mathlib.Core.Path.{_≡_};
+ghost use mathlib.Core.Bool.{true};
+ghost use Rattle.text.specs.Class.{isTextByte};
 ghost use Rattle.text.specs.Code.{codeOf};
 ghost use Rattle.text.specs.Number.{readNumber};
-ghost use Rattle.text.specs.Text.{packOf};
+ghost use Rattle.text.specs.Text.{isText, packed, packOf};
 
 pub enum Packed {
     Text(u64),
@@ -72,6 +74,36 @@ pub fn pack(s: &[u8]) -> Packed
         i += 1;
     }
     Packed::Text(n)
+}
+
+// The code of a text byte.
+fn text_code(b: u8) -> u64
+    requires { ⌜ isTextByte b ≡ true ⌝ }
+    ensures { λ r. ⌜ r ≡ codeOf b ⌝ }
+{
+    if b > 64 {
+        return (b as u64) - 54;
+    }
+    if b > 47 {
+        return (b as u64) - 47;
+    }
+    37
+}
+
+// The number of s, which is known to be a text: no byte is tested again.
+pub fn pack_known(s: &[u8]) -> u64
+    requires { ⌜ isText (now s) ≡ true ⌝ }
+    ensures { λ r. ⌜ r ≡ packed (now (s .entry)) ⌝ }
+{
+    let mut n: u64 = 0;
+    let mut w: u64 = TOP;
+    let mut i = 0;
+    while i < s.len() {
+        w = w / 38;
+        n += text_code(s[i]) * w;
+        i += 1;
+    }
+    n
 }
 
 // The number that at most 12 digits are, to a base of at most 36.

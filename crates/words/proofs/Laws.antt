@@ -6,7 +6,7 @@ use mathlib.Core.List.{List}
 use Prim.Native.Nat.{ℕ, _<_}
 use native.Mathlib.Omega.{arith}
 use lib.ListN.{length}
-use Rattle.text.specs.Text.{packed, textOf, isPacked, packOf}
+use Rattle.text.specs.Text.{packed, textOf, isPacked}
 use Rattle.text.specs.declared.Packed.the-variants.{Text, Nothing}
 use Rattle.text.proofs.Logic.{and-left, and-right, not-holds}
 use Rattle.text.proofs.Laws.{text-packed, packed-is, packed-text}
@@ -53,9 +53,9 @@ module _ (k t : ℕ) (e : isWord k t ≡ true) where
 
 -- ---- the ways of `read`
 
-pub read-form : (k : ℕ) (s : List ℕ) → isForm k s ≡ true → packOf s ≡ wordOf k s
-unfolding wordOf packOf
-read-form k s e = rw (e, form-held k s e .text)
+pub read-form : (k : ℕ) (s : List ℕ) → isForm k s ≡ true → Text (packed s) ≡ wordOf k s
+unfolding wordOf
+read-form k s e = rw e
 
 pub read-none : (k : ℕ) (s : List ℕ) → isForm k s ≡ false → Nothing ≡ wordOf k s
 unfolding wordOf

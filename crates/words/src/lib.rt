@@ -11,7 +11,7 @@ pub fn read(kind: u8, s: &[u8]) -> Packed
     ensures { λ r. ⌜ r ≡ wordOf kind (now (s .entry)) ⌝ }
 {
     if rules::is_form(kind, s) {
-        text::pack(s)
+        Packed::Text(text::pack_known(s))
     } else {
         Packed::Nothing
     }

@@ -1,70 +1,34 @@
--- `text::pack` meets its contract. The invariant: n and what the codes from index i on are worth make the whole value, and the
--- codes from i on are those of text bytes as all of them are. Assumes nothing.
-use mathlib.Core.Path.{_≡_, refl, sym, _∙_}
-use mathlib.Core.Bool.{true, false}
-use mathlib.Core.List.{List, [], _∷_, map}
+-- `text::pack` meets its contract: its loop keeps `Packs`. Assumes nothing.
+use mathlib.Core.Path.{_≡_, sym, _∙_}
+use mathlib.Core.Bool.{false}
+use mathlib.Core.List.{List, map}
 use Prim.Native.Nat.{ℕ, _+_, _-_, _*_, _/_, _^_, _≤_, _<_}
-use native.Mathlib.Nat.{mul-le-mul-right, add-assoc}
 use native.Mathlib.Omega.{arith}
-use lib.ListN.{length, getD, drop, drop-of-length-le}
+use lib.ListN.{length, getD}
 use borrow.Author.Tests.{le-leb, lt-leb}
 use Rattle.text.specs.Code.{codeOf}
 use Rattle.text.specs.Class.{all}
-use Rattle.text.specs.Place.{value, allIn}
-use Rattle.text.specs.Text.{packed, isText, packOf}
+use Rattle.text.specs.Place.{allIn}
+use Rattle.text.specs.Text.{isText, packOf}
 use Rattle.text.specs.declared.Packed.the-variants.{Text, Nothing}
-use Rattle.text.proofs.Codes.{code-le, text-all}
-use Rattle.text.proofs.Places.{allIn-more, value-none}
-use Rattle.text.proofs.Turn.{next-weight, times, value-turn, codes-turn}
+use Rattle.text.proofs.Codes.{text-all}
+use Rattle.text.proofs.Packs.{Packs, begin, all-summed, all-codes, codes, fits, again}
 use Rattle.text.proofs.pack.Statement.{statement}
 use Rattle.text.proofs.pack.Tie as tie
 
-record Inv (s : List ℕ) (n w i : ℕ) : Type 0 where
-  at : i ≤ length s
-  short : length s ≤ 12
-  weight : w ≡ 38 ^ (12 - i)
-  room : n + w ≤ 38 ^ 12
-  sum : n + value 38 (12 - i) (map codeOf (drop i s)) ≡ value 38 12 (map codeOf s)
-  rest : allIn 1 37 (map codeOf (drop i s)) ≡ allIn 1 37 (map codeOf s)
-
--- what the loop does, said of plain numbers and lists; c is the code of the byte at i
-module _ {s : List ℕ} {n w i : ℕ} (v : Inv s n w i) where
+module _ {s : List ℕ} {n w i : ℕ} (v : Packs s n w i) where
   done : length s ≤ i → Text n ≡ packOf s
-  unfolding packOf isText packed value allIn all
-  done left =
-      let e : drop i s ≡ [] = drop-of-length-le s left in
-      let all : allIn 1 37 (map codeOf s) ≡ true = sym (v .rest) ∙ rw e in
-      let sum : n ≡ value 38 12 (map codeOf s) = omega (arith, (rw e at (v .sum)), value-none 38 (12 - i)) in
-      rw (le-leb (length s) 12 (v .short), text-all, all, sum)
+  unfolding packOf isText
+  done left = rw (le-leb (length s) 12 (v .short), text-all, all-codes v left, all-summed v left)
 
-  module _ (c : ℕ) (more : i < length s) (is : c ≡ codeOf (getD s i 0)) where
-    codes : map codeOf (drop i s) ≡ c ∷ map codeOf (drop (i + 1) s)
-    codes = codes-turn s i more ∙ rw is
-
-    most : c ≤ 37
-    most = rw is (code-le (getD s i 0))
-
-    fits : n + c * (w / 38) + w / 38 ≤ 38 ^ 12
-    fits = omega (arith, mul-le-mul-right (w / 38) most, v .room, times w i (omega arith) (v .weight))
-
-    again : (c ≡ 0 → ⊥) → Inv s (n + c * (w / 38)) (w / 38) (i + 1)
-    again some = record {
-      at = omega arith;
-      short = v .short;
-      weight = next-weight w i (omega arith) (v .weight);
-      room = fits;
-      sum = add-assoc n _ _ ∙ rw (← (value-turn w i (omega arith) (v .weight) c (map codeOf (drop (i + 1) s))), ← codes) (v .sum);
-      rest = sym (allIn-more 1 37 c (map codeOf (drop (i + 1) s)) (omega arith) most) ∙ rw (← codes) (v .rest);
-    }
-
-    bad : c ≡ 0 → Nothing ≡ packOf s
-    unfolding packOf isText allIn all
-    bad none =
-        let all : allIn 1 37 (map codeOf s) ≡ false = sym (v .rest) ∙ rw (codes, lt-leb 1 c (omega arith)) in
-        rw (le-leb (length s) 12 (v .short), text-all, all)
+  bad : (c : ℕ) → i < length s → c ≡ codeOf (getD s i 0) → c ≡ 0 → Nothing ≡ packOf s
+  unfolding packOf isText allIn all
+  bad c more is none =
+      let all : allIn 1 37 (map codeOf s) ≡ false = sym (v .rest) ∙ rw (codes v c more is, lt-leb 1 c (omega arith)) in
+      rw (le-leb (length s) 12 (v .short), text-all, all)
 
 abbrev Inv-loop : tie.InvT-loop
-Inv-loop s n₀ w₀ i₀ n w i = Inv s n w i
+Inv-loop s n₀ w₀ i₀ n w i = Packs s n w i
 
 abbrev μ-loop : tie.MeasureT-loop
 μ-loop s n₀ w₀ i₀ n w i = length s - i
@@ -74,7 +38,7 @@ unfolding packOf isText
 returns c = simp (lt-leb _ _ (c .if1 .taken))
 
 loop-holds : tie.Need-loop-holds Inv-loop μ-loop
-loop-holds c = record { at = omega arith; short = omega arith; weight = refl; room = omega arith; sum = omega arith; rest = refl }
+loop-holds c = begin _ (c .if1 .left)
 
 shared-slice-read-code : tie.Need-shared-slice-read-code Inv-loop μ-loop
 shared-slice-read-code c = omega arith
@@ -112,7 +76,7 @@ loop-again : tie.Need-loop-again Inv-loop μ-loop
 loop-again c =
     let k = c .before .code in
     let l = c .before .before .before .before in
-    again (l .loop .inv) (k .result) (c .before .before .before .loop-test .taken) (k .ensures) (c .if2 .left)
+    again (l .loop .inv) (k .result) (c .before .before .before .loop-test .taken) (k .ensures) (omega (arith, c .if2 .left))
 
 returns-3 : tie.Need-returns-3 Inv-loop μ-loop
 returns-3 c = done (c .before .loop .inv) (c .loop-test .left)

@@ -1,12 +1,17 @@
--- `words::read` meets its contract. Assumes nothing.
-use mathlib.Core.Path.{sym, _∙_}
+-- `words::read` meets its contract: a text that has a form is a short text. Assumes nothing.
+use mathlib.Core.Path.{sym, ap, _∙_}
+use Rattle.text.specs.declared.Packed.the-variants.{Text}
+use Rattle.forms.proofs.Held.{form-held}
 use Rattle.words.proofs.Laws.{read-form, read-none}
 use borrow.Author.Needs.{needs}
 use Rattle.words.proofs.read.Statement.{statement}
 use Rattle.words.proofs.read.Tie as tie
 
+pack-known-requires : tie.Need-pack-known-requires
+pack-known-requires c κs = form-held _ _ (sym (c .before .is-form .ensures) ∙ c .if1 .taken) .text
+
 returns : tie.Need-returns
-returns c = c .pack .ensures ∙ read-form _ _ (sym (c .before .before .is-form .ensures) ∙ c .before .if1 .taken)
+returns c = ap Text (c .pack-known .ensures) ∙ read-form _ _ (sym (c .before .before .is-form .ensures) ∙ c .before .if1 .taken)
 
 returns-2 : tie.Need-returns-2
 returns-2 c = read-none _ _ (sym (c .before .is-form .ensures) ∙ c .if1 .left)
@@ -16,6 +21,6 @@ read-spec =
     tie.close
     (tie.spec
     (λ c κs. search needs)
-    (λ c κs. search needs)
+    pack-known-requires
     returns
     returns-2)
