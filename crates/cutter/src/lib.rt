@@ -1,6 +1,7 @@
 // Lines out of the bytes of a feed that comes in parts cut anywhere (document 01, "Cutting"). The bytes of a begun line
 // stand at the start of a buffer that the caller lends.
 use shapes::find;
+use sweeps::find_far;
 use text::Written;
 use writing::put_bytes;
 ghost use mathlib.Core.Path.{_≡_};
@@ -120,7 +121,7 @@ pub fn cut(held: &mut [u8], begun: Begun, part: &[u8]) -> AfterCut
             begun,
         };
     }
-    let n = find(LINE_FEED, part);
+    let n = find_far(LINE_FEED, part);
     if n == part.len() {
         let begun = hold(held, begun, part);
         return AfterCut {

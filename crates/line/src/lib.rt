@@ -115,7 +115,7 @@ pub fn read(line: &[u8]) -> LineRead
     if line.len() > 2048 {
         return LineRead::Long;
     }
-    if !shapes::each_within(32, 126, line) {
+    if !sweeps::each_within(32, 126, line) {
         return LineRead::Unprintable;
     }
     let head = read_head(line);

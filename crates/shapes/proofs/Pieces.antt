@@ -1,14 +1,14 @@
 -- The pieces of a text: one after the other, up to each b. Assumes nothing.
 use mathlib.Core.Path.{_≡_, refl, sym, ap, _∙_}
-use mathlib.Core.Bool.{Bool, true, false, not}
+use mathlib.Core.Bool.{Bool, true, false, not, _||_}
 use mathlib.Core.List.{List, [], _∷_, _++_, append-nil}
 use Prim.Native.Nat.{ℕ, suc, _+_, _<_}
 use native.Mathlib.Numerals.{add-one}
 use native.Mathlib.Omega.{arith}
-use lib.Dec.{eqb}
+use lib.Dec.{eqb, leb·zero, leb·suc-suc}
 use lib.ListN.{length, take, drop}
 use lib.Seq.{drop-cons}
-use borrow.Author.Tests.{eq-eqb, eqb-true, le-ltb, ltb-false, not-true}
+use borrow.Author.Tests.{eq-eqb, eqb-true, not-true}
 use Rattle.text.proofs.Logic.{and-left, and-right}
 use Rattle.shapes.specs.Cut.{upTo, has}
 use Rattle.shapes.specs.Pieces.{grow, pieces, eachAfter, noneHas}
@@ -52,20 +52,25 @@ module _ (b : ℕ) where
       go true q r = rw (q, r, eqb-true x b q)
       go false q r = rw q (grown (pieces b s) r)
 
-  -- no piece has a b
-  has-next : (x : ℕ) (p : List ℕ) → eqb x b ≡ false → has b p ≡ false → has b (x ∷ p) ≡ false
+  -- a text has a b if it begins with one, or what follows has one
+  pub has-more : (x : ℕ) (p : List ℕ) → has b (x ∷ p) ≡ (eqb x b || has b p)
   unfolding has upTo
-  has-next x p q e = rw q (le-ltb (suc (upTo b p)) (suc (length p)) (omega (arith, ltb-false (upTo b p) (length p) e)))
+  has-more x p = go (eqb x b) refl
+    where
+      go : (t : Bool) → eqb x b ≡ t → has b (x ∷ p) ≡ (t || has b p)
+      go true q = rw q (leb·suc-suc 0 (length p) ∙ leb·zero (length p))
+      go false q = rw q (leb·suc-suc (suc (upTo b p)) (length p))
 
+  -- no piece has a b
   pub pieces-none : (s : List ℕ) → noneHas b (pieces b s) ≡ true
   unfolding pieces noneHas has upTo
   pieces-none [] = refl
   pieces-none (x ∷ s) = go (eqb x b) refl (pieces-none s)
     where
       grown : (ps : List (List ℕ)) → eqb x b ≡ false → noneHas b ps ≡ true → noneHas b (grow x ps) ≡ true
-      grown [] q e = rw (has-next x [] q refl)
+      grown [] q e = rw (has-more x [], q)
       grown (p ∷ ps) q e =
-          rw (has-next x p q (not-true (has b p) (and-left (not (has b p)) (noneHas b ps) e)), and-right (not (has b p)) (noneHas b ps) e)
+          rw (has-more x p, q, not-true (has b p) (and-left (not (has b p)) (noneHas b ps) e), and-right (not (has b p)) (noneHas b ps) e)
 
       go : (t : Bool) → eqb x b ≡ t → noneHas b (pieces b s) ≡ true → noneHas b (pieces b (x ∷ s)) ≡ true
       go true q r = rw (q, r)

@@ -6,7 +6,6 @@ use Rattle.shapes.proofs.fits.Reads as fits
 use Rattle.shapes.proofs.find.Reads as find
 use Rattle.shapes.proofs.one_of.Reads as one-of
 use Rattle.shapes.proofs.run.Reads as run
-use Rattle.shapes.proofs.each_within.Reads as each-within
 
 pub is-of-one : (κs : _) (a : _) (r r′ : _) (s s′ : _) → is-of.Post κs a r s → is-of.Post κs a r′ s′ → r ≡ r′
 is-of-one κs a r r′ s s′ p q = p ∙ sym q
@@ -22,6 +21,3 @@ one-of-one κs a r r′ s s′ p q = p ∙ sym q
 
 pub run-one : (κs : _) (a : _) (r r′ : _) (s s′ : _) → run.Post κs a r s → run.Post κs a r′ s′ → r ≡ r′
 run-one κs a r r′ s s′ p q = p ∙ sym q
-
-pub each-within-one : (κs : _) (a : _) (r r′ : _) (s s′ : _) → each-within.Post κs a r s → each-within.Post κs a r′ s′ → r ≡ r′
-each-within-one κs a r r′ s s′ p q = p ∙ sym q

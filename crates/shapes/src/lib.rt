@@ -4,7 +4,6 @@ ghost use mathlib.Core.Path.{_≡_};
 ghost use mathlib.Core.Bool.{_&&_};
 ghost use lib.Dec.{leb};
 ghost use Rattle.text.specs.Class.{isAlnum};
-ghost use Rattle.text.specs.Place.{allIn};
 ghost use Rattle.shapes.specs.Picture.{isOf, fits as fitting, oneOf, run as running, either};
 ghost use Rattle.shapes.specs.Cut.{upTo};
 
@@ -103,24 +102,6 @@ pub fn run(k: u8, least: usize, most: usize, s: &[u8]) -> bool
     let mut i = 0;
     while i < s.len() {
         if !is_of(k, s[i]) {
-            return false;
-        }
-        i += 1;
-    }
-    true
-}
-
-// Whether each byte of s is from lo to hi.
-pub fn each_within(lo: u8, hi: u8, s: &[u8]) -> bool
-    ensures { λ r. ⌜ r ≡ allIn lo hi (now (s .entry)) ⌝ }
-{
-    let mut i = 0;
-    while i < s.len() {
-        let b = s[i];
-        if b < lo {
-            return false;
-        }
-        if b > hi {
             return false;
         }
         i += 1;

@@ -161,7 +161,7 @@ fn size_body(b: Body, free: &[u8], trailing: bool) -> Sized
         if trailing {
             return Sized::NotOne;
         }
-        if !shapes::each_within(32, 126, free) {
+        if !sweeps::each_within(32, 126, free) {
             return Sized::NotOne;
         }
         return Sized::Bytes(free.len());

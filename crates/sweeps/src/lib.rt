@@ -1,0 +1,48 @@
+// Passes over many bytes, written without an early way out so that the compiler takes sixteen at a time. Nothing here
+// knows of lines or fields.
+use shapes::find;
+ghost use mathlib.Core.Path.{_≡_};
+ghost use Rattle.text.specs.Place.{allIn};
+ghost use Rattle.shapes.specs.Cut.{upTo, has};
+
+// Whether each byte of s is from lo to hi.
+pub fn each_within(lo: u8, hi: u8, s: &[u8]) -> bool
+    ensures { λ r. ⌜ r ≡ allIn lo hi (now (s .entry)) ⌝ }
+{
+    let mut all = true;
+    let mut i = 0;
+    while i < s.len() {
+        let b = s[i];
+        all = all & (lo <= b) & (b <= hi);
+        i += 1;
+    }
+    all
+}
+
+// Whether one of the bytes of s is b.
+fn holds(b: u8, s: &[u8]) -> bool
+    ensures { λ r. ⌜ r ≡ has b (now (s .entry)) ⌝ }
+{
+    let mut some = false;
+    let mut i = 0;
+    while i < s.len() {
+        some = some | (s[i] == b);
+        i += 1;
+    }
+    some
+}
+
+// The index of the first byte of s that is b, or s's length: as `shapes::find`, for where it is some way off.
+pub fn find_far(b: u8, s: &[u8]) -> usize
+    ensures { λ r. ⌜ r ≡ upTo b (now (s .entry)) ⌝ }
+{
+    let mut i = 0;
+    while s.len() - i >= 16 {
+        let e = i + 16;
+        if holds(b, &s[i..e]) {
+            break;
+        }
+        i += 16;
+    }
+    i + find(b, &s[i..])
+}
