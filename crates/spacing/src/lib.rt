@@ -1,5 +1,7 @@
 // The body of a message with fields: each field after one space, none empty, at the end at most one space more.
 use shapes::find;
+use sweeps::has_twice;
+use sweeps::how_many;
 ghost use mathlib.Core.Path.{_≡_};
 ghost use Rattle.spacing.specs.Body.{countOf, endOf};
 
@@ -29,19 +31,9 @@ pub fn count(body: &[u8]) -> Counted
     if body[0] != b' ' {
         return Counted::Wrong;
     }
-    let mut at: usize = 0;
-    let mut n: usize = 0;
-    while at < body.len() {
-        let j = at + 1;
-        if j == body.len() {
-            return Counted::Fields(n, true);
-        }
-        let e = field_end(body, j);
-        if e == j {
-            return Counted::Wrong;
-        }
-        n += 1;
-        at = e;
+    if has_twice(b' ', body) {
+        return Counted::Wrong;
     }
-    Counted::Fields(n, false)
+    let last = body.len() - 1;
+    Counted::Fields(how_many(b' ', &body[..last]), body[last] == b' ')
 }

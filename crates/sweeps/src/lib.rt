@@ -2,8 +2,14 @@
 // knows of lines or fields.
 use shapes::find;
 ghost use mathlib.Core.Path.{_≡_};
+ghost use Prim.Native.Nat.{_≤_};
+ghost use lib.ListN.{length};
 ghost use Rattle.text.specs.Place.{allIn};
 ghost use Rattle.shapes.specs.Cut.{upTo, has};
+ghost use Rattle.sweeps.specs.Many.{howMany, twice};
+
+// How many bytes are counted in one: few enough for it, and no odd ones left over of each sixteen.
+const FEW: usize = 224;
 
 // Whether each byte of s is from lo to hi.
 pub fn each_within(lo: u8, hi: u8, s: &[u8]) -> bool
@@ -45,4 +51,45 @@ pub fn find_far(b: u8, s: &[u8]) -> usize
         i += 16;
     }
     i + find(b, &s[i..])
+}
+
+// How many bytes of s are b, of so few that a byte counts them.
+fn how_many_of_few(b: u8, s: &[u8]) -> u8
+    requires { ⌜ length (now s) ≤ 255 ⌝ }
+    ensures { λ r. ⌜ r ≡ howMany b (now (s .entry)) ⌝ }
+{
+    let mut n: u8 = 0;
+    let mut i = 0;
+    while i < s.len() {
+        n += (s[i] == b) as u8;
+        i += 1;
+    }
+    n
+}
+
+// How many bytes of s are b.
+pub fn how_many(b: u8, s: &[u8]) -> usize
+    ensures { λ r. ⌜ r ≡ howMany b (now (s .entry)) ⌝ }
+{
+    let mut n: usize = 0;
+    let mut i = 0;
+    while s.len() - i > FEW {
+        let e = i + FEW;
+        n += how_many_of_few(b, &s[i..e]) as usize;
+        i += FEW;
+    }
+    n + how_many_of_few(b, &s[i..]) as usize
+}
+
+// Whether two b stand side by side in s.
+pub fn has_twice(b: u8, s: &[u8]) -> bool
+    ensures { λ r. ⌜ r ≡ twice b (now (s .entry)) ⌝ }
+{
+    let mut some = false;
+    let mut i = 1;
+    while i < s.len() {
+        some = some | ((s[i - 1] == b) & (s[i] == b));
+        i += 1;
+    }
+    some
 }

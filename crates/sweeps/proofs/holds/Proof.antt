@@ -1,4 +1,5 @@
--- `sweeps::holds` meets its contract: b is among the bytes that were seen or those that are left as it is among all. Assumes nothing.
+-- `sweeps::holds` meets its contract: b is among the bytes that were seen or those that are left as it is among all.
+-- Assumes nothing.
 use mathlib.Core.Path.{_≡_, refl}
 use mathlib.Core.Bool.{Bool, _||_, or-false, or-assoc}
 use mathlib.Core.List.{List}
