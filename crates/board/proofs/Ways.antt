@@ -10,7 +10,7 @@ use lib.ListN.{length, getD, take, drop, set}
 use lib.Dec.{ltb, eqb}
 use Rattle.text.specs.Text.{spliced}
 use Rattle.rows.specs.Row.{rowWords, rowOf, isRow}
-use Rattle.rows.specs.Rows.{CAP, keyOf, Above, Rising, lookup, orEmpty, lookRow, Place, At, Gap, further, findIn, writtenAt, fitsAt, written, fits, struckAt, isAt, struck, isListed}
+use Rattle.rows.specs.Rows.{CAP, keyOf, Rising, lookup, orEmpty, lookRow, Place, At, Gap, further, findIn, writtenAt, fitsAt, written, fits, struckAt, isAt, struck, isListed}
 use Rattle.rows.specs.declared.Row.{Row}
 use Rattle.rows.specs.declared.ArrivalSlot.the-variants as arrival
 use Rattle.rows.specs.declared.TrackSlot.the-variants as track
@@ -27,7 +27,7 @@ use Rattle.board.specs.Posts.{Wrote, Stricken}
 use Rattle.board.proofs.Words.{length-rows, row-there}
 use Rattle.board.proofs.Boards.{replace-board, insert-board, remove-board}
 use Rattle.board.proofs.Allowed.{parts}
-use Rattle.rows.proofs.Lookup.{above-rising}
+use Rattle.rows.proofs.Lookup.{above-rising, none-below}
 use Rattle.board.proofs.Theorems.{words-rows, still-written, still-struck}
 
 -- ---- what `find` answered, as a place
@@ -75,13 +75,6 @@ gap-below l k i e =
     omega (arith, length-rows l)
 
 -- ---- the row of a key
-
--- in rows that rise no key up to the bound is shown
-pub none-below : (k j : ℕ) (rs : List Row) → k ≤ j → Above j rs → lookup k rs ≡ none
-none-below k j [] h a = refl
-none-below k j (x ∷ xs) h a =
-    let lt : j < keyOf x = a .0 in
-    ap (λ (b : Bool). cond b (some x) (lookup k xs)) (ne-eqb (keyOf x) k (λ e. omega arith)) ∙ none-below k (keyOf x) xs (omega arith) (a .1)
 
 -- what a key shows, by the place that was found: the row there, or none where keys rise
 abbrev pub Stands : ℕ → List Row → Row → Place → Type 0

@@ -14,6 +14,7 @@ use Rattle.text.specs.Bytes.{bytes}
 use Rattle.text.specs.Class.{all, isDigit, isLetter, isAlnum, isTextByte}
 use Rattle.text.specs.Place.{value, inRange, allIn}
 use Rattle.text.specs.Text.{packed, textOf, isText}
+use Rattle.text.proofs.Parts.{all-append}
 use Rattle.text.proofs.Logic.{and-left, and-right, true-false, not-fails, either-of}
 use Rattle.text.proofs.Laws.{text-packed, packed-text, text-is}
 use Rattle.shapes.specs.Pieces.{pieces}
@@ -183,12 +184,7 @@ stamp-length t e =
 
 -- ---- a head's texts are printable
 
--- a class of bytes holds of what is joined, of what is left, and where a narrower one holds
-all-joined : (f : ℕ → Bool) (x y : List ℕ) → all f x ≡ true → all f y ≡ true → all f (x ++ y) ≡ true
-unfolding all
-all-joined f [] y c d = d
-all-joined f (b ∷ x) y c d = rw (and-left (f b) (all f x) c, all-joined f x y (and-right (f b) (all f x) c) d)
-
+-- a class of bytes holds of what is left, and where a narrower one holds
 all-left : (f : ℕ → Bool) (n : ℕ) (s : List ℕ) → all f s ≡ true → all f (drop n s) ≡ true
 unfolding all
 all-left f zero s e = e
@@ -206,7 +202,7 @@ printable-left n s e = all-left (inRange 32 126) n s e
 
 pub printable-joined : (x y : List ℕ) → allIn 32 126 x ≡ true → allIn 32 126 y ≡ true → allIn 32 126 (x ++ y) ≡ true
 unfolding allIn
-printable-joined x y c d = all-joined (inRange 32 126) x y c d
+printable-joined x y c d = rw (all-append (inRange 32 126) x y, c) d
 
 printable-byte : (b : ℕ) → isTextByte b ≡ true → inRange 32 126 b ≡ true
 unfolding isTextByte isAlnum isDigit isLetter

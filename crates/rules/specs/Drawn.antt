@@ -6,19 +6,15 @@ use lib.Dec.{eqb}
 use Rattle.forms.specs.Form.{isSequence, isNumber, isPrefix, isOneLetter, isFiledSpeed, isGroundSpeed, isLevel, isTrackLevel, isAmendment}
 use Rattle.forms.specs.Kind.{SEQUENCE, NUMBER, PREFIX, LETTER, FILED-SPEED, GROUND-SPEED, LEVEL, TRACK-LEVEL, AMENDMENT}
 
--- the form of a speed, a level and an amendment's number; any other letter has none here
-unfoldable pub isFigure : ℕ → List ℕ → Bool
-isFigure k s =
-    cond (eqb k FILED-SPEED) (isFiledSpeed s)
-    (cond (eqb k GROUND-SPEED) (isGroundSpeed s)
-    (cond (eqb k LEVEL) (isLevel s)
-    (cond (eqb k TRACK-LEVEL) (isTrackLevel s)
-    (cond (eqb k AMENDMENT) (isAmendment s) false))))
-
--- and of the other kinds whose rule is one or more pictures
+-- the form of such a kind; any other letter has none here
 unfoldable pub isDrawn : ℕ → List ℕ → Bool
 isDrawn k s =
     cond (eqb k SEQUENCE) (isSequence s)
     (cond (eqb k NUMBER) (isNumber s)
     (cond (eqb k PREFIX) (isPrefix s)
-    (cond (eqb k LETTER) (isOneLetter s) (isFigure k s))))
+    (cond (eqb k LETTER) (isOneLetter s)
+    (cond (eqb k FILED-SPEED) (isFiledSpeed s)
+    (cond (eqb k GROUND-SPEED) (isGroundSpeed s)
+    (cond (eqb k LEVEL) (isLevel s)
+    (cond (eqb k TRACK-LEVEL) (isTrackLevel s)
+    (cond (eqb k AMENDMENT) (isAmendment s) false))))))))

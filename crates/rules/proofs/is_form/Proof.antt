@@ -2,7 +2,7 @@
 use mathlib.Core.Path.{_∙_}
 use borrow.Author.Tests.{ne-eqb}
 use Rattle.forms.specs.Kind.{isForm}
-use Rattle.rules.specs.Drawn.{isFigure, isDrawn}
+use Rattle.rules.specs.Drawn.{isDrawn}
 use borrow.Author.Needs.{needs}
 use Rattle.rules.proofs.is_form.Statement.{statement}
 use Rattle.rules.proofs.is_form.Tie as tie
@@ -44,7 +44,7 @@ unfolding isForm
 returns-9 c = c .is-position .ensures ∙ rw (c .before .match .keys9)
 
 returns-10 : tie.Need-returns-10
-unfolding isForm isDrawn isFigure
+unfolding isForm isDrawn
 returns-10 c =
     let n = c .before .match .rest in
     c .is-drawn .ensures ∙ rw (ne-eqb _ _ (n .0 .0 .0 .0 .0 .0 .0 .0 .1), ne-eqb _ _ (n .0 .0 .0 .0 .0 .0 .0 .1), ne-eqb _ _ (n .0 .0 .0 .0 .0 .0 .1), ne-eqb _ _ (n .0 .0 .0 .0 .0 .1), ne-eqb _ _ (n .0 .0 .0 .0 .1), ne-eqb _ _ (n .0 .0 .0 .1), ne-eqb _ _ (n .0 .0 .1), ne-eqb _ _ (n .0 .1), ne-eqb _ _ (n .1))
