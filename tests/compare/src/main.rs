@@ -1,17 +1,25 @@
-//! The comparison: `compare PROVED FOLDER [SEED [LINES]]` hands random feeds to the proved
-//! programs and to the reference until so many lines were compared, and shows the first
-//! difference. It is started by the script `run` beside this folder.
+//! The comparison: `compare PROVED FOLDER [SEED [LINES [CASES]]]` hands random feeds to the proved
+//! programs and to the reference until so many lines were compared, then so many calls on random
+//! boards, states and values, and shows the first difference. It is started by the script `run`
+//! beside this folder. `compare record FOLDER` writes the cases that stand beside `damage`, and
+//! `compare once NAME SEED BYTES FOLDER` one feed, or cases, for a program, with the expected output.
 
 #![forbid(unsafe_code)]
 
+mod boards;
+mod calls;
+mod cases;
 mod chance;
 mod damage;
+mod direct;
 mod feeds;
 mod fields;
 mod lines;
 mod once;
 mod program;
+mod states;
 mod tally;
+mod values;
 
 use chance::Chance;
 use program::{parts, run, Printed};
@@ -25,6 +33,10 @@ use tally::Tally;
 
 const SEED: u64 = 1;
 const LINES: u64 = 200_000;
+const CASES: u64 = 20_000;
+/// The seed of the cases that stand beside the program `damage`, and how many of each call and number.
+const RECORDED: u64 = 1;
+const RECORDED_OF_EACH: usize = 2;
 
 /// What is compared: a program, by the script that runs it and its name, and what the reference
 /// prints for the same feed.
@@ -60,26 +72,7 @@ fn pair_of<'a>(proved: &'a Path, name: &str) -> Option<Pair<'a>> {
 
 fn main() -> ExitCode {
     let arguments: Vec<String> = env::args().skip(1).collect();
-    if let [word, name, seed, bytes, folder] = arguments.as_slice() {
-        if word == "once" {
-            return once(name, seed, bytes, Path::new(folder));
-        }
-    }
-    let number = |index: usize, otherwise: u64| match arguments.get(index) {
-        Some(text) => text.parse::<u64>().ok(),
-        None => Some(otherwise),
-    };
-    let (Some(seed), Some(lines), 2..=4) = (number(2, SEED), number(3, LINES), arguments.len())
-    else {
-        eprintln!("usage: run [SEED [LINES]], two whole numbers");
-        return ExitCode::from(2);
-    };
-    match compare(
-        Path::new(&arguments[0]),
-        Path::new(&arguments[1]),
-        seed,
-        lines,
-    ) {
+    match asked(&arguments) {
         Ok(true) => ExitCode::SUCCESS,
         Ok(false) => ExitCode::FAILURE,
         Err(error) => {
@@ -89,24 +82,38 @@ fn main() -> ExitCode {
     }
 }
 
-/// `once NAME SEED BYTES FOLDER` writes one feed for a program, and its expected output.
-fn once(name: &str, seed: &str, bytes: &str, folder: &Path) -> ExitCode {
-    let (Ok(seed), Ok(bytes)) = (seed.parse(), bytes.parse()) else {
-        eprintln!("usage: once NAME SEED BYTES FOLDER");
-        return ExitCode::from(2);
-    };
-    match once::write(name, seed, bytes, folder) {
-        Ok(()) => ExitCode::SUCCESS,
-        Err(error) => {
-            eprintln!("compare: {error}");
-            ExitCode::from(2)
+/// Does what the arguments ask. Whether there was no difference.
+fn asked(arguments: &[String]) -> io::Result<bool> {
+    let usage = || io::Error::other("usage: run [SEED [LINES [CASES]]], whole numbers");
+    match arguments {
+        [what, folder] if what == "record" => {
+            let (read, written) = direct::record(RECORDED, RECORDED_OF_EACH);
+            fs::write(Path::new(folder).join("stdin"), read)?;
+            fs::write(Path::new(folder).join("stdout"), written)?;
+            Ok(true)
         }
+        [what, name, seed, bytes, folder] if what == "once" => {
+            let number = |text: &String| text.parse::<u64>().map_err(|_| usage());
+            once::write(name, number(seed)?, number(bytes)? as usize, Path::new(folder))?;
+            Ok(true)
+        }
+        [proved, folder, numbers @ ..] if numbers.len() <= 3 => {
+            let number = |index: usize, otherwise: u64| match numbers.get(index) {
+                Some(text) => text.parse::<u64>().map_err(|_| usage()),
+                None => Ok(otherwise),
+            };
+            let (proved, folder) = (Path::new(proved), Path::new(folder));
+            let (seed, lines, cases) = (number(0, SEED)?, number(1, LINES)?, number(2, CASES)?);
+            println!("seed {seed}, {lines} lines, {cases} calls");
+            Ok((lines == 0 || compare(proved, folder, seed, lines)?)
+                && (cases == 0 || direct::compare(proved, folder, seed, cases)?))
+        }
+        _ => Err(usage()),
     }
 }
 
 /// Compares feed after feed. Whether there was no difference.
 fn compare(proved: &Path, folder: &Path, seed: u64, lines: u64) -> io::Result<bool> {
-    println!("seed {seed}, {lines} lines");
     let pairs = pairs(proved);
     let mut listed: u64 = 0;
     let mut seeds = Chance::of_seed(seed);

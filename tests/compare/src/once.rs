@@ -1,7 +1,8 @@
-//! One feed written out as a program's input, with what the reference prints for it as its expected
-//! output: for `rt try`, which runs a program that is not proved yet.
+//! One feed, or cases of calls, written out as a program's input, with what the reference answers as its
+//! expected output: for `rt try`, which runs a program that is not proved yet.
 
 use crate::chance::Chance;
+use crate::direct;
 use crate::feeds;
 use crate::pair_of;
 use std::fs;
@@ -19,13 +20,17 @@ fn feed(seed: u64, bytes: usize) -> Vec<u8> {
     feed
 }
 
-/// Writes `stdin` and `stdout` of a program into a folder.
+/// Writes `stdin` and `stdout` of a program into a folder. `damage` gets a case of each call and number.
 pub fn write(name: &str, seed: u64, bytes: usize, folder: &Path) -> io::Result<()> {
-    let pair = pair_of(Path::new(""), name).ok_or_else(|| io::Error::other(format!("no program {name}")))?;
-    let feed = feed(seed, bytes.min(pair.most));
-    fs::write(folder.join("stdout"), (pair.reference)(&feed))?;
-    fs::write(folder.join("stdin"), &feed)?;
-    let lines = feed.iter().filter(|&&byte| byte == b'\n').count();
-    println!("{name}: seed {seed}, {lines} lines, {} bytes", feed.len());
-    Ok(())
+    let (read, written) = if name == "damage" {
+        direct::record(seed, 1)
+    } else {
+        let pair = pair_of(Path::new(""), name).ok_or_else(|| io::Error::other(format!("no program {name}")))?;
+        let feed = feed(seed, bytes.min(pair.most));
+        let report = (pair.reference)(&feed);
+        (feed, report)
+    };
+    println!("{name}: seed {seed}, {} bytes in, {} bytes out", read.len(), written.len());
+    fs::write(folder.join("stdin"), read)?;
+    fs::write(folder.join("stdout"), written)
 }

@@ -1,6 +1,7 @@
 //! The age of a stamp (document 01, "Age").
 
 use crate::field::Stamp;
+use crate::words;
 
 #[derive(Clone, Copy, Debug, PartialEq, Eq)]
 pub enum Age {
@@ -31,6 +32,13 @@ pub fn age(now: Stamp, last_day: u8, stamp: Stamp) -> Result<Age, u8> {
     } else {
         Ok(Age::Old)
     }
+}
+
+/// The same asked of numbers, as a caller may have any: of a stamp the number of its text.
+pub fn age_of_words(now: u64, last_day: u64, stamp: u64) -> Result<Age, u8> {
+    let last_day = u8::try_from(last_day).map_err(|_| 19)?;
+    let read = |word: u64| words::stamp(word).ok_or(19);
+    age(read(now)?, last_day, read(stamp)?)
 }
 
 #[cfg(test)]
@@ -124,6 +132,30 @@ mod tests {
         ] {
             assert_eq!(age(wrong, 30, good), Err(19));
             assert_eq!(age(good, 30, wrong), Err(19));
+        }
+    }
+
+    #[test]
+    fn any_numbers() {
+        let word = |text: &str| crate::text::number(text.as_bytes()).unwrap();
+        let (now, stamp) = (word("01000010"), word("30235950"));
+        assert_eq!(age_of_words(now, 30, stamp), Ok(Age::Seconds(20)));
+        assert_eq!(age_of_words(now, 31, stamp), Ok(Age::Old));
+        for last_day in [0, 27, 32, 30 + 256, u64::MAX] {
+            assert_eq!(age_of_words(now, last_day, stamp), Err(19));
+        }
+        for wrong in [
+            0,
+            1,
+            now + 1,
+            38_u64.pow(12) + now,
+            word("0100001"),
+            word("00000010"),
+            word("01240010"),
+            word("N5"),
+        ] {
+            assert_eq!(age_of_words(wrong, 30, stamp), Err(19));
+            assert_eq!(age_of_words(now, 30, wrong), Err(19));
         }
     }
 }

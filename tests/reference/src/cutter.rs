@@ -18,7 +18,7 @@ impl State {
         State::Begun(Vec::new())
     }
 
-    fn is_allowed(&self) -> bool {
+    pub fn is_allowed(&self) -> bool {
         match self {
             State::Begun(bytes) => bytes.len() <= MOST_LINE && !bytes.contains(&b'\n'),
             State::Overlong => true,

@@ -11,6 +11,12 @@
 //! - `age`: how old a stamp is
 //! - `print`: the board as text, and the report of a whole feed
 //!
+//! Four more take what a caller may hand over, allowed or not, as docs/DECISIONS.md lays it out:
+//! - `text`: a short text as one number
+//! - `words`: a board as words
+//! - `buffer`: a cutter state as a buffer and a count, and a whole part of a feed
+//! - `values`: a message as numbers, and its free text
+//!
 //! An answer number is a `u8` and is the number of the document's table. A place is a
 //! `usize`: 1 for the ident, and 0 where the answer has no place.
 
@@ -18,8 +24,12 @@
 
 pub mod age;
 pub mod board;
+pub mod buffer;
 pub mod cutter;
 pub mod field;
 pub mod line;
 pub mod print;
+pub mod text;
+pub mod values;
+pub mod words;
 pub mod write;

@@ -74,8 +74,13 @@ pub fn report(feed: &[u8], limit: u64) -> Vec<u8> {
     });
     // The board began empty and was changed by `apply` alone, so it is allowed.
     let mut text = print(&board).unwrap_or_default();
-    text.extend_from_slice(format!("LINES {lines} TAKEN {taken}\n").as_bytes());
+    text.extend_from_slice(&counts(lines, taken));
     text
+}
+
+/// The report's last line.
+pub fn counts(lines: u64, taken: u64) -> Vec<u8> {
+    format!("LINES {lines} TAKEN {taken}\n").into_bytes()
 }
 
 /// For each line of a feed one line: the reader's number and place, and for a line that reads
