@@ -94,7 +94,12 @@ fn asked(arguments: &[String]) -> io::Result<bool> {
         }
         [what, name, seed, bytes, folder] if what == "once" => {
             let number = |text: &String| text.parse::<u64>().map_err(|_| usage());
-            once::write(name, number(seed)?, number(bytes)? as usize, Path::new(folder))?;
+            once::write(
+                name,
+                number(seed)?,
+                number(bytes)? as usize,
+                Path::new(folder),
+            )?;
             Ok(true)
         }
         [proved, folder, numbers @ ..] if numbers.len() <= 3 => {

@@ -25,12 +25,17 @@ pub fn write(name: &str, seed: u64, bytes: usize, folder: &Path) -> io::Result<(
     let (read, written) = if name == "damage" {
         direct::record(seed, 1)
     } else {
-        let pair = pair_of(Path::new(""), name).ok_or_else(|| io::Error::other(format!("no program {name}")))?;
+        let pair = pair_of(Path::new(""), name)
+            .ok_or_else(|| io::Error::other(format!("no program {name}")))?;
         let feed = feed(seed, bytes.min(pair.most));
         let report = (pair.reference)(&feed);
         (feed, report)
     };
-    println!("{name}: seed {seed}, {} bytes in, {} bytes out", read.len(), written.len());
+    println!(
+        "{name}: seed {seed}, {} bytes in, {} bytes out",
+        read.len(),
+        written.len()
+    );
     fs::write(folder.join("stdin"), read)?;
     fs::write(folder.join("stdout"), written)
 }
