@@ -1,5 +1,5 @@
--- Calls of `feed`, one for each part of a feed, from an empty board and at a line's start, the counts added up; then `print` and
--- `print_counts`. Assumes nothing.
+-- Calls of `feed` or `feed_allowed`, one for each part of a feed, from an empty board and at a line's start, the counts added up; then
+-- `print` and `print_counts`. Assumes nothing.
 use Prim.Native.Nat.{ℕ, _+_, _-_}
 use mathlib.Core.Path.{_≡_}
 use mathlib.Core.Bool.{true}
@@ -16,7 +16,7 @@ use Rattle.printer.specs.declared.Printed.{Printed}
 use Rattle.feeding.specs.Fed.{Feeds}
 use Rattle.feeding.specs.declared.AfterFeed.{AfterFeed}
 
--- what `print` and `print_counts` promise of a call; `Feeds` is what `feed` promises. `proofs/Theorems` shows that these are the promises in
+-- what `print` and `print_counts` promise of a call; `Feeds` is what `feed` and `feed_allowed` promise. `proofs/Theorems` shows that these are the promises in
 -- the source.
 abbrev pub Prints : List ℕ → List ℕ → ℕ → Printed → List ℕ → Type 0
 Prints board out at r out′ = (r ≡ printOf board out at) × (out′ ≡ outAfter board out at)

@@ -34,7 +34,7 @@ fn is_track_level(s: &[u8]) -> bool
     run(b'd', 3, 3, s)
 }
 
-// The kinds whose rule is one or more pictures. (Digits and letters that follow each other are tested as runs, which is quicker.)
+// The kinds whose rule is one or more pictures. (A picture of one class is tested as a run, which is quicker.)
 fn is_drawn(kind: u8, s: &[u8]) -> bool
     ensures { λ r. ⌜ r ≡ isDrawn kind (now (s .entry)) ⌝ }
 {

@@ -8,7 +8,7 @@ ghost use Rattle.text.specs.Place.{allIn};
 ghost use Rattle.shapes.specs.Cut.{upTo, has};
 ghost use Rattle.sweeps.specs.Many.{howMany, twice};
 
-// How many bytes are counted in one: few enough for it, and no odd ones left over of each sixteen.
+// How many bytes of s a counter of one byte is used for: at most 255, and a whole number of sixteens.
 const FEW: usize = 224;
 
 // Whether each byte of s is from lo to hi.
