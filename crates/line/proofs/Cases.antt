@@ -12,6 +12,7 @@ use Rattle.text.specs.Text.{packed}
 use Rattle.text.proofs.Logic.{true-false}
 use Rattle.shapes.specs.Picture.{part}
 use Rattle.forms.specs.Form.{isSequence, isStamp, isFacility}
+use Rattle.frame.specs.Frame.{bodyPart, facilityPart, headLength, longestLine, sequencePart, stampPart, typePart}
 use Rattle.heads.specs.Message.{typeText, typeOf}
 use Rattle.heads.specs.declared.MessageType.{MessageType}
 use Rattle.heads.specs.declared.MessageType.the-variants.{Af, Az, Dz, Fz, Rz, Tz, Uz, Rt, To, Hb}
@@ -59,7 +60,7 @@ plan-type Hb n e = true-false e refl
 
 -- the head that a line with the type t reads as
 abbrev headFor : List ℕ → MessageType → Head
-headFor s t = record { sequence = record { 0 = packed (part 0 4 s) }; stamp = record { 0 = packed (part 4 8 s) }; facility = record { 0 = value 256 4 (part 12 4 s) }; kind = t }
+headFor s t = record { sequence = record { 0 = packed (sequencePart s) }; stamp = record { 0 = packed (stampPart s) }; facility = record { 0 = value 256 4 (facilityPart s) }; kind = t }
 
 -- ---- what each case's facts make of a line, step by step
 
@@ -67,19 +68,19 @@ module _ (s : List ℕ) where
   framed-reads : Framed s → {h : HeadRead} → headOf s ≡ h → byHead s h ≡ readOf s
   framed-reads f e = line-head s (f .enough) (f .few) (f .printable) e
 
-  no-sequence-reads : Framed s → isSequence (part 0 4 s) ≡ false → read.NoSequence ≡ readOf s
+  no-sequence-reads : Framed s → isSequence (sequencePart s) ≡ false → read.NoSequence ≡ readOf s
   unfolding headOf
   no-sequence-reads f p = framed-reads f {h = head.NoSequence} (rw p)
 
-  no-stamp-reads : Framed s → isSequence (part 0 4 s) ≡ true → isStamp (part 4 8 s) ≡ false → read.NoStamp ≡ readOf s
+  no-stamp-reads : Framed s → isSequence (sequencePart s) ≡ true → isStamp (stampPart s) ≡ false → read.NoStamp ≡ readOf s
   unfolding headOf
   no-stamp-reads f p q = framed-reads f {h = head.NoStamp} (rw (p, q))
 
-  no-facility-reads : Framed s → isSequence (part 0 4 s) ≡ true → isStamp (part 4 8 s) ≡ true → isFacility (part 12 4 s) ≡ false → read.NoFacility ≡ readOf s
+  no-facility-reads : Framed s → isSequence (sequencePart s) ≡ true → isStamp (stampPart s) ≡ true → isFacility (facilityPart s) ≡ false → read.NoFacility ≡ readOf s
   unfolding headOf
   no-facility-reads f p q r = framed-reads f {h = head.NoFacility} (rw (p, q, r))
 
-  no-type-reads : Framed s → isSequence (part 0 4 s) ≡ true → isStamp (part 4 8 s) ≡ true → isFacility (part 12 4 s) ≡ true → typeOf (part 16 2 s) ≡ type.Nothing → read.NoType ≡ readOf s
+  no-type-reads : Framed s → isSequence (sequencePart s) ≡ true → isStamp (stampPart s) ≡ true → isFacility (facilityPart s) ≡ true → typeOf (typePart s) ≡ type.Nothing → read.NoType ≡ readOf s
   unfolding headOf
   no-type-reads f p q r e = framed-reads f {h = head.NoType} (rw (p, q, r, e))
 
@@ -91,12 +92,12 @@ module _ (s : List ℕ) where
     long-reads : isLongPlan t (length s) ≡ true → read.LongPlan ≡ readOf s
     long-reads e = rest-long (headFor s t) s e ∙ headed-reads
 
-    body-reads : isLongPlan t (length s) ≡ false → {r : BodyRead} → bodyRead t (drop 18 s) ≡ r → withBody (headFor s t) r ≡ readOf s
+    body-reads : isLongPlan t (length s) ≡ false → {r : BodyRead} → bodyRead t (bodyPart s) ≡ r → withBody (headFor s t) r ≡ readOf s
     unfolding restOf
     body-reads e {r} q = let z : withBody (headFor s t) r ≡ restOf (headFor s t) s = rw (e, q) in z ∙ headed-reads
 
-    table-reads : isLongPlan t (length s) ≡ false → hasFields t ≡ true → {a : Answer} → answerBy t (drop 18 s) ≡ a → withBody (headFor s t) (typedOf t (padded (valuesBy t (drop 18 s))) a) ≡ readOf s
-    table-reads e h q = body-reads e (by-table t (drop 18 s) h ∙ ap (typedOf t (padded (valuesBy t (drop 18 s)))) q)
+    table-reads : isLongPlan t (length s) ≡ false → hasFields t ≡ true → {a : Answer} → answerBy t (bodyPart s) ≡ a → withBody (headFor s t) (typedOf t (padded (valuesBy t (bodyPart s))) a) ≡ readOf s
+    table-reads e h q = body-reads e (by-table t (bodyPart s) h ∙ ap (typedOf t (padded (valuesBy t (bodyPart s)))) q)
 
   -- ---- each line is in the case of its answer: its tests one after another, in document 01's order
 
@@ -114,16 +115,16 @@ module _ (s : List ℕ) where
   body-case : (t : MessageType) → Headed s t → isLongPlan t (length s) ≡ false → Own s
   body-case t k l = go (hasFields t) refl
     where
-      by : hasFields t ≡ true → (a : Answer) → answerBy t (drop 18 s) ≡ a → Own s
+      by : hasFields t ≡ true → (a : Answer) → answerBy t (bodyPart s) ≡ a → Own s
       by h (answer.Taken u m) q = taken-at _ (table-reads t k l h q)
-      by h answer.Spacing q = at {r = read.Spacing} (table-reads t k l h q) (Spacing t k l h (no-fields t (drop 18 s) q))
-      by h (answer.Field j) q = let (i, z, f) = fault-faulty t (drop 18 s) j field.Nothing refl q in at {r = read.Field j} (table-reads t k l h q) (placed 9 j i z (Field t i k l f))
-      by h (answer.Number j) q = let (i, z, f) = fault-faulty t (drop 18 s) j field.Number refl q in at {r = read.Number j} (table-reads t k l h q) (placed 10 j i z (Number t i k l f))
-      by h (answer.Two j) q = let (i, z, f) = fault-faulty t (drop 18 s) j field.Two refl q in at {r = read.Two j} (table-reads t k l h q) (placed 18 j i z (Two t i k l f))
+      by h answer.Spacing q = at {r = read.Spacing} (table-reads t k l h q) (Spacing t k l h (no-fields t (bodyPart s) q))
+      by h (answer.Field j) q = let (i, z, f) = fault-faulty t (bodyPart s) j field.Nothing refl q in at {r = read.Field j} (table-reads t k l h q) (placed 9 j i z (Field t i k l f))
+      by h (answer.Number j) q = let (i, z, f) = fault-faulty t (bodyPart s) j field.Number refl q in at {r = read.Number j} (table-reads t k l h q) (placed 10 j i z (Number t i k l f))
+      by h (answer.Two j) q = let (i, z, f) = fault-faulty t (bodyPart s) j field.Two refl q in at {r = read.Two j} (table-reads t k l h q) (placed 18 j i z (Two t i k l f))
 
       go : (c : Bool) → hasFields t ≡ c → Own s
-      go true h = by h (answerBy t (drop 18 s)) refl
-      go false h = taken-at _ (body-reads t k l (kept-whole t (drop 18 s) h))
+      go true h = by h (answerBy t (bodyPart s)) refl
+      go false h = taken-at _ (body-reads t k l (kept-whole t (bodyPart s) h))
 
   headed-case : (t : MessageType) → Headed s t → Own s
   headed-case t k = go (isLongPlan t (length s)) refl
@@ -133,41 +134,41 @@ module _ (s : List ℕ) where
       go false e = body-case t k e
 
   framed-case : Framed s → Own s
-  framed-case f = sequence (isSequence (part 0 4 s)) refl
+  framed-case f = sequence (isSequence (sequencePart s)) refl
     where
-      typed : isSequence (part 0 4 s) ≡ true → isStamp (part 4 8 s) ≡ true → isFacility (part 12 4 s) ≡ true → (d : TypeRead) → typeOf (part 16 2 s) ≡ d → Own s
-      typed p q r (type.Read t) e = headed-case t (record { framed = f; sequence = p; stamp = q; facility = r; type = sym (type-sound (part 16 2 s) t e) })
+      typed : isSequence (sequencePart s) ≡ true → isStamp (stampPart s) ≡ true → isFacility (facilityPart s) ≡ true → (d : TypeRead) → typeOf (typePart s) ≡ d → Own s
+      typed p q r (type.Read t) e = headed-case t (record { framed = f; sequence = p; stamp = q; facility = r; type = sym (type-sound (typePart s) t e) })
       typed p q r type.Nothing e =
           at {r = read.NoType} (no-type-reads f p q r e)
           (NoType f p q r (λ t x. let z : type.Nothing ≡ type.Read t = sym e ∙ ap typeOf x ∙ type-complete t in let y : _≡_ {A = ℕ} 0 1 = cc in omega arith))
 
-      facility : isSequence (part 0 4 s) ≡ true → isStamp (part 4 8 s) ≡ true → (c : Bool) → isFacility (part 12 4 s) ≡ c → Own s
-      facility p q true r = typed p q r (typeOf (part 16 2 s)) refl
+      facility : isSequence (sequencePart s) ≡ true → isStamp (stampPart s) ≡ true → (c : Bool) → isFacility (facilityPart s) ≡ c → Own s
+      facility p q true r = typed p q r (typeOf (typePart s)) refl
       facility p q false r = at {r = read.NoFacility} (no-facility-reads f p q r) (NoFacility f p q r)
 
-      stamp : isSequence (part 0 4 s) ≡ true → (c : Bool) → isStamp (part 4 8 s) ≡ c → Own s
-      stamp p true q = facility p q (isFacility (part 12 4 s)) refl
+      stamp : isSequence (sequencePart s) ≡ true → (c : Bool) → isStamp (stampPart s) ≡ c → Own s
+      stamp p true q = facility p q (isFacility (facilityPart s)) refl
       stamp p false q = at {r = read.NoStamp} (no-stamp-reads f p q) (NoStamp f p q)
 
-      sequence : (c : Bool) → isSequence (part 0 4 s) ≡ c → Own s
-      sequence true p = stamp p (isStamp (part 4 8 s)) refl
+      sequence : (c : Bool) → isSequence (sequencePart s) ≡ c → Own s
+      sequence true p = stamp p (isStamp (stampPart s)) refl
       sequence false p = at {r = read.NoSequence} (no-sequence-reads f p) (NoSequence f p)
 
   -- THE LAW: each line is in the case of its number and its place
   pub case-of : Case s (numberOf (readOf s)) (placeOf (readOf s))
-  case-of = enough (ltb (length s) 18) refl
+  case-of = enough (ltb (length s) headLength) refl
     where
-      printable : 18 ≤ length s → length s ≤ 2048 → (c : Bool) → allIn 32 126 s ≡ c → Own s
+      printable : headLength ≤ length s → length s ≤ longestLine → (c : Bool) → allIn 32 126 s ≡ c → Own s
       printable h k true e = framed-case (record { enough = h; few = k; printable = e })
       printable h k false e = at {r = read.Unprintable} (line-byte s h k e) (Unprintable h k e)
 
-      few : 18 ≤ length s → (c : Bool) → ltb 2048 (length s) ≡ c → Own s
-      few h true e = let k = ltb-true 2048 (length s) e in at {r = read.Long} (line-long s h k) (Long k)
-      few h false e = printable h (ltb-false 2048 (length s) e) (allIn 32 126 s) refl
+      few : headLength ≤ length s → (c : Bool) → ltb longestLine (length s) ≡ c → Own s
+      few h true e = let k = ltb-true longestLine (length s) e in at {r = read.Long} (line-long s h k) (Long k)
+      few h false e = printable h (ltb-false longestLine (length s) e) (allIn 32 126 s) refl
 
-      enough : (c : Bool) → ltb (length s) 18 ≡ c → Own s
-      enough true e = let k = ltb-true (length s) 18 e in at {r = read.Short} (line-short s k) (Short k)
-      enough false e = few (ltb-false (length s) 18 e) (ltb 2048 (length s)) refl
+      enough : (c : Bool) → ltb (length s) headLength ≡ c → Own s
+      enough true e = let k = ltb-true (length s) headLength e in at {r = read.Short} (line-short s k) (Short k)
+      enough false e = few (ltb-false (length s) headLength e) (ltb longestLine (length s)) refl
 
   -- ---- and in no other: the facts of a case make the line read as that case's answer
 
@@ -175,11 +176,11 @@ module _ (s : List ℕ) where
   answered e = (ap numberOf (sym e), ap placeOf (sym e))
 
   -- a text that is no type's has no type
-  no-type : ((t : MessageType) → part 16 2 s ≡ typeText t → ⊥) → typeOf (part 16 2 s) ≡ type.Nothing
-  no-type none = go (typeOf (part 16 2 s)) refl
+  no-type : ((t : MessageType) → typePart s ≡ typeText t → ⊥) → typeOf (typePart s) ≡ type.Nothing
+  no-type none = go (typeOf (typePart s)) refl
     where
-      go : (d : TypeRead) → typeOf (part 16 2 s) ≡ d → typeOf (part 16 2 s) ≡ type.Nothing
-      go (type.Read t) e = absurd (none t (sym (type-sound (part 16 2 s) t e)))
+      go : (d : TypeRead) → typeOf (typePart s) ≡ d → typeOf (typePart s) ≡ type.Nothing
+      go (type.Read t) e = absurd (none t (sym (type-sound (typePart s) t e)))
       go type.Nothing e = e
 
   -- THE LAW: the case that a line is in has its number and its place
@@ -192,11 +193,11 @@ module _ (s : List ℕ) where
   case-only n p (NoStamp f a b) = answered {r = read.NoStamp} (no-stamp-reads f a b)
   case-only n p (NoFacility f a b c) = answered {r = read.NoFacility} (no-facility-reads f a b c)
   case-only n p (NoType f a b c d) = answered {r = read.NoType} (no-type-reads f a b c (no-type d))
-  case-only n p (Spacing t k l h d) = answered {r = read.Spacing} (table-reads t k l h (fields-none t (drop 18 s) d))
-  case-only n p (Field t i k l f) = answered {r = read.Field (suc i)} (table-reads t k l (faulty-fields t (drop 18 s) i field.Nothing f) (faulty-fault t (drop 18 s) i field.Nothing refl f))
-  case-only n p (Number t i k l f) = answered {r = read.Number (suc i)} (table-reads t k l (faulty-fields t (drop 18 s) i field.Number f) (faulty-fault t (drop 18 s) i field.Number refl f))
+  case-only n p (Spacing t k l h d) = answered {r = read.Spacing} (table-reads t k l h (fields-none t (bodyPart s) d))
+  case-only n p (Field t i k l f) = answered {r = read.Field (suc i)} (table-reads t k l (faulty-fields t (bodyPart s) i field.Nothing f) (faulty-fault t (bodyPart s) i field.Nothing refl f))
+  case-only n p (Number t i k l f) = answered {r = read.Number (suc i)} (table-reads t k l (faulty-fields t (bodyPart s) i field.Number f) (faulty-fault t (bodyPart s) i field.Number refl f))
   case-only n p (LongPlan k h) = answered {r = read.LongPlan} (long-reads Fz k (lt-ltb 439 (length s - 16) h))
-  case-only n p (Two t i k l f) = answered {r = read.Two (suc i)} (table-reads t k l (faulty-fields t (drop 18 s) i field.Two f) (faulty-fault t (drop 18 s) i field.Two refl f))
+  case-only n p (Two t i k l f) = answered {r = read.Two (suc i)} (table-reads t k l (faulty-fields t (bodyPart s) i field.Two f) (faulty-fault t (bodyPart s) i field.Two refl f))
 
   -- so no line is in two cases with different numbers or places
   pub one-case : (n p m q : ℕ) → Case s n p → Case s m q → (n ≡ m) × (p ≡ q)

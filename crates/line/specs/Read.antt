@@ -9,6 +9,7 @@ use Rattle.text.specs.Place.{value, allIn}
 use Rattle.text.specs.Text.{packed}
 use Rattle.shapes.specs.Picture.{part}
 use Rattle.forms.specs.Form.{isSequence, isStamp, isFacility}
+use Rattle.frame.specs.Frame.{bodyPart, facilityPart, headLength, longestLine, sequencePart, stampPart, typePart}
 use Rattle.heads.specs.Message.{typeOf}
 use Rattle.heads.specs.declared.TypeRead.{TypeRead}
 use Rattle.heads.specs.declared.TypeRead.the-variants as type
@@ -27,12 +28,12 @@ use Rattle.line.specs.declared.LineRead.the-variants.{Read, Short, Long,
 
 abbrev pub typed : List ℕ → TypeRead → HeadRead
 typed s (type.Read t) =
-    head.Read (record { sequence = record { 0 = packed (part 0 4 s) }; stamp = record { 0 = packed (part 4 8 s) }; facility = record { 0 = value 256 4 (part 12 4 s) }; kind = t })
+    head.Read (record { sequence = record { 0 = packed (sequencePart s) }; stamp = record { 0 = packed (stampPart s) }; facility = record { 0 = value 256 4 (facilityPart s) }; kind = t })
 typed s type.Nothing = head.NoType
 
 unfoldable pub headOf : List ℕ → HeadRead
 headOf s =
-    cond (isSequence (part 0 4 s)) (cond (isStamp (part 4 8 s)) (cond (isFacility (part 12 4 s)) (typed s (typeOf (part 16 2 s))) head.NoFacility) head.NoStamp) head.NoSequence
+    cond (isSequence (sequencePart s)) (cond (isStamp (stampPart s)) (cond (isFacility (facilityPart s)) (typed s (typeOf (typePart s))) head.NoFacility) head.NoStamp) head.NoSequence
 
 -- ---- the body after it
 
@@ -44,7 +45,7 @@ withBody h (body.Number i) = Number i
 withBody h (body.Two i) = Two i
 
 unfoldable pub restOf : Head → List ℕ → LineRead
-restOf h s = cond (isLongPlan (h .kind) (length s)) LongPlan (withBody h (bodyRead (h .kind) (drop 18 s)))
+restOf h s = cond (isLongPlan (h .kind) (length s)) LongPlan (withBody h (bodyRead (h .kind) (bodyPart s)))
 
 abbrev pub byHead : List ℕ → HeadRead → LineRead
 byHead s (head.Read h) = restOf h s
@@ -56,7 +57,7 @@ byHead s head.NoType = NoType
 -- ---- the line
 
 unfoldable pub readOf : List ℕ → LineRead
-readOf s = cond (ltb (length s) 18) Short (cond (ltb 2048 (length s)) Long (cond (allIn 32 126 s) (byHead s (headOf s)) Unprintable))
+readOf s = cond (ltb (length s) headLength) Short (cond (ltb longestLine (length s)) Long (cond (allIn 32 126 s) (byHead s (headOf s)) Unprintable))
 
 -- document 01's answer number, and the place that it gives; 0 where it gives none
 abbrev pub numberOf : LineRead → ℕ
@@ -96,4 +97,4 @@ freeBy type.Nothing b = []
 freeBy (type.Read t) b = freeIn t b
 
 unfoldable pub freeOf : List ℕ → List ℕ
-freeOf s = cond (ltb (length s) 18) [] (freeBy (typeOf (part 16 2 s)) (drop 18 s))
+freeOf s = cond (ltb (length s) headLength) [] (freeBy (typeOf (typePart s)) (bodyPart s))
