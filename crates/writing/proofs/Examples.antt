@@ -38,7 +38,8 @@ module _ (κs : _) (a : _) (r : _) (s : _) (p : has-room.Post κs a r s) where
   pub put-no-room-to-end : a .0 ≡ 2 → a .1 .0 ≡ 4 → a .1 .1 .0 ≡ 2 → r ≡ true
   put-no-room-to-end n len at = p ∙ rw (n, len, at)
 
-module _ (κs : _) (a : _) (r : _) (s : _) (p : put.Post κs a r s) (t : a .0 ≡ 11 * 38 ^ 11 + 36 * 38 ^ 10) (o : now (a .1 .0) ≡ bytes "......") (at : a .1 .1 .0 ≡ 3) where
+module _ (κs : _) (a : _) (r : _) (s : _) (p : put.Post κs a r s) (t : a .0 ≡ 11 * 38 ^ 11 + 36 * 38 ^ 10)
+    (o : now (a .1 .0) ≡ bytes "......") (at : a .1 .1 .0 ≡ 3) where
   -- AZ stands from the given place on, and every other byte stays
   pub put-elsewhere : now (s .1 .0) ≡ bytes "...AZ."
   unfolding writtenBytes hasRoom spliced isPacked tight textOf digits byteOf
@@ -49,7 +50,8 @@ module _ (κs : _) (a : _) (r : _) (s : _) (p : put.Post κs a r s) (t : a .0 �
   unfolding writtenNext hasRoom isPacked tight textOf digits
   put-next-is-start = p .0 ∙ rw (t, o, at)
 
-module _ (κs : _) (a : _) (r : _) (s : _) (p : put-bytes.Post κs a r s) (b : now (a .0) ≡ bytes "a b") (o : now (a .1 .0) ≡ bytes ".....") (at : a .1 .1 .0 ≡ 1) where
+module _ (κs : _) (a : _) (r : _) (s : _) (p : put-bytes.Post κs a r s) (b : now (a .0) ≡ bytes "a b")
+    (o : now (a .1 .0) ≡ bytes ".....") (at : a .1 .1 .0 ≡ 1) where
   -- each byte stands at its place
   pub put-bytes-first-again : now (s .1 .0) ≡ bytes ".a b."
   unfolding writtenBytes hasRoom spliced
