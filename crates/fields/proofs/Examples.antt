@@ -43,23 +43,26 @@ read :
     (wordOf STAMP (bytes "00081500") ≡ word.Nothing) × (wordOf STAMP (bytes "31235959") ≡ word.Text (packed (bytes "31235959"))) ×
     (wordOf KEY (bytes "12Z") ≡ word.Nothing) × (wordOf KEY (bytes "N5") ≡ word.Text (packed (bytes "N5"))) ×
     (wordOf TIME (bytes "A0810") ≡ word.Nothing) × (wordOf TIME (bytes "P2359") ≡ word.Text (packed (bytes "P2359")))
-unfolding wordOf packed isForm isStamp isKey isTime isClock fits isOf run within isNumeral numberOf isDigitTo digitOf codeOf value all isDigit isLetter isAlnum
+unfolding wordOf packed isForm isStamp isKey isTime isClock fits isOf run within isNumeral numberOf isDigitTo digitOf codeOf value all
+    isDigit isLetter isAlnum
 read = (refl, refl, refl, refl, refl, refl, refl, refl)
 
 -- G is no character of a sequence number
 pub sequence-with-a-g : (κs : _) (a : _) (r : _) (s : _) → sequence-read.Post κs a r s → now (a .0) ≡ bytes "00G1" → r ≡ sequence.Nothing
 sequence-with-a-g κs a r s p e = p ∙ rw (e, read .0)
 
--- letters to F are
-pub sequence-f-refused : (κs : _) (a : _) (r : _) (s : _) → sequence-read.Post κs a r s → now (a .0) ≡ bytes "00FF" → r ≡ sequence.Read (record { 0 = packed (bytes "00FF") })
+-- letters to F are characters of one, and both zeros are kept
+pub sequence-f-refused : (κs : _) (a : _) (r : _) (s : _) → sequence-read.Post κs a r s
+    → now (a .0) ≡ bytes "00FF" → r ≡ sequence.Read (record { 0 = packed (bytes "00FF") })
 sequence-f-refused κs a r s p e = p ∙ rw (e, read .1)
 
 -- no month has a day 00
 pub stamp-day-00 : (κs : _) (a : _) (r : _) (s : _) → stamp-read.Post κs a r s → now (a .0) ≡ bytes "00081500" → r ≡ stamp.Nothing
 stamp-day-00 κs a r s p e = p ∙ rw (e, read .2)
 
--- a 31st has its last second
-pub stamp-day-31-refused : (κs : _) (a : _) (r : _) (s : _) → stamp-read.Post κs a r s → now (a .0) ≡ bytes "31235959" → r ≡ stamp.Read (record { 0 = packed (bytes "31235959") })
+-- the last second of a 31st is a stamp
+pub stamp-day-31-refused : (κs : _) (a : _) (r : _) (s : _) → stamp-read.Post κs a r s
+    → now (a .0) ≡ bytes "31235959" → r ≡ stamp.Read (record { 0 = packed (bytes "31235959") })
 stamp-day-31-refused κs a r s p e = p ∙ rw (e, read .3)
 
 -- a computer number is no key
@@ -67,15 +70,17 @@ pub key-by-the-number-rule : (κs : _) (a : _) (r : _) (s : _) → key-read.Post
 key-by-the-number-rule κs a r s p e = p ∙ rw (e, read .4)
 
 -- a letter and one more are a key
-pub key-of-two-refused : (κs : _) (a : _) (r : _) (s : _) → key-read.Post κs a r s → now (a .0) ≡ bytes "N5" → r ≡ key.Read (record { 0 = packed (bytes "N5") })
+pub key-of-two-refused : (κs : _) (a : _) (r : _) (s : _) → key-read.Post κs a r s
+    → now (a .0) ≡ bytes "N5" → r ≡ key.Read (record { 0 = packed (bytes "N5") })
 key-of-two-refused κs a r s p e = p ∙ rw (e, read .5)
 
 -- an arrival clock is no time
 pub time-as-arrival : (κs : _) (a : _) (r : _) (s : _) → time-read.Post κs a r s → now (a .0) ≡ bytes "A0810" → r ≡ time.Nothing
 time-as-arrival κs a r s p e = p ∙ rw (e, read .6)
 
--- P and the last minute of a day are one
-pub time-2359-refused : (κs : _) (a : _) (r : _) (s : _) → time-read.Post κs a r s → now (a .0) ≡ bytes "P2359" → r ≡ time.Read (record { 0 = packed (bytes "P2359") })
+-- P and the last minute of a day are a time
+pub time-2359-refused : (κs : _) (a : _) (r : _) (s : _) → time-read.Post κs a r s
+    → now (a .0) ≡ bytes "P2359" → r ≡ time.Read (record { 0 = packed (bytes "P2359") })
 time-2359-refused κs a r s p e = p ∙ rw (e, read .7)
 
 -- ---- tests: the word of a text passes exactly where the text has the form
@@ -89,22 +94,23 @@ tested :
     (isWord GROUND-SPEED (packed (bytes "0450")) ≡ false) × (isWord GROUND-SPEED (packed (bytes "M082")) ≡ false) ×
     (isWord TRACK-LEVEL (packed (bytes "05")) ≡ false) × (isWord TRACK-LEVEL (packed (bytes "250C")) ≡ true) ×
     (isWord POSITION (packed (bytes "9001N/00000E")) ≡ false) × (isWord POSITION (packed (bytes "9000N/18000W")) ≡ true)
-unfolding isWord isPacked tight packed textOf digits byteOf isForm isStamp isKey isTime isClock isArrival isPosition pieces fits fitsAny oneOf isOf run within isNumeral numberOf isDigitTo digitOf codeOf value all isDigit isLetter isAlnum
+unfolding isWord isPacked tight packed textOf digits byteOf isForm isStamp isKey isTime isClock isArrival isPosition pieces fits fitsAny
+    oneOf isOf run within isNumeral numberOf isDigitTo digitOf codeOf value all isDigit isLetter isAlnum
 tested = (refl, refl, refl, refl, refl, refl, refl, refl, refl, refl, refl, refl, refl, refl, refl, refl)
 
 -- a stamp's word is no sequence number's
 pub stamp-as-sequence : (κs : _) (a : _) (r : _) (s : _) → sequence-holds.Post κs a r s → a .0 .0 ≡ packed (bytes "06081500") → r ≡ false
 stamp-as-sequence κs a r s p e = p ∙ rw (e, tested .0)
 
--- four letters to F are one
+-- four letters to F are a sequence number
 pub sequence-of-letters-refused : (κs : _) (a : _) (r : _) (s : _) → sequence-holds.Post κs a r s → a .0 .0 ≡ packed (bytes "ABCF") → r ≡ true
 sequence-of-letters-refused κs a r s p e = p ∙ rw (e, tested .1)
 
--- a second 60 is none
+-- a minute has no second 60
 pub stamp-second-60 : (κs : _) (a : _) (r : _) (s : _) → stamp-holds.Post κs a r s → a .0 .0 ≡ packed (bytes "06081560") → r ≡ false
 stamp-second-60 κs a r s p e = p ∙ rw (e, tested .2)
 
--- midnight is one
+-- midnight is a stamp
 pub stamp-midnight-refused : (κs : _) (a : _) (r : _) (s : _) → stamp-holds.Post κs a r s → a .0 .0 ≡ packed (bytes "01000000") → r ≡ true
 stamp-midnight-refused κs a r s p e = p ∙ rw (e, tested .3)
 
@@ -120,7 +126,7 @@ key-of-eight κs a r s p e = p ∙ rw (e, tested .5)
 pub fix-as-point : (κs : _) (a : _) (r : _) (s : _) → point-holds.Post κs a r s → a .0 .0 ≡ packed (bytes "AB/C") → r ≡ false
 fix-as-point κs a r s p e = p ∙ rw (e, tested .6)
 
--- twelve characters are one
+-- twelve characters are a point
 pub point-of-twelve-refused : (κs : _) (a : _) (r : _) (s : _) → point-holds.Post κs a r s → a .0 .0 ≡ packed (bytes "ABCDEFGHIJKL") → r ≡ true
 point-of-twelve-refused κs a r s p e = p ∙ rw (e, tested .7)
 
@@ -132,11 +138,11 @@ arrival-2400 κs a r s p e = p ∙ rw (e, tested .8)
 pub time-with-d-as-arrival : (κs : _) (a : _) (r : _) (s : _) → arrival-holds.Post κs a r s → a .0 .0 ≡ packed (bytes "D0810") → r ≡ false
 time-with-d-as-arrival κs a r s p e = p ∙ rw (e, tested .9)
 
--- a filed speed is never handed on as a ground speed: four digits
+-- a filed speed is never handed on as a ground speed: not four digits
 pub filed-speed-as-ground-speed : (κs : _) (a : _) (r : _) (s : _) → ground-speed-holds.Post κs a r s → a .0 .0 ≡ packed (bytes "0450") → r ≡ false
 filed-speed-as-ground-speed κs a r s p e = p ∙ rw (e, tested .10)
 
--- nor a Mach number
+-- nor is a Mach number
 pub mach-as-ground-speed : (κs : _) (a : _) (r : _) (s : _) → ground-speed-holds.Post κs a r s → a .0 .0 ≡ packed (bytes "M082") → r ≡ false
 mach-as-ground-speed κs a r s p e = p ∙ rw (e, tested .11)
 
@@ -148,34 +154,41 @@ level-as-track-level κs a r s p e = p ∙ rw (e, tested .12)
 pub track-level-letter-refused : (κs : _) (a : _) (r : _) (s : _) → track-level-holds.Post κs a r s → a .0 .0 ≡ packed (bytes "250C") → r ≡ true
 track-level-letter-refused κs a r s p e = p ∙ rw (e, tested .13)
 
--- at most 9000
+-- a latitude is at most 9000
 pub position-9001 : (κs : _) (a : _) (r : _) (s : _) → position-holds.Post κs a r s → a .0 .0 ≡ packed (bytes "9001N/00000E") → r ≡ false
 position-9001 κs a r s p e = p ∙ rw (e, tested .14)
 
--- and 18000, which is a position
+-- 9000N/18000W is a position
 pub position-18000-refused : (κs : _) (a : _) (r : _) (s : _) → position-holds.Post κs a r s → a .0 .0 ≡ packed (bytes "9000N/18000W") → r ≡ true
 position-18000-refused κs a r s p e = p ∙ rw (e, tested .15)
 
 -- ---- writers
 
+shown :
+    (isWord SEQUENCE (packed (bytes "N5")) ≡ false) × (isWord SEQUENCE (packed (bytes "0A1F")) ≡ true) × (textOf (packed (bytes "0A1F")) ≡ bytes "0A1F") ×
+    (isWord STAMP (packed (bytes "06240000")) ≡ false) × (isWord STAMP (packed (bytes "06081700")) ≡ true) × (textOf (packed (bytes "06081700")) ≡ bytes "06081700")
+unfolding isWord isPacked tight packed textOf digits byteOf isForm isStamp fits isOf within isNumeral numberOf isDigitTo digitOf codeOf
+    value all isDigit isLetter
+shown = (refl, refl, refl, refl, refl, refl)
+
 -- what is no sequence number is not written
 pub sequence-any-word : (κs : _) (a : _) (r : _) (s : _) → sequence-put.Post κs a r s → a .0 .0 ≡ packed (bytes "N5") → r ≡ NoText
-unfolding writtenNext isWord isPacked tight packed textOf digits byteOf isForm isStamp fits isOf within isNumeral numberOf isDigitTo digitOf codeOf value all isDigit isLetter
-sequence-any-word κs a r s p e = p .0 ∙ rw e
+unfolding writtenNext
+sequence-any-word κs a r s p e = p .0 ∙ rw (e, shown .0)
 
 -- its four characters from the given place on, and every other byte stays
 pub sequence-from-0 : (κs : _) (a : _) (r : _) (s : _) → sequence-put.Post κs a r s → a .0 .0 ≡ packed (bytes "0A1F")
     → now (a .1 .0) ≡ bytes "......" → a .1 .1 .0 ≡ 1 → now (s .1 .0) ≡ bytes ".0A1F."
-unfolding writtenBytes hasRoom spliced isWord isPacked tight packed textOf digits byteOf isForm isStamp fits isOf within isNumeral numberOf isDigitTo digitOf codeOf value all isDigit isLetter
-sequence-from-0 κs a r s p e o i = p .1 ∙ rw (e, o, i)
+unfolding writtenBytes hasRoom spliced
+sequence-from-0 κs a r s p e o i = p .1 ∙ rw (e, o, i, shown .1, shown .2)
 
 -- what is no stamp is not written
 pub stamp-any-word : (κs : _) (a : _) (r : _) (s : _) → stamp-put.Post κs a r s → a .0 .0 ≡ packed (bytes "06240000") → r ≡ NoText
-unfolding writtenNext isWord isPacked tight packed textOf digits byteOf isForm isStamp fits isOf within isNumeral numberOf isDigitTo digitOf codeOf value all isDigit isLetter
-stamp-any-word κs a r s p e = p .0 ∙ rw e
+unfolding writtenNext
+stamp-any-word κs a r s p e = p .0 ∙ rw (e, shown .3)
 
 -- zeros in front are written, and every other byte stays
 pub stamp-without-zeros : (κs : _) (a : _) (r : _) (s : _) → stamp-put.Post κs a r s → a .0 .0 ≡ packed (bytes "06081700")
     → now (a .1 .0) ≡ bytes ".........." → a .1 .1 .0 ≡ 2 → now (s .1 .0) ≡ bytes "..06081700"
-unfolding writtenBytes hasRoom spliced isWord isPacked tight packed textOf digits byteOf isForm isStamp fits isOf within isNumeral numberOf isDigitTo digitOf codeOf value all isDigit isLetter
-stamp-without-zeros κs a r s p e o i = p .1 ∙ rw (e, o, i)
+unfolding writtenBytes hasRoom spliced
+stamp-without-zeros κs a r s p e o i = p .1 ∙ rw (e, o, i, shown .4, shown .5)

@@ -75,11 +75,13 @@ unfolding typeOf fits isOf
 az-is-dz κs a r s p e = p ∙ ap typeOf e
 
 -- a TZ is written TZ
-pub tz-is-written-ty : (κs : _) (a : _) (r : _) (s : _) → type-put.Post κs a r s → a .0 ≡ Tz → now (a .1 .0) ≡ bytes ".." → a .1 .1 .0 ≡ 0 → now (s .1 .0) ≡ bytes "TZ"
+pub tz-is-written-ty : (κs : _) (a : _) (r : _) (s : _) → type-put.Post κs a r s
+    → a .0 ≡ Tz → now (a .1 .0) ≡ bytes ".." → a .1 .1 .0 ≡ 0 → now (s .1 .0) ≡ bytes "TZ"
 unfolding writtenBytes hasRoom spliced
 tz-is-written-ty κs a r s p e o i = p .1 ∙ rw (e, o, i)
 
 -- its first letter once, from the given place on, and every other byte stays
-pub first-letter-twice : (κs : _) (a : _) (r : _) (s : _) → type-put.Post κs a r s → a .0 ≡ Az → now (a .1 .0) ≡ bytes "....." → a .1 .1 .0 ≡ 2 → now (s .1 .0) ≡ bytes "..AZ."
+pub first-letter-twice : (κs : _) (a : _) (r : _) (s : _) → type-put.Post κs a r s
+    → a .0 ≡ Az → now (a .1 .0) ≡ bytes "....." → a .1 .1 .0 ≡ 2 → now (s .1 .0) ≡ bytes "..AZ."
 unfolding writtenBytes hasRoom spliced
 first-letter-twice κs a r s p e o i = p .1 ∙ rw (e, o, i)
