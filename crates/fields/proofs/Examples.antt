@@ -165,8 +165,9 @@ position-18000-refused κs a r s p e = p ∙ rw (e, tested .15)
 -- ---- writers
 
 shown :
-    (isWord SEQUENCE (packed (bytes "N5")) ≡ false) × (isWord SEQUENCE (packed (bytes "0A1F")) ≡ true) × (textOf (packed (bytes "0A1F")) ≡ bytes "0A1F") ×
-    (isWord STAMP (packed (bytes "06240000")) ≡ false) × (isWord STAMP (packed (bytes "06081700")) ≡ true) × (textOf (packed (bytes "06081700")) ≡ bytes "06081700")
+    (isWord SEQUENCE (packed (bytes "N5")) ≡ false) × (isWord SEQUENCE (packed (bytes "0A1F")) ≡ true) ×
+    (textOf (packed (bytes "0A1F")) ≡ bytes "0A1F") × (isWord STAMP (packed (bytes "06240000")) ≡ false) ×
+    (isWord STAMP (packed (bytes "06081700")) ≡ true) × (textOf (packed (bytes "06081700")) ≡ bytes "06081700")
 unfolding isWord isPacked tight packed textOf digits byteOf isForm isStamp fits isOf within isNumeral numberOf isDigitTo digitOf codeOf
     value all isDigit isLetter
 shown = (refl, refl, refl, refl, refl, refl)
