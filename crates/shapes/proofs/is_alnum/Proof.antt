@@ -14,10 +14,4 @@ unfolding isAlnum isDigit isLetter
 returns-2 c = c .between2 .ensures ∙ rw (sym (c .before .before .between .ensures) ∙ c .before .if1 .left)
 
 pub is-alnum-spec : {M : Type 1} → statement M
-is-alnum-spec =
-    tie.close
-    (tie.spec
-    (λ c κs. search needs)
-    (λ c κs. search needs)
-    returns
-    returns-2)
+is-alnum-spec = tie.close (tie.spec (λ c κs. search needs) (λ c κs. search needs) returns returns-2)
