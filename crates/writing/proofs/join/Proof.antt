@@ -35,9 +35,6 @@ slice-aggregate-pack c =
 returns-2 : tie.Need-returns-2
 returns-2 c = join-first _ _ (no-text-known _ _ _ (sym (c .before .before .before .put .ensures .0) ∙ c .enum-told .given .1))
 
-returns-3 : tie.Need-returns-3
-returns-3 c = absurd (twelve-room _ _ refl (sym (c .before .before .before .put .ensures .0) ∙ c .enum-told2 .given .1))
-
 returns-4 : tie.Need-returns-4
 returns-4 c =
     let c₃ = c .before .before .before in
@@ -66,25 +63,7 @@ returns-6 c =
 pub join-spec : {M : Type 1} → statement M
 join-spec =
     tie.close
-    (tie.spec
-    (λ c. search needs)
-    (λ c κs. search needs)
-    (λ c. search needs)
-    (λ c. search needs)
-    (λ c. search needs)
-    returns
-    (λ c. search needs)
-    (λ c. search needs)
-    (λ c. search needs)
-    (λ c κs. search needs)
-    (λ c. search needs)
-    (λ c. search needs)
-    (λ c. search needs)
-    array-share-prefix-room
-    slice-aggregate-pack
-    (λ c κs. search needs)
-    returns-2
-    returns-3
-    returns-4
-    returns-5
-    returns-6)
+    (tie.spec (λ c. search needs) (λ c κs. search needs) (λ c. search needs) (λ c. search needs) (λ c. search needs) returns (λ c. search needs)
+    (λ c. search needs) (λ c. search needs) (λ c κs. search needs) (λ c. search needs) (λ c. search needs) (λ c. search needs)
+    array-share-prefix-room slice-aggregate-pack (λ c κs. search needs) returns-2
+    (λ c. absurd (twelve-room _ _ refl (sym (c .before .before .before .put .ensures .0) ∙ c .enum-told2 .given .1))) returns-4 returns-5 returns-6)
