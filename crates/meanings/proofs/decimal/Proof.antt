@@ -14,11 +14,4 @@ unfolding decimalOf
 returns-2 c = ap orNone (sym (c .enum-told .given .1) ∙ c .before .before .number .ensures)
 
 pub decimal-spec : {M : Type 1} → statement M
-decimal-spec =
-    tie.close
-    (tie.spec
-    (λ c κs. search needs)
-    (λ c. search needs)
-    (λ c. search needs)
-    returns
-    returns-2)
+decimal-spec = tie.close (tie.spec (λ c κs. search needs) (λ c. search needs) (λ c. search needs) returns returns-2)

@@ -11,9 +11,4 @@ unfolding inMinutes
 returns c = (refl, omega arith)
 
 pub in-minutes-spec : {M : Type 1} → statement M
-in-minutes-spec =
-    tie.close
-    (tie.spec
-    (λ c. search needs)
-    (λ c. search needs)
-    returns)
+in-minutes-spec = tie.close (tie.spec (λ c. search needs) (λ c. search needs) returns)

@@ -23,9 +23,6 @@ returns-2 c =
     let c₄ = c₃ .before in
     ap One (c .decimal .ensures) ∙ one-level _ _ (c₂ .find .ensures) (so (c₄ .is-form .ensures) (c₃ .if1 .left)) (c .before .if2 .taken)
 
-slice-aggregate-decimal : tie.Need-slice-aggregate-decimal
-slice-aggregate-decimal c = sym (length-take-le _ _ (le-of-lt (c .before .if2 .left)))
-
 returns-3 : tie.Need-returns-3
 unfolding isForm
 returns-3 c =
@@ -39,17 +36,6 @@ returns-3 c =
 pub levels-of-spec : {M : Type 1} → statement M
 levels-of-spec =
     tie.close
-    (tie.spec
-    (λ c κs. search needs)
-    returns
-    (λ c κs. search needs)
-    (λ c κs. search needs)
-    returns-2
-    (λ c. search needs)
-    slice-aggregate-decimal
-    (λ c κs. search needs)
-    (λ c. search needs)
-    (λ c. search needs)
-    (λ c. search needs)
-    (λ c κs. search needs)
-    returns-3)
+    (tie.spec (λ c κs. search needs) returns (λ c κs. search needs) (λ c κs. search needs) returns-2 (λ c. search needs)
+    (λ c. sym (length-take-le _ _ (le-of-lt (c .before .if2 .left)))) (λ c κs. search needs) (λ c. search needs) (λ c. search needs)
+    (λ c. search needs) (λ c κs. search needs) returns-3)

@@ -14,9 +14,6 @@ returns : tie.Need-returns
 unfolding minutesOf
 returns c = rw (not-so (c .before .is-position .ensures) (c .if1 .taken))
 
-part-decimal-end : tie.Need-part-decimal-end
-part-decimal-end c = omega (arith, placed _ (so (c .before .is-position .ensures) (c .if1 .left)) .size)
-
 in-minutes-requires : tie.Need-in-minutes-requires
 in-minutes-requires c κs = omega (arith, c .decimal .ensures, placed _ (so (c .before .before .before .is-position .ensures) (c .before .before .if1 .left)) .latitude)
 
@@ -59,21 +56,7 @@ returns-2 c =
 pub minutes-of-spec : {M : Type 1} → statement M
 minutes-of-spec =
     tie.close
-    (tie.spec
-    (λ c κs. search needs)
-    returns
-    (λ c. search needs)
-    (λ c. search needs)
-    part-decimal-end
-    (λ c κs. search needs)
-    in-minutes-requires
-    (λ c. search needs)
-    (λ c. search needs)
-    part-decimal-end-2
-    (λ c κs. search needs)
-    in-minutes-requires-2
-    shared-slice-read-north
-    shared-slice-read-east
-    (λ c κs. search needs)
-    (λ c κs. search needs)
-    returns-2)
+    (tie.spec (λ c κs. search needs) returns (λ c. search needs) (λ c. search needs)
+    (λ c. omega (arith, placed _ (so (c .before .is-position .ensures) (c .if1 .left)) .size)) (λ c κs. search needs) in-minutes-requires
+    (λ c. search needs) (λ c. search needs) part-decimal-end-2 (λ c κs. search needs) in-minutes-requires-2 shared-slice-read-north
+    shared-slice-read-east (λ c κs. search needs) (λ c κs. search needs) returns-2)

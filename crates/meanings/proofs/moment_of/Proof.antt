@@ -11,9 +11,6 @@ returns : tie.Need-returns
 unfolding momentOf
 returns c = rw (not-so (c .before .is-stamp .ensures) (c .if1 .taken))
 
-part-decimal-end : tie.Need-part-decimal-end
-part-decimal-end c = omega (arith, stamped _ (so (c .before .is-stamp .ensures) (c .if1 .left)) .size)
-
 part-decimal-end-2 : tie.Need-part-decimal-end-2
 part-decimal-end-2 c = omega (arith, stamped _ (so (c .before .before .before .is-stamp .ensures) (c .before .before .if1 .left)) .size)
 
@@ -72,27 +69,7 @@ returns-2 c =
 pub moment-of-spec : {M : Type 1} → statement M
 moment-of-spec =
     tie.close
-    (tie.spec
-    (λ c κs. search needs)
-    returns
-    (λ c. search needs)
-    (λ c. search needs)
-    part-decimal-end
-    (λ c κs. search needs)
-    (λ c. search needs)
-    (λ c. search needs)
-    part-decimal-end-2
-    (λ c κs. search needs)
-    (λ c. search needs)
-    (λ c. search needs)
-    part-decimal-end-3
-    (λ c κs. search needs)
-    (λ c. search needs)
-    (λ c. search needs)
-    part-decimal-end-4
-    (λ c κs. search needs)
-    mul-seconds
-    mul-seconds-2
-    add-seconds
-    add-seconds-2
-    returns-2)
+    (tie.spec (λ c κs. search needs) returns (λ c. search needs) (λ c. search needs)
+    (λ c. omega (arith, stamped _ (so (c .before .is-stamp .ensures) (c .if1 .left)) .size)) (λ c κs. search needs) (λ c. search needs)
+    (λ c. search needs) part-decimal-end-2 (λ c κs. search needs) (λ c. search needs) (λ c. search needs) part-decimal-end-3 (λ c κs. search needs)
+    (λ c. search needs) (λ c. search needs) part-decimal-end-4 (λ c κs. search needs) mul-seconds mul-seconds-2 add-seconds add-seconds-2 returns-2)
