@@ -83,14 +83,6 @@ Inv-loop s base n₀ i₀ n i = Inv s base n i
 abbrev μ-loop : tie.MeasureT-loop
 μ-loop s base n₀ i₀ n i = length s - i
 
-returns : tie.Need-returns Inv-loop μ-loop
-unfolding readNumber isNumeral
-returns c = simp (lt-leb _ _ (c .if1 .taken))
-
-returns-2 : tie.Need-returns-2 Inv-loop μ-loop
-unfolding readNumber isNumeral
-returns-2 c = simp (le-leb _ _ (c .before .if1 .left), lt-leb _ _ (c .if2 .taken))
-
 returns-3 : tie.Need-returns-3 Inv-loop μ-loop
 returns-3 c =
     let k = c .before .code in
@@ -119,8 +111,10 @@ loop-again c =
     again (l .loop .inv) (k .result) (c .before .before .before .before .loop-test .taken) (k .ensures) (omega arith) (c .if4 .left)
 
 pub number-spec : {M : Type 1} → statement M
+unfolding readNumber isNumeral
 number-spec =
     tie.close
-    (tie.spec Inv-loop μ-loop returns returns-2 (λ c. begin _ _ (c .if2 .left) (c .before .if1 .left)) (λ c. omega arith) (λ c κs. tt) returns-3
-    returns-4 (λ c. omega (arith, fitting c)) (λ c. omega arith) (λ c. omega (arith, fitting c)) (λ c. omega arith) (λ c. omega arith) loop-again
+    (tie.spec Inv-loop μ-loop (λ c. simp (lt-leb _ _ (c .if1 .taken))) (λ c. simp (le-leb _ _ (c .before .if1 .left), lt-leb _ _ (c .if2 .taken)))
+    (λ c. begin _ _ (c .if2 .left) (c .before .if1 .left)) (λ c. omega arith) (λ c κs. tt) returns-3 returns-4 (λ c. omega (arith, fitting c))
+    (λ c. omega arith) (λ c. omega (arith, fitting c)) (λ c. omega arith) (λ c. omega arith) loop-again
     (λ c. done (c .before .loop .inv) (c .loop-test .left)))

@@ -33,10 +33,6 @@ Inv-loop s n₀ w₀ i₀ n w i = Packs s n w i
 abbrev μ-loop : tie.MeasureT-loop
 μ-loop s n₀ w₀ i₀ n w i = length s - i
 
-returns : tie.Need-returns Inv-loop μ-loop
-unfolding packOf isText
-returns c = simp (lt-leb _ _ (c .if1 .taken))
-
 returns-2 : tie.Need-returns-2 Inv-loop μ-loop
 returns-2 c =
     let k = c .before .code in
@@ -58,7 +54,9 @@ loop-again c =
     again (l .loop .inv) (k .result) (c .before .before .before .loop-test .taken) (k .ensures) (omega (arith, c .if2 .left))
 
 pub pack-spec : {M : Type 1} → statement M
+unfolding packOf isText
 pack-spec =
     tie.close
-    (tie.spec Inv-loop μ-loop returns (λ c. begin _ (c .if1 .left)) (λ c. omega arith) (λ c κs. tt) returns-2 (λ c. omega (arith, roomy c))
-    (λ c. omega (arith, roomy c)) (λ c. omega arith) (λ c. omega arith) loop-again (λ c. done (c .before .loop .inv) (c .loop-test .left)))
+    (tie.spec Inv-loop μ-loop (λ c. simp (lt-leb _ _ (c .if1 .taken))) (λ c. begin _ (c .if1 .left)) (λ c. omega arith) (λ c κs. tt) returns-2
+    (λ c. omega (arith, roomy c)) (λ c. omega (arith, roomy c)) (λ c. omega arith) (λ c. omega arith) loop-again
+    (λ c. done (c .before .loop .inv) (c .loop-test .left)))

@@ -13,9 +13,6 @@ Inv-loop s n₀ w₀ i₀ n w i = Packs s n w i
 abbrev μ-loop : tie.MeasureT-loop
 μ-loop s n₀ w₀ i₀ n w i = length s - i
 
-text-code-requires : tie.Need-text-code-requires Inv-loop μ-loop
-text-code-requires c κs = text-byte-at (c .before .before .loop .inv) (c .before .loop-test .taken) (c .before .before .before .before .pre)
-
 roomy : (c : tie.After-text-code Inv-loop μ-loop) → c .before .before .before .loop .n + c .text-code .result * (c .before .before .before .loop .w / 38) + c .before .before .before .loop .w / 38 ≤ 38 ^ 12
 roomy c = fits (c .before .before .before .loop .inv) (c .text-code .result) (c .before .before .loop-test .taken) (c .text-code .ensures)
 
@@ -29,5 +26,7 @@ loop-again c =
 pub pack-known-spec : {M : Type 1} → statement M
 pack-known-spec =
     tie.close
-    (tie.spec Inv-loop μ-loop (λ c. begin _ (text-length _ (c .before .pre))) (λ c. omega arith) text-code-requires (λ c. omega (arith, roomy c))
-    (λ c. omega (arith, roomy c)) (λ c. omega arith) (λ c. omega arith) loop-again (λ c. all-summed (c .before .loop .inv) (c .loop-test .left)))
+    (tie.spec Inv-loop μ-loop (λ c. begin _ (text-length _ (c .before .pre))) (λ c. omega arith)
+    (λ c κs. text-byte-at (c .before .before .loop .inv) (c .before .loop-test .taken) (c .before .before .before .before .pre))
+    (λ c. omega (arith, roomy c)) (λ c. omega (arith, roomy c)) (λ c. omega arith) (λ c. omega arith) loop-again
+    (λ c. all-summed (c .before .loop .inv) (c .loop-test .left)))
