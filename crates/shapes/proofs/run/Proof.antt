@@ -42,14 +42,6 @@ Inv-loop k least most s i₀ i = Inv k least most s i
 abbrev μ-loop : tie.MeasureT-loop
 μ-loop k least most s i₀ i = length s - i
 
-returns : tie.Need-returns Inv-loop μ-loop
-unfolding running
-returns c = rw (lt-leb _ _ (c .if1 .taken))
-
-returns-2 : tie.Need-returns-2 Inv-loop μ-loop
-unfolding running
-returns-2 c = rw (le-leb _ _ (c .before .if1 .left), lt-leb _ _ (c .if2 .taken))
-
 returns-3 : tie.Need-returns-3 Inv-loop μ-loop
 returns-3 c =
     let c₃ = c .before .before .before in
@@ -63,8 +55,9 @@ loop-again c =
     again (c₄ .loop .inv) (c₃ .loop-test .taken) (so (c .before .is-of .ensures) (c .if3 .left))
 
 pub run-spec : {M : Type 1} → statement M
+unfolding running
 run-spec =
     tie.close
-    (tie.spec Inv-loop μ-loop returns returns-2 (λ c. record { long = c .before .if1 .left; short = c .if2 .left; at = omega arith; rest = refl })
-    (λ c. omega arith) (λ c κs. tt) returns-3 (λ c. omega arith) (λ c. omega arith) loop-again
-    (λ c. done (c .before .loop .inv) (c .loop-test .left)))
+    (tie.spec Inv-loop μ-loop (λ c. rw (lt-leb _ _ (c .if1 .taken))) (λ c. rw (le-leb _ _ (c .before .if1 .left), lt-leb _ _ (c .if2 .taken)))
+    (λ c. record { long = c .before .if1 .left; short = c .if2 .left; at = omega arith; rest = refl }) (λ c. omega arith) (λ c κs. tt) returns-3
+    (λ c. omega arith) (λ c. omega arith) loop-again (λ c. done (c .before .loop .inv) (c .loop-test .left)))
