@@ -98,9 +98,6 @@ loop-holds c =
       rest = rw add-zero;
     }
 
-add-out : tie.Need-add-out Inv-loop μ-loop
-add-out c = omega (arith, inside (c .before .before .loop .inv) (c .before .loop-test .taken), c .before .before .loop .inv .same)
-
 returns : tie.Need-returns Inv-loop μ-loop
 returns c =
     let v = c .before .loop .inv in
@@ -111,7 +108,8 @@ pub write-spec : {M : Type 1} → statement M
 write-spec =
     tie.close
     (tie.spec Inv-loop μ-loop loop-holds (λ c. heavy (c .before .loop .inv) (c .loop-test .taken))
-    (λ c κs. omega (arith, digit (c .before .loop .inv) (c .loop-test .taken))) add-out
+    (λ c κs. omega (arith, digit (c .before .loop .inv) (c .loop-test .taken)))
+    (λ c. omega (arith, inside (c .before .before .loop .inv) (c .before .loop-test .taken), c .before .before .loop .inv .same))
     (λ c. inside (c .before .before .loop .inv) (c .before .loop-test .taken))
     (λ c. heavy (c .before .before .loop .inv) (c .before .loop-test .taken))
     (λ c. omega (arith, place (c .before .before .loop .inv) (c .before .loop-test .taken)))
