@@ -19,9 +19,9 @@ returns c =
 returns-2 : tie.Need-returns-2
 returns-2 c = absurd (twelve-room _ _ (c .before .before .before .put-arg .given .0 .1) (sym (c .before .before .put .ensures .0) ∙ c .enum-told .given .1))
 
-returns-3 : tie.Need-returns-3
-unfolding shownOf
-returns-3 c = (omega arith, rw (no-text-known _ _ _ (sym (c .before .before .put .ensures .0) ∙ c .enum-told2 .given .1)))
-
 pub show-spec : {M : Type 1} → statement M
-show-spec = tie.close (tie.spec (λ c κs. search needs) (λ c. search needs) (λ c. search needs) (λ c. search needs) returns returns-2 returns-3)
+unfolding shownOf
+show-spec =
+    tie.close
+    (tie.spec (λ c κs. search needs) (λ c. search needs) (λ c. search needs) (λ c. search needs) returns returns-2
+    (λ c. (omega arith, rw (no-text-known _ _ _ (sym (c .before .before .put .ensures .0) ∙ c .enum-told2 .given .1)))))
