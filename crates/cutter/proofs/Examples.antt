@@ -71,12 +71,14 @@ module _ (κs : _) (a : _) (r : _) (s : _) (p : cut.Post κs a r s) where
       p .0 ∙ rw (b, e, f, g, h)
 
 -- at a line's start the end of the feed answers 0
-pub seventeen-at-start : (κs : _) (a : _) (r : _) (s : _) → end.Post κs a r s → length (now (a .0)) ≡ 2048 → a .1 .0 ≡ Held 0 → r ≡ record { answer = at.AtStart; begun = Held 0 }
+pub seventeen-at-start : (κs : _) (a : _) (r : _) (s : _) → end.Post κs a r s → length (now (a .0)) ≡ 2048 → a .1 .0 ≡ Held 0
+    → r ≡ record { answer = at.AtStart; begun = Held 0 }
 unfolding endOf isAllowed atStart has upTo
 seventeen-at-start κs a r s p h b = p .0 ∙ rw (b, h)
 
 -- inside a line, also an overlong one, 17
-pub end-inside-is-0 : (κs : _) (a : _) (r : _) (s : _) → end.Post κs a r s → length (now (a .0)) ≡ 2048 → a .1 .0 ≡ Overlong → r ≡ record { answer = at.InsideLine; begun = Held 0 }
+pub end-inside-is-0 : (κs : _) (a : _) (r : _) (s : _) → end.Post κs a r s → length (now (a .0)) ≡ 2048 → a .1 .0 ≡ Overlong
+    → r ≡ record { answer = at.InsideLine; begun = Held 0 }
 unfolding endOf isAllowed atStart
 end-inside-is-0 κs a r s p h b = p .0 ∙ rw (b, h)
 

@@ -45,7 +45,8 @@ module _ {p s : List ℕ} {from : ℕ} (v : Inv p s from) (more : from ≤ lengt
   unfolding left
   after = go (leb (from + n + 1) (length p)) refl
     where
-      go : (t : Bool) → leb (from + n + 1) (length p) ≡ t → piecesAfter bar (drop (from + n) p) ≡ cond (leb (from + n + 1) (length p)) (pieces bar (drop (from + n + 1) p)) []
+      go : (t : Bool) → leb (from + n + 1) (length p) ≡ t
+          → piecesAfter bar (drop (from + n) p) ≡ cond (leb (from + n + 1) (length p)) (pieces bar (drop (from + n + 1) p)) []
       go true q = rw (q, next-byte p (from + n) (omega (arith, leb-true (from + n + 1) (length p) q)))
       go false q = let h : length p ≤ from + n = omega (arith, leb-false (from + n + 1) (length p) q) in rw (q, drop-of-length-le p h)
 
@@ -70,7 +71,8 @@ Inv-loop pictures s from₀ from = Inv pictures s from
 abbrev μ-loop : tie.MeasureT-loop
 μ-loop pictures s from₀ from = length pictures + 1 - from
 
-ends : (c : tie.After-find Inv-loop μ-loop) → c .before .before .before .loop .from + c .find .result ≤ length (now (c .before .before .before .before .before .before .args .pictures))
+ends : (c : tie.After-find Inv-loop μ-loop)
+    → c .before .before .before .loop .from + c .find .result ≤ length (now (c .before .before .before .before .before .before .args .pictures))
 ends c = inside (c .before .before .before .loop .inv) (c .before .before .loop-test .taken) (c .find .result) (c .find .ensures)
 
 returns : tie.Need-returns Inv-loop μ-loop
