@@ -30,6 +30,7 @@ tableOf Rt = []
 tableOf To = []
 tableOf Hb = []
 
+-- the kind k is among the kinds
 abbrev pub isAmong : ℕ → List ℕ → Bool
 isAmong k [] = false
 isAmong k (j ∷ ks) = eqb j k || isAmong k ks
