@@ -10,12 +10,12 @@ use borrow.Author.Tests.{ltb-true, ltb-false, lt-ltb}
 use Rattle.text.specs.Place.{value, allIn}
 use Rattle.text.specs.Text.{packed}
 use Rattle.text.proofs.Logic.{true-false}
-use Rattle.shapes.specs.Picture.{part}
+use Rattle.shapes.specs.Picture.{part, isOf, fits}
 use Rattle.forms.specs.Form.{isSequence, isStamp, isFacility}
 use Rattle.frame.specs.Frame.{bodyPart, facilityPart, headLength, longestLine, sequencePart, stampPart, typePart}
 use Rattle.heads.specs.Message.{typeText, typeOf}
 use Rattle.heads.specs.declared.MessageType.{MessageType}
-use Rattle.heads.specs.declared.MessageType.the-variants.{Af, Az, Dz, Fz, Rz, Tz, Uz, Rt, To, Hb}
+use Rattle.heads.specs.declared.MessageType.the-variants.{Fz}
 use Rattle.heads.specs.declared.TypeRead.{TypeRead}
 use Rattle.heads.specs.declared.TypeRead.the-variants as type
 use Rattle.heads.proofs.Messages.{type-sound, type-complete}
@@ -25,6 +25,7 @@ use Rattle.table.specs.declared.Answer.{Answer}
 use Rattle.table.specs.declared.Answer.the-variants as answer
 use Rattle.counts.specs.Table.{hasFields}
 use Rattle.counts.specs.Plan.{isLongPlan}
+use Rattle.counts.proofs.Ways.{each-type}
 use Rattle.layout.specs.Table.{answerBy, valuesBy}
 use Rattle.messages.specs.declared.Message.{Message}
 use Rattle.bodies.specs.Read.{typedOf, bodyRead}
@@ -47,16 +48,11 @@ Own s = Case s (numberOf (readOf s)) (placeOf (readOf s))
 
 -- only an FZ has a limit of its own
 plan-type : (t : MessageType) (n : ℕ) → isLongPlan t n ≡ true → (t ≡ Fz) × (439 < n - 16)
-plan-type Af n e = true-false e refl
-plan-type Az n e = true-false e refl
-plan-type Dz n e = true-false e refl
-plan-type Fz n e = (refl, ltb-true 439 (n - 16) e)
-plan-type Rz n e = true-false e refl
-plan-type Tz n e = true-false e refl
-plan-type Uz n e = true-false e refl
-plan-type Rt n e = true-false e refl
-plan-type To n e = true-false e refl
-plan-type Hb n e = true-false e refl
+unfolding fits isOf
+plan-type t n =
+    each-type (λ t. isLongPlan t n ≡ true → (t ≡ Fz) × (439 < n - 16)) (λ e. true-false e refl) (λ e. true-false e refl) (λ e. true-false e refl)
+    (λ e. (refl, ltb-true 439 (n - 16) e)) (λ e. true-false e refl) (λ e. true-false e refl) (λ e. true-false e refl) (λ e. true-false e refl)
+    (λ e. true-false e refl) (λ e. true-false e refl) t
 
 -- the head that a line with the type t reads as
 abbrev headFor : List ℕ → MessageType → Head
@@ -185,6 +181,7 @@ module _ (s : List ℕ) where
 
   -- THE LAW: the case that a line is in has its number and its place
   pub case-only : (n p : ℕ) → Case s n p → (numberOf (readOf s) ≡ n) × (placeOf (readOf s) ≡ p)
+  unfolding fits isOf
   case-only n p (Taken m r a e) = answered {r = read.Read m} (sym (allowed-reads m r a .0) ∙ ap readOf e)
   case-only n p (Short h) = answered {r = read.Short} (line-short s h)
   case-only n p (Long h) = answered {r = read.Long} (line-long s (omega arith) h)

@@ -1,17 +1,13 @@
 -- The ways of the line's functions: each way out is a case of the definition. Assumes nothing.
 use mathlib.Core.Path.{_≡_, refl, _∙_}
 use mathlib.Core.Bool.{Bool, true, false}
-use mathlib.Core.List.{List, [], _∷_}
+use mathlib.Core.List.{List, []}
 use Prim.Native.Nat.{ℕ, _-_, _≤_, _<_}
 use native.Mathlib.Omega.{arith}
-use lib.Dec.{ltb}
 use lib.ListN.{length, take, drop}
-use borrow.Author.Tests.{ltb-true, lt-ltb, le-ltb}
-use denote.Enum.Declared.{tagOf}
-use types.Run.{OneOf, miss}
+use borrow.Author.Tests.{lt-ltb, le-ltb}
 use Rattle.text.specs.Place.{value, allIn}
 use Rattle.text.specs.Text.{packed}
-use Rattle.text.proofs.Logic.{same-test}
 use Rattle.shapes.specs.Picture.{part}
 use Rattle.shapes.proofs.Laws.{rest-all}
 use Rattle.forms.specs.Form.{isSequence, isStamp, isFacility}
@@ -28,9 +24,7 @@ use Rattle.heads.specs.Message.{typeOf}
 use Rattle.heads.specs.declared.Facility.{Facility}
 use Rattle.heads.specs.declared.FacilityRead.the-variants as facility
 use Rattle.heads.specs.declared.MessageType.{MessageType}
-use Rattle.heads.specs.declared.MessageType.the-variants.{Af, Az, Dz, Fz, Rz, Tz, Uz, Rt, To, Hb}
 use Rattle.heads.specs.declared.TypeRead.the-variants as type
-use Rattle.heads.proofs.MessageType.{the-type}
 use Rattle.counts.specs.Table.{hasFields}
 use Rattle.counts.specs.Plan.{isLongPlan}
 use Rattle.layout.specs.Table.{routeBy, freeIn}
@@ -126,27 +120,6 @@ module _ (s : List ℕ) where
               stamp-is (stampPart s) y f .1,
               facility-is (facilityPart s) z g .1,
             )
-
--- ---- an FZ over 439 bytes from its type has over 455 from its start
-
-pub long-plan : (n : ℕ) → ltb 455 n ≡ ltb 439 (n - 16)
-long-plan n =
-    same-test (ltb 455 n) (ltb 439 (n - 16))
-    (λ e. let h = ltb-true 455 n e in lt-ltb 439 (n - 16) (omega arith))
-    (λ e. let h = ltb-true 439 (n - 16) e in lt-ltb 455 n (omega arith))
-
--- no other type has that limit, of which the code tells only the variant's number
-pub no-plan : (t : MessageType) (n : ℕ) → OneOf (0 ∷ 1 ∷ 2 ∷ 4 ∷ 5 ∷ 6 ∷ 7 ∷ 8 ∷ 9 ∷ []) (tagOf the-type t) → false ≡ isLongPlan t n
-no-plan Af n h = refl
-no-plan Az n h = refl
-no-plan Dz n h = refl
-no-plan Fz n h = absurd (miss (0 ∷ 1 ∷ 2 ∷ 4 ∷ 5 ∷ 6 ∷ 7 ∷ 8 ∷ 9 ∷ []) 3 tt h)
-no-plan Rz n h = refl
-no-plan Tz n h = refl
-no-plan Uz n h = refl
-no-plan Rt n h = refl
-no-plan To n h = refl
-no-plan Hb n h = refl
 
 -- ---- the body after the head
 
