@@ -78,7 +78,7 @@ after-line rs b s = rw (allowed-words rs b, rows-words rs b)
 -- ---- on a board of 256 other flights: any such board
 
 module _ (l : List ℕ) (a : isAllowed l ≡ true) (c : length (rowsOf l) ≡ 256) (o : lookup (word "QQX12") (rowsOf l) ≡ none) where
-  none-fits : fits (rowsOf l) (word "QQX12") ≡ false
+  pub none-fits : fits (rowsOf l) (word "QQX12") ≡ false
   none-fits = is-full (word "QQX12") (rowsOf l) (fair (rowsOf l) (board-rows l a) .rising) o (omega (arith, cap-is))
 
   full-answer : answerTo (rowsOf l) (askedOf tz) ≡ line.Full
