@@ -13,12 +13,12 @@ use Rattle.text.specs.Bytes.{bytes}
 use Rattle.text.specs.Class.{all, isDigit, isLetter, isAlnum}
 use Rattle.text.specs.Code.{codeOf, byteOf}
 use Rattle.text.specs.Number.{isDigitTo, digitOf, isNumeral, numberOf}
-use Rattle.text.specs.Place.{value, places, digits, tight}
+use Rattle.text.specs.Place.{value, digits, tight}
 use Rattle.text.specs.Text.{packed, textOf, isPacked}
 use Rattle.text.proofs.Logic.{not-holds, true-false}
 use Rattle.shapes.specs.Pieces.{pieces}
 use Rattle.shapes.specs.Picture.{isOf, fits, fitsAny, oneOf, run, within}
-use Rattle.forms.specs.Form.{isStamp, isKey, isClock, isPosition}
+use Rattle.forms.specs.Form.{isStamp, isKey, isPosition}
 use Rattle.forms.specs.Kind.{isForm}
 use Rattle.words.specs.Word.{isWord}
 use Rattle.rows.specs.Row.{isRow, isArrival, isTrack, hasEntry, rowWords, arrivalWords, trackWords, rowOf}
@@ -66,5 +66,5 @@ abbrev pub tracked : Row
 tracked = flight (word "QQX12") seen
 
 pub one-row : isBoard (tracked ∷ []) ≡ true
-unfolding CAP isBoard risesByBytes allRows isRow isArrival isTrack hasEntry isWord isForm isStamp isKey isClock isPosition isOf fits fitsAny oneOf pieces run within isPacked tight textOf packed value digits places codeOf byteOf all isDigit isLetter isAlnum isNumeral isDigitTo numberOf digitOf
+unfolding CAP isBoard risesByBytes allRows isRow isArrival isTrack hasEntry isWord isForm isStamp isKey isPosition isOf fits fitsAny oneOf pieces run within isPacked tight textOf packed value digits codeOf byteOf all isDigit isLetter isAlnum isNumeral isDigitTo numberOf digitOf
 one-row = refl

@@ -1,14 +1,13 @@
 -- What the promises of `feeding` require on parts of a feed written out, and wrong answers that they do not allow: of each, `Post` is the
 -- function's `ensures` as it stands in the source, r any result and s any state at exit that meet it. Assumes nothing.
 use Prim.Native.Nat.{ℕ}
-use mathlib.Core.Path.{_≡_, refl, sym, ap, _∙_}
-use mathlib.Core.Bool.{true, false}
+use mathlib.Core.Path.{_≡_, refl, ap, _∙_}
+use mathlib.Core.Bool.{true}
 use mathlib.Core.List.{List, [], _∷_, _++_}
 use mathlib.Core.Option.{none}
 use borrow.Author.Tests.{ltb-true, eq-eqb}
 use lib.ListN.{length, replicate}
 use denote.Ref.{now}
-use Rattle.text.specs.Bytes.{bytes}
 use Rattle.shapes.specs.Pieces.{pieces}
 use Rattle.shapes.specs.Cut.{has, upTo}
 use Rattle.rows.specs.Rows.{CAP, lookup, fits, written, lookRow}
@@ -29,7 +28,7 @@ use Rattle.cutter.specs.declared.Begun.the-variants.{Overlong}
 use Rattle.cutter.proofs.Feeds.{cut-same}
 use Rattle.cutter.proofs.States.{start-allowed}
 use Rattle.feeding.specs.Tally.{eventOf, rowsBy, takenBy, lineFeeds, readOf}
-use Rattle.feeding.specs.Fed.{linesFed, readIn, fedWith, fedOf, boardFed}
+use Rattle.feeding.specs.Fed.{linesFed, readIn, fedWith, fedOf}
 use Rattle.feeding.specs.declared.AfterFeed.{AfterFeed}
 use Rattle.feeding.proofs.Turns.{fed-ready, board-ready}
 use Rattle.feeding.proofs.Theorems.{reads-all}
@@ -76,7 +75,8 @@ full-is-taken κs a r s p b c o h e m f =
 pub unended-counted : (κs : _) (a : _) (r : _) (s : _) → feed.Post κs a r s → isBoard (now (a .0)) ≡ true
     → length (now (a .1 .0)) ≡ 2048 → a .1 .1 .0 ≡ start → a .1 .1 .1 .0 ≡ 9 → now (a .1 .1 .1 .1 .0) ≡ tz → (r .lines ≡ 0) × (r .taken ≡ 0)
 unfolding lineFeeds told pieces takenBy
-unended-counted κs a r s p b h e m f = let q = counts (now (a .0)) (now (a .1 .0)) start b (start-allowed (now (a .1 .0)) h) r 9 tz tz (all-read .1) (p .0 ∙ rw (e, m, f)) in (q .1, q .2)
+unended-counted κs a r s p b h e m f =
+    let q = counts (now (a .0)) (now (a .1 .0)) start b (start-allowed (now (a .1 .0)) h) r 9 tz tz (all-read .1) (p .0 ∙ rw (e, m, f)) in (q .1, q .2)
 
 -- the end of an overlong line counts as a line, and not as taken
 pub overlong-is-taken : (κs : _) (a : _) (r : _) (s : _) → feed.Post κs a r s → isBoard (now (a .0)) ≡ true
@@ -94,13 +94,15 @@ pub first-line-lost : (κs : _) (a : _) (r : _) (s : _) → feed-allowed.Post κ
 first-line-lost κs a r s p n d g h e m f =
     let z = empty-board n d in
     let held = now (a .1 .0) in
-    let q = counts (replicate n 0) held start (z .0) (start-allowed held h) r 9 ended ended (all-read .0) (p .0 ∙ rw (g, e, m, f)) in
-    (q .2 ∙ rw (z .1, told-one held) (first-line .1),
-     p .1 .0 ∙ rw (g, e, m, f) (board-ready (replicate n 0) held start (z .0) (start-allowed held h) 9 ended ∙ ap wordsOf (rw (all-read .0, z .1, told-one held) (first-line .0))))
+    let q = counts (replicate n 0) held start (z .0) (start-allowed held h) r 9 ended ended (all-read .0) (p .0 ∙ rw (g, e, m, f)) in (
+      q .2 ∙ rw (z .1, told-one held) (first-line .1),
+      p .1 .0 ∙ rw (g, e, m, f) (board-ready (replicate n 0) held start (z .0) (start-allowed held h) 9 ended ∙ ap wordsOf (rw (all-read .0, z .1, told-one held) (first-line .0))),
+    )
 
 -- of two lines where one may be read the second is not, nor any byte of it; and the first, which has no reading, counts as a line and not as taken
 pub one-line-too-many : (κs : _) (a : _) (r : _) (s : _) → feed-allowed.Post κs a r s → isBoard (now (a .0)) ≡ true
-    → length (now (a .1 .0)) ≡ 2048 → a .1 .1 .0 ≡ start → a .1 .1 .1 .0 ≡ 1 → now (a .1 .1 .1 .1 .0) ≡ 65 ∷ 10 ∷ 66 ∷ 10 ∷ [] → (r .used ≡ 2) × (r .lines ≡ 1) × (r .taken ≡ 0)
+    → length (now (a .1 .0)) ≡ 2048 → a .1 .1 .0 ≡ start → a .1 .1 .1 .0 ≡ 1 → now (a .1 .1 .1 .1 .0) ≡ 65 ∷ 10 ∷ 66 ∷ 10 ∷ []
+    → (r .used ≡ 2) × (r .lines ≡ 1) × (r .taken ≡ 0)
 unfolding readOf lineFeeds takenBy told stateIn more pieces eventOf lineEvent answer askedOf lineRead
 one-line-too-many κs a r s p b h e m f =
     counts (now (a .0)) (now (a .1 .0)) start b (start-allowed (now (a .1 .0)) h) r 1 (65 ∷ 10 ∷ 66 ∷ 10 ∷ []) (65 ∷ 10 ∷ []) refl (p .0 ∙ rw (e, m, f))

@@ -14,7 +14,7 @@ use Rattle.rows.specs.Rows.{CAP, keyOf, lookRow, Place, At, Gap, fitsAt, findIn
 use Rattle.rows.specs.declared.Row.{Row}
 use Rattle.rows.specs.declared.ArrivalSlot.the-variants as arrival
 use Rattle.rows.specs.declared.TrackSlot.the-variants as track
-use Rattle.board.specs.Board.{rowsOf, wordsOf, doneOf, goneOf}
+use Rattle.board.specs.Board.{rowsOf, wordsOf, doneOf}
 use Rattle.board.specs.declared.Done.the-variants.{Written}
 use Rattle.board.specs.declared.Struck.the-variants.{Gone, Missing}
 use Rattle.board.proofs.Theorems.{rows-words, empty-board}

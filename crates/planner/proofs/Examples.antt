@@ -11,7 +11,7 @@ use denote.Ref.{now}
 use Rattle.text.specs.Bytes.{bytes}
 use Rattle.text.specs.Class.{all, isDigit, isLetter, isAlnum}
 use Rattle.text.specs.Code.{codeOf}
-use Rattle.text.specs.Place.{value, places, allIn}
+use Rattle.text.specs.Place.{value, allIn}
 use Rattle.text.specs.Text.{packed}
 use Rattle.text.specs.Number.{isDigitTo, digitOf, isNumeral, numberOf as number}
 use Rattle.shapes.specs.Pieces.{pieces}
@@ -25,7 +25,7 @@ use Rattle.idents.specs.Ident.{identFrom, identOf, tzIdentOf}
 use Rattle.aircraft.specs.Aircraft.{plainOf, prefixedOf, aircraftOf}
 use Rattle.heads.specs.Message.{typeOf}
 use Rattle.spacing.specs.Body.{ended, fieldsOf}
-use Rattle.rows.specs.Rows.{CAP, lookup, lookRow, fits, written, struck, isListed, isBoard}
+use Rattle.rows.specs.Rows.{CAP, lookup, lookRow, fits, written, struck, isListed}
 use Rattle.rows.specs.declared.Row.{Row}
 use Rattle.rows.specs.declared.Arrival.{Arrival}
 use Rattle.rows.specs.declared.ArrivalSlot.the-variants as arrival
@@ -38,7 +38,7 @@ use Rattle.board.proofs.Allowed.{cap-is}
 use Rattle.board.proofs.Theorems.{rows-words, allowed-words, words-rows, board-rows, empty-board}
 use Rattle.board.proofs.Examples.{word, seen, tracked, one-row}
 use Rattle.history.specs.Steps.{byTz, rowsAfter}
-use Rattle.kinds.specs.Field.{plain, leftOf, marksOf, readKind, readMark, barred, readIn, isOne, isTwo, follows, contentOf}
+use Rattle.kinds.specs.Field.{plain, leftOf, marksOf, readKind, readIn, follows}
 use Rattle.table.specs.Read.{padded, valuesFrom, answerFrom, counted, answers, values, answerOf, valuesOf}
 use Rattle.counts.specs.Table.{countWith, isCount}
 use Rattle.layout.specs.Table.{kindsOf, countIn, answerBy, valuesBy}
@@ -68,12 +68,20 @@ abbrev pub due : Arrival
 due = record { departure = record { 0 = word "ABC" }; destination = record { 0 = word "DEF" }; clock = record { 0 = word "0930" }; stamp = record { 0 = word "06081600" } }
 
 pub asks : (askedOf tz ≡ asked.Tz (tracked .key) seen) × (askedOf dz ≡ asked.Dz (tracked .key) due) × (askedOf hb ≡ asked.Other)
-unfolding askedOf askedBy readOf headOf restOf bodyRead bodyFrom typeOf allIn answerBy valuesBy kindsOf countIn isCount countWith padded valuesFrom answerFrom counted answers values answerOf valuesOf plain leftOf marksOf readKind readMark barred readIn isOne isTwo follows contentOf ended fieldsOf plainOf prefixedOf aircraftOf identFrom identOf tzIdentOf isPairForm pairOf wordOf isForm isStamp isKey isIdent isTzIdent isClock isTime isPosition upTo has before after joins isOf fitsPicture fitsAny oneOf run within pieces isDigitTo digitOf isNumeral number packed value places codeOf all isDigit isLetter isAlnum
+unfolding askedOf askedBy readOf headOf restOf bodyRead bodyFrom typeOf allIn answerBy valuesBy kindsOf countIn isCount countWith padded valuesFrom answerFrom counted answers values answerOf valuesOf plain leftOf marksOf readKind readIn follows ended fieldsOf plainOf prefixedOf aircraftOf identFrom identOf tzIdentOf isPairForm pairOf wordOf isForm isStamp isKey isIdent isTzIdent isClock isTime isPosition upTo has before after joins isOf fitsPicture fitsAny oneOf run within pieces isDigitTo digitOf isNumeral number packed value codeOf all isDigit isLetter isAlnum
 asks = (refl, refl, refl)
 
-after-line : (rs : List Row) → isBoard rs ≡ true → (s : List ℕ) → boardAfter (wordsOf rs) s ≡ wordsOf (rowsAfter rs (lineEvent s))
-unfolding boardAfter
-after-line rs b s = rw (allowed-words rs b, rows-words rs b)
+abbrev pub landed : Row
+landed = record { key = tracked .key; arrival = arrival.Entry due; track = track.Empty }
+
+-- the words after the first line on a board without rows, and after the second on that board
+pub tz-after : (n : ℕ) → n ≡ 2817 → boardAfter (replicate n 0) tz ≡ wordsOf (tracked ∷ [])
+unfolding boardAfter lineEvent rowsAfter written lookRow CAP
+tz-after n h = let z = empty-board n h in rw (z .0, z .1, asks .0)
+
+pub dz-after : boardAfter (wordsOf (tracked ∷ [])) dz ≡ wordsOf (landed ∷ [])
+unfolding boardAfter lineEvent rowsAfter written packed value codeOf isDigit isLetter
+dz-after = rw (allowed-words (tracked ∷ []) one-row, rows-words (tracked ∷ []) one-row, asks .1)
 
 -- ---- on a board of 256 other flights: any such board
 
@@ -92,9 +100,8 @@ module _ (l : List ℕ) (a : isAllowed l ≡ true) (c : length (rowsOf l) ≡ 25
 
 -- a DZ of a flight with a track leaves its row with the arrival entry and no track
 pub dz-keeps-the-track : (κs : _) (a : _) (r : _) (s : _) → apply.Post κs a r s → now (a .0) ≡ wordsOf (tracked ∷ []) → now (a .1 .0) ≡ dz
-    → now (s .0) ≡ wordsOf (record { key = tracked .key; arrival = arrival.Entry due; track = track.Empty } ∷ [])
-unfolding lineEvent rowsAfter written packed value codeOf isDigit isLetter
-dz-keeps-the-track κs a r s p e f = p .1 .0 ∙ rw (e, f) (after-line (tracked ∷ []) one-row dz ∙ rw (asks .1))
+    → now (s .0) ≡ wordsOf (landed ∷ [])
+dz-keeps-the-track κs a r s p e f = p .1 .0 ∙ rw (e, f) dz-after
 
 -- a TZ of a flight not listed while 256 others are is answered 12, and every word stays
 pub full-is-taken : (κs : _) (a : _) (r : _) (s : _) → apply.Post κs a r s → let l = now (a .0) in
@@ -105,7 +112,8 @@ full-is-taken κs a r s p b c o f =
     (rw (p .0, f, asks .0, b, none-fits l b c o), p .1 .0 ∙ rw (f, b) (full-words l b c o))
 
 -- words that are no board are answered 13, and not 12, whatever the line's type
-pub damaged-board-is-full : (κs : _) (a : _) (r : _) (s : _) → apply.Post κs a r s → isAllowed (now (a .0)) ≡ false → now (a .1 .0) ≡ hb → (lineNumber r ≡ 13) × (now (s .0) ≡ now (a .0))
+pub damaged-board-is-full : (κs : _) (a : _) (r : _) (s : _) → apply.Post κs a r s → isAllowed (now (a .0)) ≡ false → now (a .1 .0) ≡ hb
+    → (lineNumber r ≡ 13) × (now (s .0) ≡ now (a .0))
 unfolding applyOf boardAfter
 damaged-board-is-full κs a r s p b f = (rw (p .0, f, asks .2, b), p .1 .0 ∙ rw b)
 

@@ -1,8 +1,8 @@
 -- What the promises of `printer` require on boards and buffers written out, and wrong answers that they do not allow: of each, `Post` is
 -- the function's `ensures` as it stands in the source, r any result and s any state at exit that meet it. Assumes nothing.
 use Prim.Native.Nat.{ℕ}
-use mathlib.Core.Path.{_≡_, refl, ap, _∙_}
-use mathlib.Core.Bool.{true, false}
+use mathlib.Core.Path.{_≡_, refl, _∙_}
+use mathlib.Core.Bool.{false}
 use mathlib.Core.List.{List, [], _∷_, _++_}
 use lib.ListN.{replicate}
 use denote.Ref.{now}
@@ -15,11 +15,11 @@ use Rattle.text.specs.declared.Written.the-variants as written
 use Rattle.text.specs.Number.{padded}
 use Rattle.slips.specs.Text.{lineText, rowText, rowsText}
 use Rattle.decimals.specs.Decimal.{widthBy, decimal}
-use Rattle.board.specs.Board.{rowsOf, wordsOf, isAllowed}
+use Rattle.board.specs.Board.{wordsOf, isAllowed}
 use Rattle.board.proofs.Theorems.{rows-words, allowed-words}
 use Rattle.board.proofs.Examples.{tracked, one-row}
 use Rattle.printer.specs.Text.{boardText, countsText}
-use Rattle.printer.specs.Print.{textIn, printOf, outAfter, numberOf}
+use Rattle.printer.specs.Print.{printOf, outAfter, numberOf}
 use Rattle.printer.proofs.print.Reads as print
 use Rattle.printer.proofs.print_counts.Reads as print-counts
 

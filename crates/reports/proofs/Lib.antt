@@ -2,3 +2,4 @@ pub mod Joins
 pub mod Taken
 pub mod Theorems
 pub mod Sizes
+pub mod Wrong

@@ -1,8 +1,8 @@
 -- What the promise of `writer` requires on a message written out, and wrong answers that it does not allow: `Post` is the function's
 -- `ensures` as it stands in the source, r any result and s any state at exit that meet it. Assumes nothing.
-use mathlib.Core.Path.{_≡_, refl, ap, _∙_}
+use mathlib.Core.Path.{_≡_, _∙_}
 use mathlib.Core.Bool.{false}
-use mathlib.Core.List.{List, [], _∷_, _++_}
+use mathlib.Core.List.{[], _∷_}
 use lib.ListN.{replicate}
 use denote.Ref.{now}
 use Rattle.text.specs.Bytes.{bytes}
@@ -11,7 +11,7 @@ use Rattle.text.specs.Code.{codeOf, byteOf}
 use Rattle.text.specs.Place.{value, places, digits, tight, allIn}
 use Rattle.text.specs.Text.{packed, textOf, isPacked, spliced, hasRoom, writtenNext, writtenBytes}
 use Rattle.text.specs.Number.{isDigitTo, digitOf, isNumeral, numberOf}
-use Rattle.text.specs.declared.Written.the-variants.{NoRoom, NoText}
+use Rattle.text.specs.declared.Written.the-variants.{NoText}
 use Rattle.shapes.specs.Pieces.{pieces}
 use Rattle.shapes.specs.Picture.{isOf, fits, fitsAny, oneOf, run, within}
 use Rattle.forms.specs.Form.{isStamp}
