@@ -16,7 +16,7 @@ use heads::MessageType;
 use idents::Ident;
 use kinds::Value;
 use messages::Af;
-use messages::Amended;
+use messages::Amendment;
 use messages::Az;
 use messages::Body;
 use messages::Dz;
@@ -26,8 +26,7 @@ use messages::Tz;
 use table::Answer;
 use table::TableRead;
 ghost use mathlib.Core.Path.{_≡_};
-ghost use Rattle.kinds.specs.Field.{identIn, aircraftIn};
-ghost use Rattle.messages.specs.Body.{amendedIn, afFrom, planFrom, bodyFrom};
+ghost use Rattle.messages.specs.Body.{afFrom, azFrom, dzFrom, rzFrom, tzFrom, planFrom, bodyFrom};
 ghost use Rattle.bodies.specs.Read.{typedOf, bodyRead};
 
 // What a body is read as: the answers 0, 8, 9, 10 and 18, with the place of the field.
@@ -39,59 +38,110 @@ pub enum BodyRead {
     Two(usize),
 }
 
-fn ident_in(v: Value) -> Ident
-    ensures { λ r. ⌜ r ≡ identIn v ⌝ }
-{
-    Ident {
-        key: Key(v.a),
-        number: Number(v.b),
-    }
-}
-
-fn aircraft_in(v: Value) -> Aircraft
-    ensures { λ r. ⌜ r ≡ aircraftIn v ⌝ }
-{
-    Aircraft {
-        prefix: v.a,
-        model: v.b,
-        letter: v.c,
-    }
-}
-
-// An amendment from its number's value and its content's.
-fn amended(number: Value, content: Value) -> Amended
-    ensures { λ r. ⌜ r ≡ amendedIn number content ⌝ }
-{
-    let mark = number.a;
-    match mark {
-        1 => Amended::Ident(ident_in(content)),
-        2 => Amended::Aircraft(aircraft_in(content)),
-        4 => Amended::Speed(FiledSpeed(content.a)),
-        8 => Amended::Fix(Fix(content.a)),
-        16 => Amended::Time(Time(content.a)),
-        32 => Amended::Assigned(Level(content.a)),
-        64 => Amended::Requested(Level(content.a)),
-        128 => Amended::Route,
-        _ => Amended::Nothing,
-    }
-}
-
 fn af_from(marks: u8, w: [Value; 19]) -> Af
     ensures { λ r. ⌜ r ≡ afFrom marks w ⌝ }
 {
     Af {
-        ident: ident_in(w[0]),
+        ident: Ident {
+            key: Key(w[0].a),
+            number: Number(w[0].b),
+        },
         from: Point(w[1].a),
         to: Point(w[2].a),
         marks,
-        first: amended(w[3], w[4]),
-        second: amended(w[5], w[6]),
-        third: amended(w[7], w[8]),
-        fourth: amended(w[9], w[10]),
-        fifth: amended(w[11], w[12]),
-        sixth: amended(w[13], w[14]),
-        seventh: amended(w[15], w[16]),
-        eighth: amended(w[17], w[18]),
+        first: Amendment {
+            mark: w[3].a,
+            content: w[4],
+        },
+        second: Amendment {
+            mark: w[5].a,
+            content: w[6],
+        },
+        third: Amendment {
+            mark: w[7].a,
+            content: w[8],
+        },
+        fourth: Amendment {
+            mark: w[9].a,
+            content: w[10],
+        },
+        fifth: Amendment {
+            mark: w[11].a,
+            content: w[12],
+        },
+        sixth: Amendment {
+            mark: w[13].a,
+            content: w[14],
+        },
+        seventh: Amendment {
+            mark: w[15].a,
+            content: w[16],
+        },
+        eighth: Amendment {
+            mark: w[17].a,
+            content: w[18],
+        },
+    }
+}
+
+fn az_from(w: [Value; 19]) -> Az
+    ensures { λ r. ⌜ r ≡ azFrom w ⌝ }
+{
+    Az {
+        ident: Ident {
+            key: Key(w[0].a),
+            number: Number(w[0].b),
+        },
+        from: Point(w[1].a),
+        to: Point(w[2].a),
+        clock: ArrivalClock(w[3].a),
+    }
+}
+
+fn dz_from(w: [Value; 19]) -> Dz
+    ensures { λ r. ⌜ r ≡ dzFrom w ⌝ }
+{
+    Dz {
+        ident: Ident {
+            key: Key(w[0].a),
+            number: Number(w[0].b),
+        },
+        aircraft: Aircraft {
+            prefix: w[1].a,
+            model: w[1].b,
+            letter: w[1].c,
+        },
+        from: Point(w[2].a),
+        time: Time(w[3].a),
+        to: Point(w[4].a),
+        clock: Clock(w[5].a),
+    }
+}
+
+fn rz_from(w: [Value; 19]) -> Rz
+    ensures { λ r. ⌜ r ≡ rzFrom w ⌝ }
+{
+    Rz {
+        ident: Ident {
+            key: Key(w[0].a),
+            number: Number(w[0].b),
+        },
+        from: Point(w[1].a),
+        to: Point(w[2].a),
+    }
+}
+
+fn tz_from(w: [Value; 19]) -> Tz
+    ensures { λ r. ⌜ r ≡ tzFrom w ⌝ }
+{
+    Tz {
+        ident: Ident {
+            key: Key(w[0].a),
+            number: Number(w[0].b),
+        },
+        speed: GroundSpeed(w[1].a),
+        level: TrackLevel(w[2].a),
+        position: Position(w[3].a),
     }
 }
 
@@ -99,8 +149,15 @@ fn plan_from(w: [Value; 19]) -> Plan
     ensures { λ r. ⌜ r ≡ planFrom w ⌝ }
 {
     Plan {
-        ident: ident_in(w[0]),
-        aircraft: aircraft_in(w[1]),
+        ident: Ident {
+            key: Key(w[0].a),
+            number: Number(w[0].b),
+        },
+        aircraft: Aircraft {
+            prefix: w[1].a,
+            model: w[1].b,
+            letter: w[1].c,
+        },
         speed: FiledSpeed(w[2].a),
         fix: Fix(w[3].a),
         time: Time(w[4].a),
@@ -108,41 +165,21 @@ fn plan_from(w: [Value; 19]) -> Plan
     }
 }
 
+// Returned from each arm, since a body by value is dear to the checker.
 fn body_from(t: MessageType, marks: u8, w: [Value; 19]) -> Body
     ensures { λ r. ⌜ r ≡ bodyFrom t marks w ⌝ }
 {
     match t {
-        MessageType::Af => Body::Af(af_from(marks, w)),
-        MessageType::Az => Body::Az(Az {
-            ident: ident_in(w[0]),
-            from: Point(w[1].a),
-            to: Point(w[2].a),
-            clock: ArrivalClock(w[3].a),
-        }),
-        MessageType::Dz => Body::Dz(Dz {
-            ident: ident_in(w[0]),
-            aircraft: aircraft_in(w[1]),
-            from: Point(w[2].a),
-            time: Time(w[3].a),
-            to: Point(w[4].a),
-            clock: Clock(w[5].a),
-        }),
-        MessageType::Fz => Body::Fz(plan_from(w)),
-        MessageType::Rz => Body::Rz(Rz {
-            ident: ident_in(w[0]),
-            from: Point(w[1].a),
-            to: Point(w[2].a),
-        }),
-        MessageType::Tz => Body::Tz(Tz {
-            ident: ident_in(w[0]),
-            speed: GroundSpeed(w[1].a),
-            level: TrackLevel(w[2].a),
-            position: Position(w[3].a),
-        }),
-        MessageType::Uz => Body::Uz(plan_from(w)),
-        MessageType::Rt => Body::Rt,
-        MessageType::To => Body::To,
-        MessageType::Hb => Body::Hb,
+        MessageType::Af => return Body::Af(af_from(marks, w)),
+        MessageType::Az => return Body::Az(az_from(w)),
+        MessageType::Dz => return Body::Dz(dz_from(w)),
+        MessageType::Fz => return Body::Fz(plan_from(w)),
+        MessageType::Rz => return Body::Rz(rz_from(w)),
+        MessageType::Tz => return Body::Tz(tz_from(w)),
+        MessageType::Uz => return Body::Uz(plan_from(w)),
+        MessageType::Rt => return Body::Rt,
+        MessageType::To => return Body::To,
+        MessageType::Hb => return Body::Hb,
     }
 }
 

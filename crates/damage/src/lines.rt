@@ -21,6 +21,7 @@ use heads::Facility;
 use idents::Ident;
 use messages::Af;
 use messages::Amended;
+use messages::Amendment;
 use messages::Az;
 use messages::Body;
 use messages::Dz;
@@ -62,10 +63,10 @@ fn amended(number: u64, a: u64, b: u64, c: u64) -> Amended {
     }
 }
 
-fn slot(w: &[u64], p: usize) -> Amended
+fn slot(w: &[u64], p: usize) -> Amendment
     requires { ⌜ p + 4 ≤ length (now w) ⌝ }
 {
-    amended(w[p], w[p + 1], w[p + 2], w[p + 3])
+    amended(w[p], w[p + 1], w[p + 2], w[p + 3]).amendment()
 }
 
 fn az(w: &[u64]) -> Az

@@ -20,14 +20,13 @@ use Rattle.heads.specs.declared.MessageType.{MessageType}
 use Rattle.heads.specs.declared.MessageType.the-variants as type
 use Rattle.kinds.specs.Field.{IDENT, TZ-IDENT, AIRCRAFT, ROUTE, PLAN-TIME, CONTENT, valued, identIn, aircraftIn, isOne, isTwo, isMark, contentOf, plain, leftOf, marksOf, follows, isKindValue, isValue, shown}
 use Rattle.kinds.specs.declared.Value.{Value}
-use Rattle.kinds.proofs.Marks.{each-mark, mark-text}
 use Rattle.table.specs.Read.{none, padded}
 use Rattle.table.specs.Show.{allowedFrom}
 use Rattle.counts.specs.Table.{amendments, countWith, isCount}
 use Rattle.layout.specs.Table.{kindsOf}
 use Rattle.layout.proofs.Ways.{kinds-length}
 use Rattle.layout.proofs.Tables.{marksKept}
-use Rattle.messages.specs.Body.{at, amendedIn, afFrom, planFrom, bodyFrom, typeIn, valueOfWord, markIn, contentIn, slots, fieldCount, valuesIn, spare, marksIn}
+use Rattle.messages.specs.Body.{at, amendedIn, afFrom, bodyFrom, typeIn, heldOf, valueOfWord, slots, fieldCount, valuesIn, spare, marksIn}
 use Rattle.messages.specs.Allowed.{allNone}
 use Rattle.messages.specs.declared.Amended.{Amended}
 use Rattle.messages.specs.declared.Amended.the-variants as amended
@@ -72,9 +71,8 @@ is-canon k r v = go (eqb k IDENT) (eqb k TZ-IDENT) (eqb k AIRCRAFT) (eqb k ROUTE
         none-is v (and-right (isRoute r) (eqb (v .a) 0) f) (and-right (isRoute r && eqb (v .a) 0) (isOne v) e)
     go false false false false e = one-is v (and-right (isWord k (v .a)) (isOne v) e)
 
--- ---- amendments
-
-pub amended-back : (x : Amended) → amendedIn (valueOfWord (markIn x)) (contentIn x) ≡ x
+-- an amendment that is held gives back its content
+pub amended-back : (x : Amended) → amendedIn (heldOf x) ≡ x
 unfolding amendedIn
 amended-back (amended.Ident i) = refl
 amended-back (amended.Aircraft x) = refl
@@ -85,29 +83,6 @@ amended-back (amended.Assigned x) = refl
 amended-back (amended.Requested x) = refl
 amended-back amended.Route = refl
 amended-back amended.Nothing = refl
-
--- an amendment that is made of a mark and a content for which the mark asks keeps both
-mark-kept : (v : Value) (r : List ℕ) (m : ℕ) → isMark m ≡ true → isKindValue (contentOf m) r v ≡ true → (markIn (amendedIn (valueOfWord m) v) ≡ m) × (contentIn (amendedIn (valueOfWord m) v) ≡ v)
-unfolding amendedIn contentOf
-mark-kept v r =
-    each-mark (λ (m : ℕ). isKindValue (contentOf m) r v ≡ true → (markIn (amendedIn (valueOfWord m) v) ≡ m) × (contentIn (amendedIn (valueOfWord m) v) ≡ v))
-    (λ q. (refl, is-canon (contentOf 1) r v q))
-    (λ q. (refl, is-canon (contentOf 2) r v q))
-    (λ q. (refl, is-canon (contentOf 4) r v q))
-    (λ q. (refl, is-canon (contentOf 8) r v q))
-    (λ q. (refl, is-canon (contentOf 16) r v q))
-    (λ q. (refl, is-canon (contentOf 32) r v q))
-    (λ q. (refl, is-canon (contentOf 64) r v q))
-    (λ q. (refl, is-canon (contentOf 128) r v q))
-
-pub amended-on : (n v : Value) (r : List ℕ) → isMark (n .a) ≡ true → isOne n ≡ true → isKindValue (contentOf (n .a)) r v ≡ true → (valueOfWord (markIn (amendedIn n v)) ≡ n) × (contentIn (amendedIn n v) ≡ v)
-unfolding amendedIn
-amended-on n v r e f g = let h = mark-kept v r (n .a) e g in (ap valueOfWord (h .0) ∙ one-is n f, h .1)
-
--- and so does one of nothing
-pub amended-none : (valueOfWord (markIn (amendedIn none none)) ≡ none) × (contentIn (amendedIn none none) ≡ none)
-unfolding amendedIn
-amended-none = (refl, refl)
 
 -- ---- nineteen values
 
@@ -138,7 +113,7 @@ padded-take n l h e =
 -- ---- from a body to the values and back
 
 pub slots-length : (b : Body) → length (slots b) ≡ 19
-unfolding slots padded
+unfolding slots
 slots-length (body.Af m) = refl
 slots-length (body.Az m) = refl
 slots-length (body.Dz m) = refl
@@ -151,21 +126,8 @@ slots-length body.To = refl
 slots-length body.Hb = refl
 
 pub from-slots : (b : Body) → bodyFrom (typeIn b) (marksIn b) (slots b) ≡ b
-unfolding bodyFrom afFrom planFrom slots padded
-from-slots (body.Af m) = λ x. body.Af (record {
-  ident = m .ident;
-  from = m .from;
-  to = m .to;
-  marks = m .marks;
-  first = amended-back (m .first) x;
-  second = amended-back (m .second) x;
-  third = amended-back (m .third) x;
-  fourth = amended-back (m .fourth) x;
-  fifth = amended-back (m .fifth) x;
-  sixth = amended-back (m .sixth) x;
-  seventh = amended-back (m .seventh) x;
-  eighth = amended-back (m .eighth) x;
-})
+unfolding bodyFrom slots
+from-slots (body.Af m) = refl
 from-slots (body.Az m) = refl
 from-slots (body.Dz m) = refl
 from-slots (body.Fz p) = refl
@@ -197,7 +159,7 @@ type-from type.Hb m w = refl
 
 -- only an AF keeps the marks
 pub marks-from : (t : MessageType) (m : ℕ) (w : List Value) → marksIn (bodyFrom t m w) ≡ marksKept t m
-unfolding bodyFrom afFrom
+unfolding bodyFrom
 marks-from type.Af m w = refl
 marks-from type.Az m w = refl
 marks-from type.Dz m w = refl
@@ -290,12 +252,7 @@ take-amendments (suc j) (suc t) h = ap (λ (l : List ℕ). AMENDMENT ∷ CONTENT
 -- the numbers and contents of t amendments that are made of the values f 0, f 1, ..
 abbrev pairsFrom : ℕ → (ℕ → Value) → List Value
 pairsFrom zero f = []
-pairsFrom (suc t) f = valueOfWord (markIn (amendedIn (f 0) (f 1))) ∷ contentIn (amendedIn (f 0) (f 1)) ∷ pairsFrom t (λ i. f (suc (suc i)))
-
-none-kept : (n v : Value) → none ≡ n → none ≡ v → (valueOfWord (markIn (amendedIn n v)) ≡ n) × (contentIn (amendedIn n v) ≡ v)
-none-kept n v p q =
-    subst (λ (u : Value). (valueOfWord (markIn (amendedIn n u)) ≡ n) × (contentIn (amendedIn n u) ≡ u)) q
-    (subst (λ (u : Value). (valueOfWord (markIn (amendedIn u none)) ≡ u) × (contentIn (amendedIn u none) ≡ none)) p amended-none)
+pairsFrom (suc t) f = valueOfWord (f 0 .a) ∷ f 1 ∷ pairsFrom t (λ i. f (suc (suc i)))
 
 pairs-none : (t : ℕ) (l : List Value) → length l ≡ double t → allNone l ≡ true → pairsFrom t (at l) ≡ l
 pairs-none zero [] h e = refl
@@ -303,23 +260,14 @@ pairs-none zero (v ∷ l) h e = absurd (omega arith)
 pairs-none (suc t) [] h e = absurd (omega arith)
 pairs-none (suc t) (n ∷ []) h e = absurd (omega arith)
 pairs-none (suc t) (n ∷ v ∷ l) h e =
-    let f = none-rest n (v ∷ l) e in
-    let g = none-kept n v (none-first n (v ∷ l) e) (none-first v l f) in
-    let i = pairs-none t l (omega arith) (none-rest v l f) in
-    λ x. g .0 x ∷ g .1 x ∷ i x
+    let p : valueOfWord (n .a) ≡ n = one-is n (and-right (eqb (n .a) 0) (isOne n) (and-left (eqb (n .a) 0 && isOne n) (allNone (v ∷ l)) e)) in
+    let i = pairs-none t l (omega arith) (none-rest v l (none-rest n (v ∷ l) e)) in
+    λ x. p x ∷ v ∷ i x
 
--- a number's value is a mark alone, and what it leaves is that mark
-mark-value : (p : ℕ) (r : List ℕ) (n : Value) → isValue AMENDMENT p r n ≡ true → (isMark (n .a) ≡ true) × (isOne n ≡ true) × (leftOf AMENDMENT (shown AMENDMENT p r n) ≡ n .a)
-unfolding isValue leftOf shown
-mark-value p r n e =
-    let m = and-left (isMark (n .a)) (isOne n) e in
-    (m, and-right (isMark (n .a)) (isOne n) e, mark-text (n .a) m)
-
-pair-kept : (p : ℕ) (r : List ℕ) (n v : Value) → isValue AMENDMENT p r n ≡ true → isValue CONTENT (leftOf AMENDMENT (shown AMENDMENT p r n)) r v ≡ true → (valueOfWord (markIn (amendedIn n v)) ≡ n) × (contentIn (amendedIn n v) ≡ v)
-unfolding isValue plain
-pair-kept p r n v e f =
-    let g = mark-value p r n e in
-    amended-on n v r (g .0) (g .1) (subst (λ (q : ℕ). isKindValue (contentOf q) r v ≡ true) (g .2) f)
+-- a number's value is a mark alone
+mark-one : (p : ℕ) (r : List ℕ) (n : Value) → isValue AMENDMENT p r n ≡ true → valueOfWord (n .a) ≡ n
+unfolding isValue
+mark-one p r n e = one-is n (and-right (isMark (n .a)) (isOne n) e)
 
 -- the pairs that some body gives, and none after them
 pairs-back : (t j p m : ℕ) (r : List ℕ) (vs more : List Value) → length (vs ++ more) ≡ double t → allNone more ≡ true → allowedFrom (amendments j) p m r vs ≡ true → pairsFrom t (at (vs ++ more)) ≡ vs ++ more
@@ -330,11 +278,10 @@ pairs-back t (suc j) p m r [] more h q e = true-false e refl
 pairs-back t (suc j) p m r (n ∷ []) more h q e = true-false (allowed-rest AMENDMENT (CONTENT ∷ amendments j) p m r n [] e) refl
 pairs-back zero (suc j) p m r (n ∷ v ∷ vs) more h q e = absurd (omega arith)
 pairs-back (suc t) (suc j) p m r (n ∷ v ∷ vs) more h q e =
-    let s = shown AMENDMENT p r n in
     let f = allowed-rest AMENDMENT (CONTENT ∷ amendments j) p m r n (v ∷ vs) e in
-    let g = pair-kept p r n v (allowed-first AMENDMENT (CONTENT ∷ amendments j) p m r n (v ∷ vs) e) (allowed-first CONTENT (amendments j) (leftOf AMENDMENT s) (marksOf AMENDMENT m s) r v vs f) in
-    let i = pairs-back t j _ _ r vs more (omega arith) q (allowed-rest CONTENT (amendments j) (leftOf AMENDMENT s) (marksOf AMENDMENT m s) r v vs f) in
-    λ x. g .0 x ∷ g .1 x ∷ i x
+    let g = mark-one p r n (allowed-first AMENDMENT (CONTENT ∷ amendments j) p m r n (v ∷ vs) e) in
+    let i = pairs-back t j _ _ r vs more (omega arith) q (allowed-rest CONTENT (amendments j) _ _ r v vs f) in
+    λ x. g x ∷ v ∷ i x
 
 -- a count of fields that an AF may have is three and some pairs, at most eight
 count-pairs : (n : ℕ) → isCount type.Af n ≡ true → (n ≡ suc (suc (suc (double ((n - 3) / 2))))) × ((n - 3) / 2 ≤ 8)
@@ -349,7 +296,7 @@ count-pairs n c =
 
 -- of values by the kinds of three fields and j pairs
 af-slots : (j m : ℕ) (r : List ℕ) (vs : List Value) → j ≤ 8 → allowedFrom (IDENT ∷ POINT ∷ POINT ∷ amendments j) 0 0 r vs ≡ true → slots (body.Af (afFrom m (padded vs))) ≡ padded vs
-unfolding slots afFrom padded allowedFrom isValue plain
+unfolding slots padded allowedFrom isValue plain
 af-slots j m r [] h e = true-false e refl
 af-slots j m r (i ∷ []) h e = true-false (allowed-rest IDENT (POINT ∷ POINT ∷ amendments j) 0 0 r i [] e) refl
 af-slots j m r (i ∷ a ∷ []) h e = true-false (allowed-rest POINT (POINT ∷ amendments j) _ _ r a [] (allowed-rest IDENT (POINT ∷ POINT ∷ amendments j) 0 0 r i (a ∷ []) e)) refl
@@ -365,7 +312,7 @@ af-slots j m r (i ∷ a ∷ b ∷ vs) h e =
 -- ---- THE LAWS: from values to a body and back
 
 pub slots-back : (t : MessageType) (n m : ℕ) (r : List ℕ) (vs : List Value) → isCount t n ≡ true → allowedFrom (kindsOf t n) 0 0 r vs ≡ true → slots (bodyFrom t m (padded vs)) ≡ padded vs
-unfolding isCount countWith kindsOf slots bodyFrom planFrom plain
+unfolding isCount countWith kindsOf slots bodyFrom padded plain
 slots-back type.Af n m r vs c e =
     let h = count-pairs n c in
     let f = subst (λ (i : ℕ). allowedFrom (kindsOf type.Af i) 0 0 r vs ≡ true) (h .0) e in

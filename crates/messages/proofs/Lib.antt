@@ -1,4 +1,5 @@
 pub mod Ways
 pub mod Bodies
 pub mod Unique
+pub mod Examples
 pub mod Tables

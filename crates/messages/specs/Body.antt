@@ -4,7 +4,7 @@ use Prim.Native.Char.{code}
 use mathlib.Core.Bool.{cond}
 use mathlib.Core.List.{List, [], _∷_}
 use lib.Dec.{eqb}
-use lib.ListN.{getD, take, drop}
+use lib.ListN.{getD, take, drop, replicate}
 use Rattle.text.specs.Text.{textOf}
 use Rattle.heads.specs.declared.MessageType.{MessageType}
 use Rattle.heads.specs.declared.MessageType.the-variants as type
@@ -12,14 +12,19 @@ use Rattle.idents.specs.declared.Ident.{Ident}
 use Rattle.aircraft.specs.declared.Aircraft.{Aircraft}
 use Rattle.kinds.specs.Field.{valued, identIn, aircraftIn}
 use Rattle.kinds.specs.declared.Value.{Value}
-use Rattle.table.specs.Read.{none, padded}
+use Rattle.table.specs.Read.{none}
 use Rattle.counts.specs.Table.{countWith}
 use Rattle.messages.specs.declared.Plan.{Plan}
 use Rattle.messages.specs.declared.PlanLevel.{PlanLevel}
 use Rattle.messages.specs.declared.PlanLevel.the-variants as level
 use Rattle.messages.specs.declared.Amended.{Amended}
 use Rattle.messages.specs.declared.Amended.the-variants as amended
+use Rattle.messages.specs.declared.Amendment.{Amendment}
 use Rattle.messages.specs.declared.Af.{Af}
+use Rattle.messages.specs.declared.Az.{Az}
+use Rattle.messages.specs.declared.Dz.{Dz}
+use Rattle.messages.specs.declared.Rz.{Rz}
+use Rattle.messages.specs.declared.Tz.{Tz}
 use Rattle.messages.specs.declared.Body.{Body}
 use Rattle.messages.specs.declared.Body.the-variants as body
 
@@ -32,35 +37,59 @@ planLevel p = cond (eqb (getD (textOf (p .time .0)) 0 0) (code "P")) (level.Requ
 abbrev pub at : List Value → ℕ → Value
 at w i = getD w i none
 
--- an amendment from the values of its number and its content
-unfoldable pub amendedIn : Value → Value → Amended
-amendedIn n v =
-    cond (eqb (n .a) 1) (amended.Ident (identIn v))
-    (cond (eqb (n .a) 2) (amended.Aircraft (aircraftIn v))
-    (cond (eqb (n .a) 4) (amended.Speed (record { 0 = v .a }))
-    (cond (eqb (n .a) 8) (amended.Fix (record { 0 = v .a }))
-    (cond (eqb (n .a) 16) (amended.Time (record { 0 = v .a }))
-    (cond (eqb (n .a) 32) (amended.Assigned (record { 0 = v .a }))
-    (cond (eqb (n .a) 64) (amended.Requested (record { 0 = v .a }))
-    (cond (eqb (n .a) 128) amended.Route amended.Nothing)))))))
+-- an amendment's content by its number's mark
+unfoldable pub amendedIn : Amendment → Amended
+amendedIn x =
+    cond (eqb (x .mark) 1) (amended.Ident (identIn (x .content)))
+    (cond (eqb (x .mark) 2) (amended.Aircraft (aircraftIn (x .content)))
+    (cond (eqb (x .mark) 4) (amended.Speed (record { 0 = x .content .a }))
+    (cond (eqb (x .mark) 8) (amended.Fix (record { 0 = x .content .a }))
+    (cond (eqb (x .mark) 16) (amended.Time (record { 0 = x .content .a }))
+    (cond (eqb (x .mark) 32) (amended.Assigned (record { 0 = x .content .a }))
+    (cond (eqb (x .mark) 64) (amended.Requested (record { 0 = x .content .a }))
+    (cond (eqb (x .mark) 128) amended.Route amended.Nothing)))))))
 
-unfoldable pub afFrom : ℕ → List Value → Af
+-- an amendment from the values of its number and its content
+abbrev pub heldFrom : Value → Value → Amendment
+heldFrom n v = record { mark = n .a; content = v }
+
+-- m is the set of marks, which an AF keeps
+abbrev pub afFrom : ℕ → List Value → Af
 afFrom m w = record {
   ident = identIn (at w 0);
   from = record { 0 = at w 1 .a };
   to = record { 0 = at w 2 .a };
   marks = m;
-  first = amendedIn (at w 3) (at w 4);
-  second = amendedIn (at w 5) (at w 6);
-  third = amendedIn (at w 7) (at w 8);
-  fourth = amendedIn (at w 9) (at w 10);
-  fifth = amendedIn (at w 11) (at w 12);
-  sixth = amendedIn (at w 13) (at w 14);
-  seventh = amendedIn (at w 15) (at w 16);
-  eighth = amendedIn (at w 17) (at w 18);
+  first = heldFrom (at w 3) (at w 4);
+  second = heldFrom (at w 5) (at w 6);
+  third = heldFrom (at w 7) (at w 8);
+  fourth = heldFrom (at w 9) (at w 10);
+  fifth = heldFrom (at w 11) (at w 12);
+  sixth = heldFrom (at w 13) (at w 14);
+  seventh = heldFrom (at w 15) (at w 16);
+  eighth = heldFrom (at w 17) (at w 18);
 }
 
-unfoldable pub planFrom : List Value → Plan
+abbrev pub azFrom : List Value → Az
+azFrom w = record { ident = identIn (at w 0); from = record { 0 = at w 1 .a }; to = record { 0 = at w 2 .a }; clock = record { 0 = at w 3 .a } }
+
+abbrev pub dzFrom : List Value → Dz
+dzFrom w = record {
+  ident = identIn (at w 0);
+  aircraft = aircraftIn (at w 1);
+  from = record { 0 = at w 2 .a };
+  time = record { 0 = at w 3 .a };
+  to = record { 0 = at w 4 .a };
+  clock = record { 0 = at w 5 .a };
+}
+
+abbrev pub rzFrom : List Value → Rz
+rzFrom w = record { ident = identIn (at w 0); from = record { 0 = at w 1 .a }; to = record { 0 = at w 2 .a } }
+
+abbrev pub tzFrom : List Value → Tz
+tzFrom w = record { ident = identIn (at w 0); speed = record { 0 = at w 1 .a }; level = record { 0 = at w 2 .a }; position = record { 0 = at w 3 .a } }
+
+abbrev pub planFrom : List Value → Plan
 planFrom w = record {
   ident = identIn (at w 0);
   aircraft = aircraftIn (at w 1);
@@ -70,16 +99,13 @@ planFrom w = record {
   level = record { 0 = at w 5 .a };
 }
 
--- m is the set of marks, which an AF keeps
 unfoldable pub bodyFrom : MessageType → ℕ → List Value → Body
 bodyFrom type.Af m w = body.Af (afFrom m w)
-bodyFrom type.Az m w = body.Az (record { ident = identIn (at w 0); from = record { 0 = at w 1 .a }; to = record { 0 = at w 2 .a }; clock = record { 0 = at w 3 .a } })
-bodyFrom type.Dz m w =
-    body.Dz (record { ident = identIn (at w 0); aircraft = aircraftIn (at w 1); from = record { 0 = at w 2 .a }; time = record { 0 = at w 3 .a }; to = record { 0 = at w 4 .a }; clock = record { 0 = at w 5 .a } })
+bodyFrom type.Az m w = body.Az (azFrom w)
+bodyFrom type.Dz m w = body.Dz (dzFrom w)
 bodyFrom type.Fz m w = body.Fz (planFrom w)
-bodyFrom type.Rz m w = body.Rz (record { ident = identIn (at w 0); from = record { 0 = at w 1 .a }; to = record { 0 = at w 2 .a } })
-bodyFrom type.Tz m w =
-    body.Tz (record { ident = identIn (at w 0); speed = record { 0 = at w 1 .a }; level = record { 0 = at w 2 .a }; position = record { 0 = at w 3 .a } })
+bodyFrom type.Rz m w = body.Rz (rzFrom w)
+bodyFrom type.Tz m w = body.Tz (tzFrom w)
 bodyFrom type.Uz m w = body.Uz (planFrom w)
 bodyFrom type.Rt m w = body.Rt
 bodyFrom type.To m w = body.To
@@ -108,53 +134,62 @@ valueOfIdent i = valued (i .key .0) (i .number .0) 0
 abbrev pub valueOfAircraft : Aircraft → Value
 valueOfAircraft x = valued (x .prefix) (x .model) (x .letter)
 
--- the mark of an amendment's number, and the value of its content
-abbrev pub markIn : Amended → ℕ
-markIn (amended.Ident i) = 1
-markIn (amended.Aircraft x) = 2
-markIn (amended.Speed x) = 4
-markIn (amended.Fix x) = 8
-markIn (amended.Time x) = 16
-markIn (amended.Assigned x) = 32
-markIn (amended.Requested x) = 64
-markIn amended.Route = 128
-markIn amended.Nothing = 0
-
-abbrev pub contentIn : Amended → Value
-contentIn (amended.Ident i) = valueOfIdent i
-contentIn (amended.Aircraft x) = valueOfAircraft x
-contentIn (amended.Speed x) = valueOfWord (x .0)
-contentIn (amended.Fix x) = valueOfWord (x .0)
-contentIn (amended.Time x) = valueOfWord (x .0)
-contentIn (amended.Assigned x) = valueOfWord (x .0)
-contentIn (amended.Requested x) = valueOfWord (x .0)
-contentIn amended.Route = none
-contentIn amended.Nothing = none
+-- an amendment as a message holds it: the mark of its number, and the value of its content
+abbrev pub heldOf : Amended → Amendment
+heldOf (amended.Ident i) = record { mark = 1; content = valueOfIdent i }
+heldOf (amended.Aircraft x) = record { mark = 2; content = valueOfAircraft x }
+heldOf (amended.Speed x) = record { mark = 4; content = valueOfWord (x .0) }
+heldOf (amended.Fix x) = record { mark = 8; content = valueOfWord (x .0) }
+heldOf (amended.Time x) = record { mark = 16; content = valueOfWord (x .0) }
+heldOf (amended.Assigned x) = record { mark = 32; content = valueOfWord (x .0) }
+heldOf (amended.Requested x) = record { mark = 64; content = valueOfWord (x .0) }
+heldOf amended.Route = record { mark = 128; content = none }
+heldOf amended.Nothing = record { mark = 0; content = none }
 
 -- the amendments in their order
-abbrev pub slotsOf : Af → List Amended
+abbrev pub slotsOf : Af → List Amendment
 slotsOf m = m .first ∷ m .second ∷ m .third ∷ m .fourth ∷ m .fifth ∷ m .sixth ∷ m .seventh ∷ m .eighth ∷ []
 
-abbrev pub pairsOf : List Amended → List Value
+abbrev pub pairsOf : List Amendment → List Value
 pairsOf [] = []
-pairsOf (x ∷ xs) = valueOfWord (markIn x) ∷ contentIn x ∷ pairsOf xs
-
-abbrev pub planValues : Plan → List Value
-planValues p = valueOfIdent (p .ident) ∷ valueOfAircraft (p .aircraft) ∷ valueOfWord (p .speed .0) ∷ valueOfWord (p .fix .0) ∷ valueOfWord (p .time .0) ∷ valueOfWord (p .level .0) ∷ none ∷ []
+pairsOf (x ∷ xs) = valueOfWord (x .mark) ∷ x .content ∷ pairsOf xs
 
 -- nineteen values, of which the first are the fields'
+abbrev pub nones : ℕ → List Value
+nones n = replicate n none
+
+abbrev pub afSlots : Af → List Value
+afSlots m = valueOfIdent (m .ident) ∷ valueOfWord (m .from .0) ∷ valueOfWord (m .to .0) ∷ pairsOf (slotsOf m)
+
+abbrev pub azSlots : Az → List Value
+azSlots m = valueOfIdent (m .ident) ∷ valueOfWord (m .from .0) ∷ valueOfWord (m .to .0) ∷ valueOfWord (m .clock .0) ∷ nones 15
+
+abbrev pub dzSlots : Dz → List Value
+dzSlots m =
+    valueOfIdent (m .ident) ∷ valueOfAircraft (m .aircraft) ∷ valueOfWord (m .from .0) ∷ valueOfWord (m .time .0) ∷ valueOfWord (m .to .0) ∷ valueOfWord (m .clock .0) ∷ nones 13
+
+abbrev pub rzSlots : Rz → List Value
+rzSlots m = valueOfIdent (m .ident) ∷ valueOfWord (m .from .0) ∷ valueOfWord (m .to .0) ∷ nones 16
+
+abbrev pub tzSlots : Tz → List Value
+tzSlots m = valueOfIdent (m .ident) ∷ valueOfWord (m .speed .0) ∷ valueOfWord (m .level .0) ∷ valueOfWord (m .position .0) ∷ nones 15
+
+-- a plan's seventh field is its route, of which nothing is held
+abbrev pub planSlots : Plan → List Value
+planSlots p =
+    valueOfIdent (p .ident) ∷ valueOfAircraft (p .aircraft) ∷ valueOfWord (p .speed .0) ∷ valueOfWord (p .fix .0) ∷ valueOfWord (p .time .0) ∷ valueOfWord (p .level .0) ∷ nones 13
+
 unfoldable pub slots : Body → List Value
-slots (body.Af m) = valueOfIdent (m .ident) ∷ valueOfWord (m .from .0) ∷ valueOfWord (m .to .0) ∷ pairsOf (slotsOf m)
-slots (body.Az m) = padded (valueOfIdent (m .ident) ∷ valueOfWord (m .from .0) ∷ valueOfWord (m .to .0) ∷ valueOfWord (m .clock .0) ∷ [])
-slots (body.Dz m) =
-    padded (valueOfIdent (m .ident) ∷ valueOfAircraft (m .aircraft) ∷ valueOfWord (m .from .0) ∷ valueOfWord (m .time .0) ∷ valueOfWord (m .to .0) ∷ valueOfWord (m .clock .0) ∷ [])
-slots (body.Fz p) = padded (planValues p)
-slots (body.Rz m) = padded (valueOfIdent (m .ident) ∷ valueOfWord (m .from .0) ∷ valueOfWord (m .to .0) ∷ [])
-slots (body.Tz m) = padded (valueOfIdent (m .ident) ∷ valueOfWord (m .speed .0) ∷ valueOfWord (m .level .0) ∷ valueOfWord (m .position .0) ∷ [])
-slots (body.Uz p) = padded (planValues p)
-slots body.Rt = padded []
-slots body.To = padded []
-slots body.Hb = padded []
+slots (body.Af m) = afSlots m
+slots (body.Az m) = azSlots m
+slots (body.Dz m) = dzSlots m
+slots (body.Fz p) = planSlots p
+slots (body.Rz m) = rzSlots m
+slots (body.Tz m) = tzSlots m
+slots (body.Uz p) = planSlots p
+slots body.Rt = nones 19
+slots body.To = nones 19
+slots body.Hb = nones 19
 
 -- the marks that a body keeps
 abbrev pub marksIn : Body → ℕ

@@ -1,6 +1,8 @@
 // A message: its head, its body by type, and whether a space stood at its end. A route and the body of RT, TO and HB
 // are not held: they stay a part of the line.
 use aircraft::Aircraft;
+use fields::flight::Key;
+use fields::flight::Number;
 use fields::frame::Sequence;
 use fields::frame::Stamp;
 use fields::plan::FiledSpeed;
@@ -16,8 +18,10 @@ use fields::track::TrackLevel;
 use heads::Facility;
 use heads::MessageType;
 use idents::Ident;
+use kinds::Value;
 ghost use mathlib.Core.Path.{_≡_};
-ghost use Rattle.messages.specs.Body.{planLevel, typeIn, marksIn};
+ghost use Rattle.kinds.specs.Field.{identIn, aircraftIn};
+ghost use Rattle.messages.specs.Body.{planLevel, amendedIn, heldOf, typeIn, marksIn};
 
 pub struct Az {
     pub ident: Ident,
@@ -76,20 +80,26 @@ pub enum Amended {
     Nothing,
 }
 
-// The amendments in their order, Nothing after the last, and a mark for each number that came.
+// An amendment as a message holds it: its number's mark and the words of its content; `amended` gives these their type.
+pub struct Amendment {
+    pub mark: u64,
+    pub content: Value,
+}
+
+// The amendments in their order, none after the last, and a mark for each number that came.
 pub struct Af {
     pub ident: Ident,
     pub from: Point,
     pub to: Point,
     pub marks: u8,
-    pub first: Amended,
-    pub second: Amended,
-    pub third: Amended,
-    pub fourth: Amended,
-    pub fifth: Amended,
-    pub sixth: Amended,
-    pub seventh: Amended,
-    pub eighth: Amended,
+    pub first: Amendment,
+    pub second: Amendment,
+    pub third: Amendment,
+    pub fourth: Amendment,
+    pub fifth: Amendment,
+    pub sixth: Amendment,
+    pub seventh: Amendment,
+    pub eighth: Amendment,
 }
 
 pub enum Body {
@@ -132,6 +142,62 @@ impl Plan {
     }
 }
 
+fn held(mark: u64, a: u64, b: u64, c: u64) -> Amendment
+    ensures { λ r. ⌜ r ≡ record { mark = mark; content = record { a = a; b = b; c = c } } ⌝ }
+{
+    Amendment {
+        mark,
+        content: Value { a, b, c },
+    }
+}
+
+impl Amendment {
+    // The content by its type; nothing where the mark is no number's.
+    pub fn amended(self) -> Amended
+        ensures { λ r. ⌜ r ≡ amendedIn self ⌝ }
+    {
+        let mark = self.mark;
+        let v = self.content;
+        match mark {
+            1 => return Amended::Ident(Ident {
+                key: Key(v.a),
+                number: Number(v.b),
+            }),
+            2 => return Amended::Aircraft(Aircraft {
+                prefix: v.a,
+                model: v.b,
+                letter: v.c,
+            }),
+            4 => return Amended::Speed(FiledSpeed(v.a)),
+            8 => return Amended::Fix(Fix(v.a)),
+            16 => return Amended::Time(Time(v.a)),
+            32 => return Amended::Assigned(Level(v.a)),
+            64 => return Amended::Requested(Level(v.a)),
+            128 => return Amended::Route,
+            _ => return Amended::Nothing,
+        }
+    }
+}
+
+impl Amended {
+    // As a message holds it.
+    pub fn amendment(self) -> Amendment
+        ensures { λ r. ⌜ r ≡ heldOf self ⌝ }
+    {
+        match self {
+            Amended::Ident(i) => held(1, i.key.0, i.number.0, 0),
+            Amended::Aircraft(x) => held(2, x.prefix, x.model, x.letter),
+            Amended::Speed(x) => held(4, x.0, 0, 0),
+            Amended::Fix(x) => held(8, x.0, 0, 0),
+            Amended::Time(x) => held(16, x.0, 0, 0),
+            Amended::Assigned(x) => held(32, x.0, 0, 0),
+            Amended::Requested(x) => held(64, x.0, 0, 0),
+            Amended::Route => held(128, 0, 0, 0),
+            Amended::Nothing => held(0, 0, 0, 0),
+        }
+    }
+}
+
 pub fn type_in(b: Body) -> MessageType
     ensures { λ r. ⌜ r ≡ typeIn b ⌝ }
 {
@@ -155,14 +221,6 @@ pub fn marks_in(b: Body) -> u8
 {
     match b {
         Body::Af(m) => m.marks,
-        Body::Az(_) => 0,
-        Body::Dz(_) => 0,
-        Body::Fz(_) => 0,
-        Body::Rz(_) => 0,
-        Body::Tz(_) => 0,
-        Body::Uz(_) => 0,
-        Body::Rt => 0,
-        Body::To => 0,
-        Body::Hb => 0,
+        _ => 0,
     }
 }

@@ -1,201 +1,139 @@
 // What the writer must know of a body: the values of its fields. Its type and its marks are asked of `messages`, and what
 // follows from these alone stands in `layout`.
-use aircraft::Aircraft;
-use idents::Ident;
 use kinds::Value;
 use messages::Af;
-use messages::Amended;
+use messages::Az;
 use messages::Body;
+use messages::Dz;
 use messages::Plan;
+use messages::Rz;
+use messages::Tz;
 ghost use mathlib.Core.Path.{_≡_};
-ghost use mathlib.Core.List.{[], _∷_};
-ghost use Rattle.table.specs.Read.{padded};
-ghost use Rattle.messages.specs.Body.{valueOfWord, valueOfIdent, valueOfAircraft, markIn, contentIn, planValues, slots};
-ghost use Rattle.messages.specs.declared.Body.the-variants as body;
+ghost use Rattle.messages.specs.Body.{nones, afSlots, azSlots, dzSlots, rzSlots, tzSlots, planSlots, slots};
 
-fn of_word(t: u64) -> Value
-    ensures { λ r. ⌜ r ≡ valueOfWord t ⌝ }
+fn no_values() -> [Value; 19]
+    ensures { λ r. ⌜ r ≡ nones 19 ⌝ }
 {
-    Value { a: t, b: 0, c: 0 }
+    [Value { a: 0, b: 0, c: 0 }; 19]
 }
 
-fn of_ident(i: Ident) -> Value
-    ensures { λ r. ⌜ r ≡ valueOfIdent i ⌝ }
-{
-    Value {
-        a: i.key.0,
-        b: i.number.0,
-        c: 0,
-    }
-}
-
-fn of_aircraft(x: Aircraft) -> Value
-    ensures { λ r. ⌜ r ≡ valueOfAircraft x ⌝ }
-{
-    Value {
-        a: x.prefix,
-        b: x.model,
-        c: x.letter,
-    }
-}
-
-// The mark of an amendment's number.
-fn mark_in(x: Amended) -> Value
-    ensures { λ r. ⌜ r ≡ valueOfWord (markIn x) ⌝ }
-{
-    match x {
-        Amended::Ident(_) => of_word(1),
-        Amended::Aircraft(_) => of_word(2),
-        Amended::Speed(_) => of_word(4),
-        Amended::Fix(_) => of_word(8),
-        Amended::Time(_) => of_word(16),
-        Amended::Assigned(_) => of_word(32),
-        Amended::Requested(_) => of_word(64),
-        Amended::Route => of_word(128),
-        Amended::Nothing => of_word(0),
-    }
-}
-
-fn content_in(x: Amended) -> Value
-    ensures { λ r. ⌜ r ≡ contentIn x ⌝ }
-{
-    match x {
-        Amended::Ident(i) => of_ident(i),
-        Amended::Aircraft(a) => of_aircraft(a),
-        Amended::Speed(s) => of_word(s.0),
-        Amended::Fix(f) => of_word(f.0),
-        Amended::Time(t) => of_word(t.0),
-        Amended::Assigned(l) => of_word(l.0),
-        Amended::Requested(l) => of_word(l.0),
-        Amended::Route => of_word(0),
-        Amended::Nothing => of_word(0),
-    }
-}
-
-// The values of an AF: three fields, then a number and its content for each amendment.
+// Three fields, then a number and its content for each amendment.
 fn af_values(m: Af) -> [Value; 19]
-    ensures { λ r. ⌜ r ≡ slots (body.Af m) ⌝ }
+    ensures { λ r. ⌜ r ≡ afSlots m ⌝ }
 {
-    let first = m.first;
-    let second = m.second;
-    let third = m.third;
-    let fourth = m.fourth;
-    let fifth = m.fifth;
-    let sixth = m.sixth;
-    let seventh = m.seventh;
-    let eighth = m.eighth;
-    [
-        of_ident(m.ident),
-        of_word(m.from.0),
-        of_word(m.to.0),
-        mark_in(first),
-        content_in(first),
-        mark_in(second),
-        content_in(second),
-        mark_in(third),
-        content_in(third),
-        mark_in(fourth),
-        content_in(fourth),
-        mark_in(fifth),
-        content_in(fifth),
-        mark_in(sixth),
-        content_in(sixth),
-        mark_in(seventh),
-        content_in(seventh),
-        mark_in(eighth),
-        content_in(eighth),
-    ]
+    let first = m.first.content;
+    let second = m.second.content;
+    let third = m.third.content;
+    let fourth = m.fourth.content;
+    let fifth = m.fifth.content;
+    let sixth = m.sixth.content;
+    let seventh = m.seventh.content;
+    let eighth = m.eighth.content;
+    let mut w = [Value { a: 0, b: 0, c: 0 }; 19];
+    w[0].a = m.ident.key.0;
+    w[0].b = m.ident.number.0;
+    w[1].a = m.from.0;
+    w[2].a = m.to.0;
+    w[3].a = m.first.mark;
+    w[4] = first;
+    w[5].a = m.second.mark;
+    w[6] = second;
+    w[7].a = m.third.mark;
+    w[8] = third;
+    w[9].a = m.fourth.mark;
+    w[10] = fourth;
+    w[11].a = m.fifth.mark;
+    w[12] = fifth;
+    w[13].a = m.sixth.mark;
+    w[14] = sixth;
+    w[15].a = m.seventh.mark;
+    w[16] = seventh;
+    w[17].a = m.eighth.mark;
+    w[18] = eighth;
+    w
 }
 
-// Seven values, and none after them.
-fn seven(a: Value, b: Value, c: Value, d: Value, e: Value, f: Value, g: Value) -> [Value; 19]
-    ensures { λ r. ⌜ r ≡ padded (a ∷ b ∷ c ∷ d ∷ e ∷ f ∷ g ∷ []) ⌝ }
+fn az_values(m: Az) -> [Value; 19]
+    ensures { λ r. ⌜ r ≡ azSlots m ⌝ }
 {
-    let none = of_word(0);
-    [
-        a,
-        b,
-        c,
-        d,
-        e,
-        f,
-        g,
-        none,
-        none,
-        none,
-        none,
-        none,
-        none,
-        none,
-        none,
-        none,
-        none,
-        none,
-        none,
-    ]
+    let mut w = [Value { a: 0, b: 0, c: 0 }; 19];
+    w[0].a = m.ident.key.0;
+    w[0].b = m.ident.number.0;
+    w[1].a = m.from.0;
+    w[2].a = m.to.0;
+    w[3].a = m.clock.0;
+    w
+}
+
+fn dz_values(m: Dz) -> [Value; 19]
+    ensures { λ r. ⌜ r ≡ dzSlots m ⌝ }
+{
+    let mut w = [Value { a: 0, b: 0, c: 0 }; 19];
+    w[0].a = m.ident.key.0;
+    w[0].b = m.ident.number.0;
+    w[1].a = m.aircraft.prefix;
+    w[1].b = m.aircraft.model;
+    w[1].c = m.aircraft.letter;
+    w[2].a = m.from.0;
+    w[3].a = m.time.0;
+    w[4].a = m.to.0;
+    w[5].a = m.clock.0;
+    w
+}
+
+fn rz_values(m: Rz) -> [Value; 19]
+    ensures { λ r. ⌜ r ≡ rzSlots m ⌝ }
+{
+    let mut w = [Value { a: 0, b: 0, c: 0 }; 19];
+    w[0].a = m.ident.key.0;
+    w[0].b = m.ident.number.0;
+    w[1].a = m.from.0;
+    w[2].a = m.to.0;
+    w
+}
+
+fn tz_values(m: Tz) -> [Value; 19]
+    ensures { λ r. ⌜ r ≡ tzSlots m ⌝ }
+{
+    let mut w = [Value { a: 0, b: 0, c: 0 }; 19];
+    w[0].a = m.ident.key.0;
+    w[0].b = m.ident.number.0;
+    w[1].a = m.speed.0;
+    w[2].a = m.level.0;
+    w[3].a = m.position.0;
+    w
 }
 
 fn plan_values(p: Plan) -> [Value; 19]
-    ensures { λ r. ⌜ r ≡ padded (planValues p) ⌝ }
+    ensures { λ r. ⌜ r ≡ planSlots p ⌝ }
 {
-    seven(
-        of_ident(p.ident),
-        of_aircraft(p.aircraft),
-        of_word(p.speed.0),
-        of_word(p.fix.0),
-        of_word(p.time.0),
-        of_word(p.level.0),
-        of_word(0),
-    )
+    let mut w = [Value { a: 0, b: 0, c: 0 }; 19];
+    w[0].a = p.ident.key.0;
+    w[0].b = p.ident.number.0;
+    w[1].a = p.aircraft.prefix;
+    w[1].b = p.aircraft.model;
+    w[1].c = p.aircraft.letter;
+    w[2].a = p.speed.0;
+    w[3].a = p.fix.0;
+    w[4].a = p.time.0;
+    w[5].a = p.level.0;
+    w
 }
 
 // The values of the fields, and none after them; of an AF those of all eight amendments.
 pub fn values_in(b: Body) -> [Value; 19]
     ensures { λ r. ⌜ r ≡ slots b ⌝ }
 {
-    let none = of_word(0);
     match b {
         Body::Af(m) => af_values(m),
-        Body::Az(m) => seven(
-            of_ident(m.ident),
-            of_word(m.from.0),
-            of_word(m.to.0),
-            of_word(m.clock.0),
-            none,
-            none,
-            none,
-        ),
-        Body::Dz(m) => seven(
-            of_ident(m.ident),
-            of_aircraft(m.aircraft),
-            of_word(m.from.0),
-            of_word(m.time.0),
-            of_word(m.to.0),
-            of_word(m.clock.0),
-            none,
-        ),
+        Body::Az(m) => az_values(m),
+        Body::Dz(m) => dz_values(m),
         Body::Fz(p) => plan_values(p),
-        Body::Rz(m) => seven(
-            of_ident(m.ident),
-            of_word(m.from.0),
-            of_word(m.to.0),
-            none,
-            none,
-            none,
-            none,
-        ),
-        Body::Tz(m) => seven(
-            of_ident(m.ident),
-            of_word(m.speed.0),
-            of_word(m.level.0),
-            of_word(m.position.0),
-            none,
-            none,
-            none,
-        ),
+        Body::Rz(m) => rz_values(m),
+        Body::Tz(m) => tz_values(m),
         Body::Uz(p) => plan_values(p),
-        Body::Rt => seven(none, none, none, none, none, none, none),
-        Body::To => seven(none, none, none, none, none, none, none),
-        Body::Hb => seven(none, none, none, none, none, none, none),
+        Body::Rt => no_values(),
+        Body::To => no_values(),
+        Body::Hb => no_values(),
     }
 }
