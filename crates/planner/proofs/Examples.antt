@@ -48,7 +48,6 @@ use Rattle.line.specs.Read.{headOf, restOf, readOf}
 use Rattle.asks.specs.Asked.{askedBy, askedOf}
 use Rattle.asks.specs.declared.Asked.the-variants as asked
 use Rattle.planner.specs.Apply.{eventOf, lineEvent, strikeEvent, answerTo, applyOf, boardAfter, strikeOf, boardStruck, lineNumber, strikeNumber, strikePlace}
-use Rattle.planner.specs.declared.LineAnswer.the-variants as line
 use Rattle.planner.proofs.apply.Reads as apply
 use Rattle.planner.proofs.apply_allowed.Reads as apply-allowed
 use Rattle.planner.proofs.strike.Reads as strike
@@ -89,7 +88,7 @@ module _ (l : List ℕ) (a : isAllowed l ≡ true) (c : length (rowsOf l) ≡ 25
   pub none-fits : fits (rowsOf l) (word "QQX12") ≡ false
   none-fits = is-full (word "QQX12") (rowsOf l) (fair (rowsOf l) (board-rows l a) .rising) o (omega (arith, cap-is))
 
-  full-answer : answerTo (rowsOf l) (askedOf tz) ≡ line.Full
+  full-answer : lineNumber (answerTo (rowsOf l) (askedOf tz)) ≡ 12
   full-answer = rw (asks .0, none-fits)
 
   full-words : wordsOf (rowsAfter (rowsOf l) (eventOf (askedOf tz))) ≡ l
@@ -130,7 +129,7 @@ pub full-is-taken-allowed : (κs : _) (a : _) (r : _) (s : _) → apply-allowed.
     isAllowed l ≡ true → length (rowsOf l) ≡ 256 → lookup (word "QQX12") (rowsOf l) ≡ none → now (a .1 .0) ≡ tz → (lineNumber r ≡ 12) × (now (s .0) ≡ l)
 full-is-taken-allowed κs a r s p b c o f =
     let l = now (a .0) in
-    (rw (p .answered, f, full-answer l b c o), p .words ∙ rw f (full-words l b c o))
+    (rw (p .answered, f) (full-answer l b c o), p .words ∙ rw f (full-words l b c o))
 
 -- ---- `strike`
 
