@@ -24,19 +24,17 @@ use messages::Plan;
 use messages::Rz;
 use messages::Tz;
 use table::Answer;
+use table::Fault;
 use table::TableRead;
 ghost use mathlib.Core.Path.{_≡_};
 ghost use Rattle.kinds.specs.Field.{identIn, aircraftIn};
 ghost use Rattle.messages.specs.Body.{amendedIn, afFrom, planFrom, bodyFrom};
 ghost use Rattle.bodies.specs.Read.{typedOf, bodyRead};
 
-// What a body is read as: the answers 0, 8, 9, 10 and 18, with the place of the field.
+// What a body is read as, and whether a space stands at its end; or its fault.
 pub enum BodyRead {
     Read(Body, bool),
-    Spacing,
-    Field(usize),
-    Number(usize),
-    Two(usize),
+    Refused(Fault),
 }
 
 fn ident_in(v: Value) -> Ident
@@ -154,10 +152,7 @@ fn typed(t: MessageType, read: TableRead) -> BodyRead
     let values = read.values;
     match answer {
         Answer::Taken(trailing, marks) => BodyRead::Read(body_from(t, marks, values), trailing),
-        Answer::Spacing => BodyRead::Spacing,
-        Answer::Field(place) => BodyRead::Field(place),
-        Answer::Number(place) => BodyRead::Number(place),
-        Answer::Two(place) => BodyRead::Two(place),
+        Answer::Refused(fault) => BodyRead::Refused(fault),
     }
 }
 

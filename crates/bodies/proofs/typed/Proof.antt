@@ -6,14 +6,8 @@ use Rattle.bodies.proofs.typed.Tie as tie
 returns : tie.Need-returns
 returns c = rw (c .before .before .answer .given .1, c .body-from .ensures)
 
-returns-3 : tie.Need-returns-3
-returns-3 c = rw (c .before .answer2 .given .1)
-
-returns-4 : tie.Need-returns-4
-returns-4 c = rw (c .before .answer3 .given .1)
-
-returns-5 : tie.Need-returns-5
-returns-5 c = rw (c .before .answer4 .given .1)
+returns-2 : tie.Need-returns-2
+returns-2 c = rw (c .before .answer2 .given .1)
 
 pub typed-spec : {M : Type 1} → statement M
 typed-spec =
@@ -22,11 +16,5 @@ typed-spec =
     (λ c. search needs)
     (λ c κs. search needs)
     (λ c. search needs)
-    (λ c. search needs)
-    (λ c. search needs)
-    (λ c. search needs)
     returns
-    (λ c. search needs)
-    returns-3
-    returns-4
-    returns-5)
+    returns-2)
