@@ -38,6 +38,7 @@ use Rattle.heads.proofs.Messages.{type-sound, type-complete, length-type}
 use Rattle.line.specs.Read.{typed, headOf}
 use Rattle.line.specs.declared.Head.{Head}
 use Rattle.line.specs.declared.HeadRead.the-variants as head
+use Rattle.line.specs.declared.Refusal.the-variants.{NoSequence, NoStamp, NoFacility}
 
 -- ---- a line is its five parts
 
@@ -147,9 +148,9 @@ where-fails false w x r f g e = g refl e
 pub head-sound : (s : List ℕ) (h : Head) → headOf s ≡ head.Read h → IsHeadOf h s
 unfolding headOf
 head-sound s h =
-    where-holds (isSequence (part 0 4 s)) _ head.NoSequence (head.Read h) (λ e. let z : _≡_ {A = ℕ} 0 1 = cc in omega arith)
-    (λ p. where-holds (isStamp (part 4 8 s)) _ head.NoStamp (head.Read h) (λ e. let z : _≡_ {A = ℕ} 0 1 = cc in omega arith)
-    (λ q. where-holds (isFacility (part 12 4 s)) _ head.NoFacility (head.Read h) (λ e. let z : _≡_ {A = ℕ} 0 1 = cc in omega arith)
+    where-holds (isSequence (part 0 4 s)) _ (head.Refused NoSequence) (head.Read h) (λ e. let z : _≡_ {A = ℕ} 0 1 = cc in omega arith)
+    (λ p. where-holds (isStamp (part 4 8 s)) _ (head.Refused NoStamp) (head.Read h) (λ e. let z : _≡_ {A = ℕ} 0 1 = cc in omega arith)
+    (λ q. where-holds (isFacility (part 12 4 s)) _ (head.Refused NoFacility) (head.Read h) (λ e. let z : _≡_ {A = ℕ} 0 1 = cc in omega arith)
     (λ r. go p q r (typeOf (part 16 2 s)) refl)))
   where
     go : isSequence (part 0 4 s) ≡ true → isStamp (part 4 8 s) ≡ true → isFacility (part 12 4 s) ≡ true → (d : TypeRead) → typeOf (part 16 2 s) ≡ d → typed s d ≡ head.Read h → IsHeadOf h s

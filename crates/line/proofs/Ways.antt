@@ -39,7 +39,8 @@ use Rattle.line.specs.Read.{headOf, withBody, restOf, byHead, readOf, fr
 use Rattle.line.specs.declared.Head.{Head}
 use Rattle.line.specs.declared.HeadRead.{HeadRead}
 use Rattle.line.specs.declared.HeadRead.the-variants as head
-use Rattle.line.specs.declared.LineRead.the-variants.{Short, Long, Unprintable, LongPlan}
+use Rattle.line.specs.declared.LineRead.the-variants.{Refused}
+use Rattle.line.specs.declared.Refusal.the-variants.{Short, Long, Unprintable, NoSequence, NoStamp, NoFacility, NoType, LongPlan}
 
 -- ---- one part of the head
 
@@ -94,22 +95,22 @@ facility-is p x e = go (isFacility p) refl
 -- ---- the head
 
 module _ (s : List ℕ) where
-  pub no-sequence : asSequence (wordOf SEQUENCE (part 0 4 s)) ≡ sequence.Nothing → head.NoSequence ≡ headOf s
+  pub no-sequence : asSequence (wordOf SEQUENCE (part 0 4 s)) ≡ sequence.Nothing → head.Refused NoSequence ≡ headOf s
   unfolding headOf
   no-sequence e = rw (sequence-none (part 0 4 s) e)
 
   module _ (x : Sequence) (e : asSequence (wordOf SEQUENCE (part 0 4 s)) ≡ sequence.Read x) where
-    pub no-stamp : asStamp (wordOf STAMP (part 4 8 s)) ≡ stamp.Nothing → head.NoStamp ≡ headOf s
+    pub no-stamp : asStamp (wordOf STAMP (part 4 8 s)) ≡ stamp.Nothing → head.Refused NoStamp ≡ headOf s
     unfolding headOf
     no-stamp f = rw (sequence-is (part 0 4 s) x e .0, stamp-none (part 4 8 s) f)
 
     module _ (y : Stamp) (f : asStamp (wordOf STAMP (part 4 8 s)) ≡ stamp.Read y) where
-      pub no-facility : facilityOf (part 12 4 s) ≡ facility.Nothing → head.NoFacility ≡ headOf s
+      pub no-facility : facilityOf (part 12 4 s) ≡ facility.Nothing → head.Refused NoFacility ≡ headOf s
       unfolding headOf
       no-facility g = rw (sequence-is (part 0 4 s) x e .0, stamp-is (part 4 8 s) y f .0, facility-none (part 12 4 s) g)
 
       module _ (z : Facility) (g : facilityOf (part 12 4 s) ≡ facility.Read z) where
-        pub no-type : typeOf (part 16 2 s) ≡ type.Nothing → head.NoType ≡ headOf s
+        pub no-type : typeOf (part 16 2 s) ≡ type.Nothing → head.Refused NoType ≡ headOf s
         unfolding headOf
         no-type h = rw (sequence-is (part 0 4 s) x e .0, stamp-is (part 4 8 s) y f .0, facility-is (part 12 4 s) z g .0, h)
 
@@ -150,7 +151,7 @@ no-plan Hb n h = refl
 -- ---- the body after the head
 
 module _ (h : Head) (s : List ℕ) where
-  pub rest-long : isLongPlan (h .kind) (length s) ≡ true → LongPlan ≡ restOf h s
+  pub rest-long : isLongPlan (h .kind) (length s) ≡ true → Refused LongPlan ≡ restOf h s
   unfolding restOf
   rest-long e = rw e
 
@@ -161,17 +162,17 @@ module _ (h : Head) (s : List ℕ) where
 -- ---- the line
 
 module _ (s : List ℕ) where
-  pub line-short : length s < 18 → Short ≡ readOf s
+  pub line-short : length s < 18 → Refused Short ≡ readOf s
   unfolding readOf
   line-short h = rw (lt-ltb (length s) 18 h)
 
   module _ (enough : 18 ≤ length s) where
-    pub line-long : 2048 < length s → Long ≡ readOf s
+    pub line-long : 2048 < length s → Refused Long ≡ readOf s
     unfolding readOf
     line-long h = rw (le-ltb (length s) 18 enough, lt-ltb 2048 (length s) h)
 
     module _ (few : length s ≤ 2048) where
-      pub line-byte : allIn 32 126 s ≡ false → Unprintable ≡ readOf s
+      pub line-byte : allIn 32 126 s ≡ false → Refused Unprintable ≡ readOf s
       unfolding readOf
       line-byte e = rw (le-ltb (length s) 18 enough, le-ltb 2048 (length s) few, e)
 

@@ -10,15 +10,15 @@ use heads::FacilityRead;
 use heads::MessageType;
 use heads::TypeRead;
 use messages::Message;
+use table::Fault;
 ghost use mathlib.Core.Path.{_≡_};
 ghost use Prim.Native.Nat.{_≤_};
 ghost use lib.ListN.{length};
 ghost use Rattle.line.specs.Cases.{Case};
 ghost use Rattle.line.specs.Read.{headOf, restOf, readOf, numberOf, placeOf, freeOf};
 
-// A line that is read, or document 01's answers 1 to 11 and 18, with the place of the field.
-pub enum LineRead {
-    Read(Message),
+// Document 01's answers 1 to 7 and 11; and 8, 9, 10 and 18 as the body's fault.
+pub enum Refusal {
     Short,
     Long,
     Unprintable,
@@ -26,11 +26,13 @@ pub enum LineRead {
     NoStamp,
     NoFacility,
     NoType,
-    Spacing,
-    Field(usize),
-    Number(usize),
     LongPlan,
-    Two(usize),
+    Body(Fault),
+}
+
+pub enum LineRead {
+    Read(Message),
+    Refused(Refusal),
 }
 
 // What stands before the body.
@@ -43,10 +45,7 @@ pub struct Head {
 
 pub enum HeadRead {
     Read(Head),
-    NoSequence,
-    NoStamp,
-    NoFacility,
-    NoType,
+    Refused(Refusal),
 }
 
 fn read_head(line: &[u8]) -> HeadRead
@@ -54,16 +53,16 @@ fn read_head(line: &[u8]) -> HeadRead
     ensures { λ r. ⌜ r ≡ headOf (now (line .entry)) ⌝ }
 {
     let SequenceRead::Read(sequence) = Sequence::read(&line[0..4]) else {
-        return HeadRead::NoSequence;
+        return HeadRead::Refused(Refusal::NoSequence);
     };
     let StampRead::Read(stamp) = Stamp::read(&line[4..12]) else {
-        return HeadRead::NoStamp;
+        return HeadRead::Refused(Refusal::NoStamp);
     };
     let FacilityRead::Read(facility) = Facility::read(&line[12..16]) else {
-        return HeadRead::NoFacility;
+        return HeadRead::Refused(Refusal::NoFacility);
     };
     let TypeRead::Read(kind) = MessageType::read(&line[16..18]) else {
-        return HeadRead::NoType;
+        return HeadRead::Refused(Refusal::NoType);
     };
     HeadRead::Read(Head {
         sequence,
@@ -80,7 +79,7 @@ fn read_rest(head: Head, line: &[u8]) -> LineRead
 {
     let kind = head.kind;
     if counts::is_long_plan(kind, line.len()) {
-        return LineRead::LongPlan;
+        return LineRead::Refused(Refusal::LongPlan);
     }
     let read = read_body(kind, &line[18..]);
     match read {
@@ -96,10 +95,7 @@ fn read_rest(head: Head, line: &[u8]) -> LineRead
                 trailing,
             })
         }
-        BodyRead::Spacing => LineRead::Spacing,
-        BodyRead::Field(place) => LineRead::Field(place),
-        BodyRead::Number(place) => LineRead::Number(place),
-        BodyRead::Two(place) => LineRead::Two(place),
+        BodyRead::Refused(fault) => LineRead::Refused(Refusal::Body(fault)),
     }
 }
 
@@ -110,21 +106,18 @@ pub fn read(line: &[u8]) -> LineRead
     ensures { λ r. ⌜ Case (now (line .entry)) (numberOf r) (placeOf r) ⌝ }
 {
     if line.len() < 18 {
-        return LineRead::Short;
+        return LineRead::Refused(Refusal::Short);
     }
     if line.len() > 2048 {
-        return LineRead::Long;
+        return LineRead::Refused(Refusal::Long);
     }
     if !sweeps::each_within(32, 126, line) {
-        return LineRead::Unprintable;
+        return LineRead::Refused(Refusal::Unprintable);
     }
     let head = read_head(line);
     match head {
         HeadRead::Read(head) => read_rest(head, line),
-        HeadRead::NoSequence => LineRead::NoSequence,
-        HeadRead::NoStamp => LineRead::NoStamp,
-        HeadRead::NoFacility => LineRead::NoFacility,
-        HeadRead::NoType => LineRead::NoType,
+        HeadRead::Refused(refusal) => LineRead::Refused(refusal),
     }
 }
 
