@@ -44,19 +44,19 @@ refused-exactly s = (
 )
 
 -- no refusal has the number 0, or the 12 of a full board
-pub no-refusal : (x : Refusal) (n : ℕ) → n ≡ refusalNumber x → (n ≡ 0 → ⊥) × (n ≡ 12 → ⊥)
-no-refusal Short n e = (λ z. omega arith, λ z. omega arith)
-no-refusal Long n e = (λ z. omega arith, λ z. omega arith)
-no-refusal Unprintable n e = (λ z. omega arith, λ z. omega arith)
-no-refusal NoSequence n e = (λ z. omega arith, λ z. omega arith)
-no-refusal NoStamp n e = (λ z. omega arith, λ z. omega arith)
-no-refusal NoFacility n e = (λ z. omega arith, λ z. omega arith)
-no-refusal NoType n e = (λ z. omega arith, λ z. omega arith)
-no-refusal LongPlan n e = (λ z. omega arith, λ z. omega arith)
-no-refusal (Body Spacing) n e = (λ z. omega arith, λ z. omega arith)
-no-refusal (Body (Field i)) n e = (λ z. omega arith, λ z. omega arith)
-no-refusal (Body (Number i)) n e = (λ z. omega arith, λ z. omega arith)
-no-refusal (Body (Two i)) n e = (λ z. omega arith, λ z. omega arith)
+pub no-refusal : (x : Refusal) → (refusalNumber x ≡ 0 → ⊥) × (refusalNumber x ≡ 12 → ⊥)
+no-refusal Short = (λ z. omega arith, λ z. omega arith)
+no-refusal Long = (λ z. omega arith, λ z. omega arith)
+no-refusal Unprintable = (λ z. omega arith, λ z. omega arith)
+no-refusal NoSequence = (λ z. omega arith, λ z. omega arith)
+no-refusal NoStamp = (λ z. omega arith, λ z. omega arith)
+no-refusal NoFacility = (λ z. omega arith, λ z. omega arith)
+no-refusal NoType = (λ z. omega arith, λ z. omega arith)
+no-refusal LongPlan = (λ z. omega arith, λ z. omega arith)
+no-refusal (Body Spacing) = (λ z. omega arith, λ z. omega arith)
+no-refusal (Body (Field i)) = (λ z. omega arith, λ z. omega arith)
+no-refusal (Body (Number i)) = (λ z. omega arith, λ z. omega arith)
+no-refusal (Body (Two i)) = (λ z. omega arith, λ z. omega arith)
 
 -- and its answer number is 0 exactly if it reads
 pub number-zero : (s : List ℕ) → numberOf (readOf s) ≡ 0 → (m : Message) × (readOf s ≡ Read m)
@@ -64,7 +64,7 @@ number-zero s e = go (readOf s) e
   where
     go : (r : LineRead) → numberOf r ≡ 0 → (m : Message) × (r ≡ Read m)
     go (Read m) e = (m, refl)
-    go (Refused x) e = absurd (no-refusal x 0 (sym e) .0 refl)
+    go (Refused x) e = absurd (no-refusal x .0 e)
 
 pub zero-number : (s : List ℕ) (m : Message) → readOf s ≡ Read m → numberOf (readOf s) ≡ 0
 zero-number s m e = ap numberOf e
