@@ -5,3 +5,4 @@ pub mod Allowed
 pub mod Theorems
 pub mod Ways
 pub mod Unique
+pub mod Examples

@@ -1,7 +1,8 @@
--- The ways of the functions: counts by type, and the limit of a plan's line. Assumes nothing.
+-- What holds of each type holds of all; the ways of the functions: counts by type, and the limit of a plan's line. Assumes
+-- nothing.
 use mathlib.Core.Path.{_≡_, refl}
 use mathlib.Core.Bool.{false, not}
-use mathlib.Core.List.{[], _∷_}
+use mathlib.Core.List.{List, [], _∷_}
 use Prim.Native.Nat.{ℕ, _-_}
 use native.Mathlib.Omega.{arith}
 use denote.Enum.Declared.{tagOf}
@@ -10,59 +11,63 @@ use lib.Count.{ones}
 use lib.Dec.{eqb, ltb}
 use borrow.Author.Tests.{ltb-true, lt-ltb}
 use Rattle.text.proofs.Logic.{same-test}
+use Rattle.shapes.specs.Picture.{isOf, fits}
 use Rattle.heads.specs.declared.MessageType.{MessageType}
 use Rattle.heads.specs.declared.MessageType.the-variants.{Af, Az, Dz, Fz, Rz, Tz, Uz, Rt, To, Hb}
 use Rattle.heads.proofs.MessageType.{the-type}
-use Rattle.counts.specs.Table.{countWith, isCount, hasFields}
-use Rattle.counts.specs.Plan.{isLongPlan}
+use Rattle.counts.specs.Table.{countWith, isCount, hasFields, hasRouteWith}
+use Rattle.counts.specs.Plan.{longestPlan, isLongPlan}
 
--- ---- counts by type
+pub each-type : (X : MessageType → Type 0) → X Af → X Az → X Dz → X Fz → X Rz → X Tz → X Uz → X Rt → X To → X Hb → (t : MessageType) → X t
+each-type X af az dz fz rz tz uz rt to hb Af = af
+each-type X af az dz fz rz tz uz rt to hb Az = az
+each-type X af az dz fz rz tz uz rt to hb Dz = dz
+each-type X af az dz fz rz tz uz rt to hb Fz = fz
+each-type X af az dz fz rz tz uz rt to hb Rz = rz
+each-type X af az dz fz rz tz uz rt to hb Tz = tz
+each-type X af az dz fz rz tz uz rt to hb Uz = uz
+each-type X af az dz fz rz tz uz rt to hb Rt = rt
+each-type X af az dz fz rz tz uz rt to hb To = to
+each-type X af az dz fz rz tz uz rt to hb Hb = hb
 
 -- a type has fields exactly if some are counted
 pub counts-fields : (t : MessageType) → not (eqb (countWith t 0) 0) ≡ hasFields t
 unfolding countWith ones
-counts-fields Af = refl
-counts-fields Az = refl
-counts-fields Dz = refl
-counts-fields Fz = refl
-counts-fields Rz = refl
-counts-fields Tz = refl
-counts-fields Uz = refl
-counts-fields Rt = refl
-counts-fields To = refl
-counts-fields Hb = refl
+counts-fields = each-type (λ t. not (eqb (countWith t 0) 0) ≡ hasFields t) refl refl refl refl refl refl refl refl refl refl
 
 -- the types after AF, of which the code tells only the variant's number, have one right count
-pub one-count : (t : MessageType) (n : ℕ) → OneOf (1 ∷ 2 ∷ 3 ∷ 4 ∷ 5 ∷ 6 ∷ 7 ∷ 8 ∷ 9 ∷ []) (tagOf the-type t) → eqb n (countWith t 0) ≡ isCount t n
-unfolding isCount
-one-count Af n h = absurd (miss (1 ∷ 2 ∷ 3 ∷ 4 ∷ 5 ∷ 6 ∷ 7 ∷ 8 ∷ 9 ∷ []) 0 tt h)
-one-count Az n h = refl
-one-count Dz n h = refl
-one-count Fz n h = refl
-one-count Rz n h = refl
-one-count Tz n h = refl
-one-count Uz n h = refl
-one-count Rt n h = refl
-one-count To n h = refl
-one-count Hb n h = refl
+abbrev not-af : List ℕ
+not-af = 1 ∷ 2 ∷ 3 ∷ 4 ∷ 5 ∷ 6 ∷ 7 ∷ 8 ∷ 9 ∷ []
 
--- ---- an FZ over 439 bytes from its type has over 455 from its start
+pub one-count : (t : MessageType) (n : ℕ) → OneOf not-af (tagOf the-type t) → eqb n (countWith t 0) ≡ isCount t n
+unfolding isCount countWith
+one-count t n =
+    each-type (λ t. OneOf not-af (tagOf the-type t) → eqb n (countWith t 0) ≡ isCount t n)
+    (λ h. absurd (miss not-af 0 tt h)) (λ h. refl) (λ h. refl) (λ h. refl) (λ h. refl) (λ h. refl) (λ h. refl) (λ h. refl) (λ h. refl) (λ h. refl) t
 
-pub long-plan : (n : ℕ) → ltb 455 n ≡ ltb 439 (n - 16)
+-- the types that the code does not name have no route
+abbrev unrouted : List ℕ
+unrouted = 1 ∷ 2 ∷ 4 ∷ 5 ∷ 7 ∷ 8 ∷ 9 ∷ []
+
+pub no-route : (t : MessageType) (m : ℕ) → OneOf unrouted (tagOf the-type t) → false ≡ hasRouteWith t m
+no-route t m =
+    each-type (λ t. OneOf unrouted (tagOf the-type t) → false ≡ hasRouteWith t m)
+    (λ h. absurd (miss unrouted 0 tt h)) (λ h. refl) (λ h. refl) (λ h. absurd (miss unrouted 3 tt h)) (λ h. refl) (λ h. refl) (λ h. absurd (miss unrouted 6 tt h)) (λ h. refl) (λ h. refl) (λ h. refl) t
+
+-- an FZ over 439 bytes from its type has over 455 from its start
+pub long-plan : (n : ℕ) → ltb 455 n ≡ isLongPlan Fz n
+unfolding fits isOf
 long-plan n =
-    same-test (ltb 455 n) (ltb 439 (n - 16))
-    (λ e. let h = ltb-true 455 n e in lt-ltb 439 (n - 16) (omega arith))
-    (λ e. let h = ltb-true 439 (n - 16) e in lt-ltb 455 n (omega arith))
+    same-test (ltb 455 n) (ltb longestPlan (n - 16))
+    (λ e. let h = ltb-true 455 n e in lt-ltb longestPlan (n - 16) (omega arith))
+    (λ e. let h = ltb-true longestPlan (n - 16) e in lt-ltb 455 n (omega arith))
 
--- no other type has that limit, of which the code tells only the variant's number
-pub no-plan : (t : MessageType) (n : ℕ) → OneOf (0 ∷ 1 ∷ 2 ∷ 4 ∷ 5 ∷ 6 ∷ 7 ∷ 8 ∷ 9 ∷ []) (tagOf the-type t) → false ≡ isLongPlan t n
-no-plan Af n h = refl
-no-plan Az n h = refl
-no-plan Dz n h = refl
-no-plan Fz n h = absurd (miss (0 ∷ 1 ∷ 2 ∷ 4 ∷ 5 ∷ 6 ∷ 7 ∷ 8 ∷ 9 ∷ []) 3 tt h)
-no-plan Rz n h = refl
-no-plan Tz n h = refl
-no-plan Uz n h = refl
-no-plan Rt n h = refl
-no-plan To n h = refl
-no-plan Hb n h = refl
+-- no other type has that limit
+abbrev not-fz : List ℕ
+not-fz = 0 ∷ 1 ∷ 2 ∷ 4 ∷ 5 ∷ 6 ∷ 7 ∷ 8 ∷ 9 ∷ []
+
+pub no-plan : (t : MessageType) (n : ℕ) → OneOf not-fz (tagOf the-type t) → false ≡ isLongPlan t n
+unfolding fits isOf
+no-plan t n =
+    each-type (λ t. OneOf not-fz (tagOf the-type t) → false ≡ isLongPlan t n)
+    (λ h. refl) (λ h. refl) (λ h. refl) (λ h. absurd (miss not-fz 3 tt h)) (λ h. refl) (λ h. refl) (λ h. refl) (λ h. refl) (λ h. refl) (λ h. refl) t

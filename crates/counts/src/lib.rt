@@ -39,21 +39,15 @@ pub fn has_fields(t: MessageType) -> bool
     field_count(t, 0) != 0
 }
 
-// Whether a route is among the fields.
+// Whether a route is among the fields; of an AF if its number, 10, came.
 pub fn has_route(t: MessageType, marks: u8) -> bool
     ensures { λ r. ⌜ r ≡ hasRouteWith t marks ⌝ }
 {
     match t {
         MessageType::Af => marks & 128 != 0,
-        MessageType::Az => false,
-        MessageType::Dz => false,
         MessageType::Fz => true,
-        MessageType::Rz => false,
-        MessageType::Tz => false,
         MessageType::Uz => true,
-        MessageType::Rt => false,
-        MessageType::To => false,
-        MessageType::Hb => false,
+        _ => false,
     }
 }
 

@@ -5,3 +5,4 @@ pub mod Feeds
 pub mod Runs
 pub mod Theorems
 pub mod Unique
+pub mod Examples

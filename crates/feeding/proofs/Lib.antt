@@ -5,3 +5,4 @@ pub mod Steps
 pub mod Cases
 pub mod Theorems
 pub mod Unique
+pub mod Examples

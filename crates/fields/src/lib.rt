@@ -1,5 +1,5 @@
-// The fields of document 01, each with a type of its own: read from bytes, tested, written back, and asked for its meaning.
-// No function takes one for another.
+// The fields of document 01, each with a type of its own, so that no function takes one for another. A type has what is asked of it
+// by name; of every kind alike, `words` reads, tests and writes.
 pub mod flight;
 pub mod frame;
 pub mod plan;

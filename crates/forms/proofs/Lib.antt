@@ -2,3 +2,4 @@ pub mod Held
 pub mod Minutes
 pub mod Parts
 pub mod Unique
+pub mod Examples

@@ -2,3 +2,4 @@ pub mod Facilities
 pub mod Messages
 pub mod Answers
 pub mod Unique
+pub mod Examples

@@ -2,3 +2,4 @@ pub mod Slashes
 pub mod Idents
 pub mod Answers
 pub mod Unique
+pub mod Examples

@@ -1,3 +1,4 @@
 pub mod Ways
 pub mod Tables
 pub mod Unique
+pub mod Examples

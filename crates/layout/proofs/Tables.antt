@@ -1,7 +1,7 @@
 -- Document 01's table, row by row: what holds of each row by computation holds of every type and count. Assumes
 -- nothing.
 use mathlib.Core.Path.{_≡_, refl, sym, subst}
-use mathlib.Core.Bool.{true, _&&_}
+use mathlib.Core.Bool.{true, cond, _&&_}
 use mathlib.Core.List.{List, [], _∷_}
 use Prim.Native.Nat.{ℕ, zero, suc, _+_, _*_, _/_, _%_, _≤_}
 use native.Mathlib.Omega.{arith}
@@ -19,7 +19,8 @@ use Rattle.table.proofs.Marks.{times}
 use Rattle.table.proofs.Routes.{oneRoute, none-more, routed-letter, routed-none}
 use Rattle.table.proofs.Amends.{followed, amends, routed-marks}
 use Rattle.table.proofs.Theorems.{allowed-taken}
-use Rattle.counts.specs.Table.{countWith, isCount, hasRouteWith}
+use Rattle.counts.specs.Table.{hasAmendments, countWith, isCount, hasRouteWith}
+use Rattle.counts.proofs.Ways.{each-type}
 use Rattle.layout.specs.Table.{kindsOf}
 
 -- the counts of an AF: 5, 7 .. 19
@@ -101,44 +102,17 @@ no-marks (k ∷ ks) p m r (v ∷ vs) e =
     let h = none-more AMENDMENT k ks e in
     rw (h .0) (no-marks ks (leftOf k (shown k p r v)) m r vs (h .1))
 
--- only an AF keeps marks
+-- only a type with amendments keeps marks
 abbrev pub marksKept : MessageType → ℕ → ℕ
-marksKept Af m = m
-marksKept Az m = 0
-marksKept Dz m = 0
-marksKept Fz m = 0
-marksKept Rz m = 0
-marksKept Tz m = 0
-marksKept Uz m = 0
-marksKept Rt m = 0
-marksKept To m = 0
-marksKept Hb m = 0
+marksKept t m = cond (hasAmendments t) m 0
 
 -- where a type keeps no marks, neither the count of its fields nor a route goes by them
 pub kept-count : (t : MessageType) (m : ℕ) → countWith t (marksKept t m) ≡ countWith t m
 unfolding countWith
-kept-count Af m = refl
-kept-count Az m = refl
-kept-count Dz m = refl
-kept-count Fz m = refl
-kept-count Rz m = refl
-kept-count Tz m = refl
-kept-count Uz m = refl
-kept-count Rt m = refl
-kept-count To m = refl
-kept-count Hb m = refl
+kept-count t m = each-type (λ t. countWith t (marksKept t m) ≡ countWith t m) refl refl refl refl refl refl refl refl refl refl t
 
 pub kept-route : (t : MessageType) (m : ℕ) → hasRouteWith t (marksKept t m) ≡ hasRouteWith t m
-kept-route Af m = refl
-kept-route Az m = refl
-kept-route Dz m = refl
-kept-route Fz m = refl
-kept-route Rz m = refl
-kept-route Tz m = refl
-kept-route Uz m = refl
-kept-route Rt m = refl
-kept-route To m = refl
-kept-route Hb m = refl
+kept-route t m = each-type (λ t. hasRouteWith t (marksKept t m) ≡ hasRouteWith t m) refl refl refl refl refl refl refl refl refl refl t
 
 -- the fields of a type without amendments set none
 pub marks-none : (r : List ℕ) (vs : List Value) (t : MessageType) (n : ℕ) → isCount t n ≡ true → marksFrom (kindsOf t n) 0 0 r vs ≡ marksKept t (marksFrom (kindsOf t n) 0 0 r vs)

@@ -1,17 +1,15 @@
 -- The ways of the functions: a body by the table, and its route. Assumes nothing.
 use mathlib.Core.Path.{_≡_, refl, sym, _∙_}
-use mathlib.Core.Bool.{Bool, true, false, _&&_}
+use mathlib.Core.Bool.{Bool, true, false}
 use mathlib.Core.List.{List, [], _∷_, _++_}
 use Prim.Native.Char.{code}
-use Prim.Native.Nat.{ℕ, zero, suc, _-_, _%_, _≤_}
+use Prim.Native.Nat.{ℕ, zero, suc, _-_, _≤_}
 use native.Mathlib.Omega.{arith}
-use lib.Dec.{eqb, leb}
+use lib.Dec.{lit≤}
 use lib.ListN.{length, take, replicate, length-append}
 use lib.Seq.{length-take-le, take-append-le}
-use borrow.Author.Tests.{eqb-true, leb-true}
-use Rattle.text.proofs.Logic.{and-left, and-right}
 use Rattle.heads.specs.declared.MessageType.{MessageType}
-use Rattle.heads.specs.declared.MessageType.the-variants.{Af, Az, Dz, Fz, Rz, Tz, Uz, Rt, To, Hb}
+use Rattle.heads.specs.declared.MessageType.the-variants.{Af}
 use Rattle.spacing.specs.Body.{fieldsOf, fieldsIn, countOf}
 use Rattle.spacing.specs.declared.Counted.the-variants as counted
 use Rattle.spacing.proofs.Laws.{count-known}
@@ -20,39 +18,15 @@ use Rattle.table.specs.Read.{Ready, padded, answerOf, valuesOf, routeIn, routeO
 use Rattle.table.specs.declared.Answer.the-variants.{Refused}
 use Rattle.table.specs.declared.Fault.the-variants.{Spacing}
 use Rattle.table.proofs.Ways.{read-wrong, ready, route-no-kinds, route-no-fields, route-later}
-use Rattle.counts.specs.Table.{tableOf, countWith, isCount}
+use Rattle.counts.specs.Table.{tableOf, isCount}
 use Rattle.layout.specs.Table.{dotted, kindsOf, countIn, answerBy, valuesBy, routeBy}
+use Rattle.layout.proofs.Tables.{each-table, table-few}
 
 -- ---- a body read by as many kinds as it has fields
 
 -- a right count asks for no more kinds than the table has
 pub count-kinds : (t : MessageType) (n : ℕ) → isCount t n ≡ true → n ≤ length (tableOf t)
-unfolding isCount countWith
-count-kinds Af n e = leb-true n 19 (and-right (leb 5 n) (leb n 19) (and-left (leb 5 n && leb n 19) (eqb (n % 2) 1) e))
-count-kinds Az n e = omega (arith, eqb-true n 4 e)
-count-kinds Dz n e = omega (arith, eqb-true n 6 e)
-count-kinds Fz n e = omega (arith, eqb-true n 7 e)
-count-kinds Rz n e = omega (arith, eqb-true n 3 e)
-count-kinds Tz n e = omega (arith, eqb-true n 4 e)
-count-kinds Uz n e = omega (arith, eqb-true n 7 e)
-count-kinds Rt n e = omega (arith, eqb-true n 0 e)
-count-kinds To n e = omega (arith, eqb-true n 0 e)
-count-kinds Hb n e = omega (arith, eqb-true n 0 e)
-
-table-few : (t : MessageType) → length (tableOf t) ≤ 19
-table-few Af = omega arith
-table-few Az = omega arith
-table-few Dz = omega arith
-table-few Fz = omega arith
-table-few Rz = omega arith
-table-few Tz = omega arith
-table-few Uz = omega arith
-table-few Rt = omega arith
-table-few To = omega arith
-table-few Hb = omega arith
-
-count-few : (t : MessageType) (n : ℕ) → isCount t n ≡ true → n ≤ 19
-count-few t n e = omega (arith, count-kinds t n e, table-few t)
+count-kinds = each-table (λ t n. n ≤ length (tableOf t)) (table-few Af) (lit≤ tt) (lit≤ tt) (lit≤ tt) (lit≤ tt) (lit≤ tt) (lit≤ tt) (lit≤ tt) (lit≤ tt) (lit≤ tt)
 
 -- as many kinds as the count says
 pub kinds-length : (t : MessageType) (n : ℕ) → isCount t n ≡ true → length (kindsOf t n) ≡ n
@@ -89,7 +63,7 @@ module _ (t : MessageType) (s : List ℕ) where
     pub by-ready : isCount t n ≡ true → Ready (take n (dotted t)) s b
     by-ready f =
         let k = length-take-le n (dotted t) (count-dotted t n f) in
-        ready (take n (dotted t)) s e (sym k) (count-few t n f)
+        ready (take n (dotted t)) s e (sym k) (table-few t n f)
 
     pub by-count : isCount t n ≡ true → (answerOf (take n (dotted t)) s ≡ answerBy t s) × (padded (valuesOf (take n (dotted t)) s) ≡ padded (valuesBy t s))
     unfolding answerBy valuesBy

@@ -10,11 +10,12 @@ use borrow.Author.Tests.{ltb-true, ltb-false, lt-ltb}
 use Rattle.text.specs.Place.{value, allIn}
 use Rattle.text.specs.Text.{packed}
 use Rattle.text.proofs.Logic.{true-false}
-use Rattle.shapes.specs.Picture.{part}
+use Rattle.shapes.specs.Picture.{part, isOf, fits}
 use Rattle.forms.specs.Form.{isSequence, isStamp, isFacility}
+use Rattle.frame.specs.Frame.{bodyPart, facilityPart, headLength, longestLine, sequencePart, stampPart, typePart}
 use Rattle.heads.specs.Message.{typeText, typeOf}
 use Rattle.heads.specs.declared.MessageType.{MessageType}
-use Rattle.heads.specs.declared.MessageType.the-variants.{Af, Az, Dz, Fz, Rz, Tz, Uz, Rt, To, Hb}
+use Rattle.heads.specs.declared.MessageType.the-variants.{Fz}
 use Rattle.heads.specs.declared.TypeRead.{TypeRead}
 use Rattle.heads.specs.declared.TypeRead.the-variants as type
 use Rattle.heads.proofs.Messages.{type-sound, type-complete}
@@ -26,6 +27,7 @@ use Rattle.table.specs.declared.Fault.{Fault}
 use Rattle.table.specs.declared.Fault.the-variants as fault
 use Rattle.counts.specs.Table.{hasFields}
 use Rattle.counts.specs.Plan.{isLongPlan}
+use Rattle.counts.proofs.Ways.{each-type}
 use Rattle.layout.specs.Table.{answerBy, valuesBy}
 use Rattle.messages.specs.declared.Message.{Message}
 use Rattle.bodies.specs.Read.{typedOf, bodyRead}
@@ -50,20 +52,15 @@ Own s = Case s (numberOf (readOf s)) (placeOf (readOf s))
 
 -- only an FZ has a limit of its own
 plan-type : (t : MessageType) (n : ℕ) → isLongPlan t n ≡ true → (t ≡ Fz) × (439 < n - 16)
-plan-type Af n e = true-false e refl
-plan-type Az n e = true-false e refl
-plan-type Dz n e = true-false e refl
-plan-type Fz n e = (refl, ltb-true 439 (n - 16) e)
-plan-type Rz n e = true-false e refl
-plan-type Tz n e = true-false e refl
-plan-type Uz n e = true-false e refl
-plan-type Rt n e = true-false e refl
-plan-type To n e = true-false e refl
-plan-type Hb n e = true-false e refl
+unfolding fits isOf
+plan-type t n =
+    each-type (λ t. isLongPlan t n ≡ true → (t ≡ Fz) × (439 < n - 16)) (λ e. true-false e refl) (λ e. true-false e refl) (λ e. true-false e refl)
+    (λ e. (refl, ltb-true 439 (n - 16) e)) (λ e. true-false e refl) (λ e. true-false e refl) (λ e. true-false e refl) (λ e. true-false e refl)
+    (λ e. true-false e refl) (λ e. true-false e refl) t
 
 -- the head that a line with the type t reads as
 abbrev headFor : List ℕ → MessageType → Head
-headFor s t = record { sequence = record { 0 = packed (part 0 4 s) }; stamp = record { 0 = packed (part 4 8 s) }; facility = record { 0 = value 256 4 (part 12 4 s) }; kind = t }
+headFor s t = record { sequence = record { 0 = packed (sequencePart s) }; stamp = record { 0 = packed (stampPart s) }; facility = record { 0 = value 256 4 (facilityPart s) }; kind = t }
 
 -- ---- what each case's facts make of a line, step by step
 
@@ -71,19 +68,19 @@ module _ (s : List ℕ) where
   framed-reads : Framed s → {h : HeadRead} → headOf s ≡ h → byHead s h ≡ readOf s
   framed-reads f e = line-head s (f .enough) (f .few) (f .printable) e
 
-  no-sequence-reads : Framed s → isSequence (part 0 4 s) ≡ false → read.Refused refusal.NoSequence ≡ readOf s
+  no-sequence-reads : Framed s → isSequence (sequencePart s) ≡ false → read.Refused refusal.NoSequence ≡ readOf s
   unfolding headOf
   no-sequence-reads f p = framed-reads f {h = head.Refused refusal.NoSequence} (rw p)
 
-  no-stamp-reads : Framed s → isSequence (part 0 4 s) ≡ true → isStamp (part 4 8 s) ≡ false → read.Refused refusal.NoStamp ≡ readOf s
+  no-stamp-reads : Framed s → isSequence (sequencePart s) ≡ true → isStamp (stampPart s) ≡ false → read.Refused refusal.NoStamp ≡ readOf s
   unfolding headOf
   no-stamp-reads f p q = framed-reads f {h = head.Refused refusal.NoStamp} (rw (p, q))
 
-  no-facility-reads : Framed s → isSequence (part 0 4 s) ≡ true → isStamp (part 4 8 s) ≡ true → isFacility (part 12 4 s) ≡ false → read.Refused refusal.NoFacility ≡ readOf s
+  no-facility-reads : Framed s → isSequence (sequencePart s) ≡ true → isStamp (stampPart s) ≡ true → isFacility (facilityPart s) ≡ false → read.Refused refusal.NoFacility ≡ readOf s
   unfolding headOf
   no-facility-reads f p q r = framed-reads f {h = head.Refused refusal.NoFacility} (rw (p, q, r))
 
-  no-type-reads : Framed s → isSequence (part 0 4 s) ≡ true → isStamp (part 4 8 s) ≡ true → isFacility (part 12 4 s) ≡ true → typeOf (part 16 2 s) ≡ type.Nothing → read.Refused refusal.NoType ≡ readOf s
+  no-type-reads : Framed s → isSequence (sequencePart s) ≡ true → isStamp (stampPart s) ≡ true → isFacility (facilityPart s) ≡ true → typeOf (typePart s) ≡ type.Nothing → read.Refused refusal.NoType ≡ readOf s
   unfolding headOf
   no-type-reads f p q r e = framed-reads f {h = head.Refused refusal.NoType} (rw (p, q, r, e))
 
@@ -95,12 +92,12 @@ module _ (s : List ℕ) where
     long-reads : isLongPlan t (length s) ≡ true → read.Refused refusal.LongPlan ≡ readOf s
     long-reads e = rest-long (headFor s t) s e ∙ headed-reads
 
-    body-reads : isLongPlan t (length s) ≡ false → {r : BodyRead} → bodyRead t (drop 18 s) ≡ r → withBody (headFor s t) r ≡ readOf s
+    body-reads : isLongPlan t (length s) ≡ false → {r : BodyRead} → bodyRead t (bodyPart s) ≡ r → withBody (headFor s t) r ≡ readOf s
     unfolding restOf
     body-reads e {r} q = let z : withBody (headFor s t) r ≡ restOf (headFor s t) s = rw (e, q) in z ∙ headed-reads
 
-    table-reads : isLongPlan t (length s) ≡ false → hasFields t ≡ true → {a : Answer} → answerBy t (drop 18 s) ≡ a → withBody (headFor s t) (typedOf t (padded (valuesBy t (drop 18 s))) a) ≡ readOf s
-    table-reads e h q = body-reads e (by-table t (drop 18 s) h ∙ ap (typedOf t (padded (valuesBy t (drop 18 s)))) q)
+    table-reads : isLongPlan t (length s) ≡ false → hasFields t ≡ true → {a : Answer} → answerBy t (bodyPart s) ≡ a → withBody (headFor s t) (typedOf t (padded (valuesBy t (bodyPart s))) a) ≡ readOf s
+    table-reads e h q = body-reads e (by-table t (bodyPart s) h ∙ ap (typedOf t (padded (valuesBy t (bodyPart s)))) q)
 
   -- ---- each line is in the case of its answer: its tests one after another, in document 01's order
 
@@ -118,19 +115,19 @@ module _ (s : List ℕ) where
   body-case : (t : MessageType) → Headed s t → isLongPlan t (length s) ≡ false → Own s
   body-case t k l = go (hasFields t) refl
     where
-      refused : hasFields t ≡ true → (x : Fault) → answerBy t (drop 18 s) ≡ answer.Refused x → Case s (faultNumber x) (faultPlace x)
-      refused h fault.Spacing q = Spacing t k l h (no-fields t (drop 18 s) q)
-      refused h (fault.Field j) q = let (i, z, f) = fault-faulty t (drop 18 s) j field.Nothing refl q in placed 9 j i z (Field t i k l f)
-      refused h (fault.Number j) q = let (i, z, f) = fault-faulty t (drop 18 s) j field.Number refl q in placed 10 j i z (Number t i k l f)
-      refused h (fault.Two j) q = let (i, z, f) = fault-faulty t (drop 18 s) j field.Two refl q in placed 18 j i z (Two t i k l f)
+      refused : hasFields t ≡ true → (x : Fault) → answerBy t (bodyPart s) ≡ answer.Refused x → Case s (faultNumber x) (faultPlace x)
+      refused h fault.Spacing q = Spacing t k l h (no-fields t (bodyPart s) q)
+      refused h (fault.Field j) q = let (i, z, f) = fault-faulty t (bodyPart s) j field.Nothing refl q in placed 9 j i z (Field t i k l f)
+      refused h (fault.Number j) q = let (i, z, f) = fault-faulty t (bodyPart s) j field.Number refl q in placed 10 j i z (Number t i k l f)
+      refused h (fault.Two j) q = let (i, z, f) = fault-faulty t (bodyPart s) j field.Two refl q in placed 18 j i z (Two t i k l f)
 
-      by : hasFields t ≡ true → (a : Answer) → answerBy t (drop 18 s) ≡ a → Own s
+      by : hasFields t ≡ true → (a : Answer) → answerBy t (bodyPart s) ≡ a → Own s
       by h (answer.Taken u m) q = taken-at _ (table-reads t k l h q)
       by h (answer.Refused x) q = at (refusal.Body x) (table-reads t k l h q) (refused h x q)
 
       go : (c : Bool) → hasFields t ≡ c → Own s
-      go true h = by h (answerBy t (drop 18 s)) refl
-      go false h = taken-at _ (body-reads t k l (kept-whole t (drop 18 s) h))
+      go true h = by h (answerBy t (bodyPart s)) refl
+      go false h = taken-at _ (body-reads t k l (kept-whole t (bodyPart s) h))
 
   headed-case : (t : MessageType) → Headed s t → Own s
   headed-case t k = go (isLongPlan t (length s)) refl
@@ -140,41 +137,41 @@ module _ (s : List ℕ) where
       go false e = body-case t k e
 
   framed-case : Framed s → Own s
-  framed-case f = sequence (isSequence (part 0 4 s)) refl
+  framed-case f = sequence (isSequence (sequencePart s)) refl
     where
-      typed : isSequence (part 0 4 s) ≡ true → isStamp (part 4 8 s) ≡ true → isFacility (part 12 4 s) ≡ true → (d : TypeRead) → typeOf (part 16 2 s) ≡ d → Own s
-      typed p q r (type.Read t) e = headed-case t (record { framed = f; sequence = p; stamp = q; facility = r; type = sym (type-sound (part 16 2 s) t e) })
+      typed : isSequence (sequencePart s) ≡ true → isStamp (stampPart s) ≡ true → isFacility (facilityPart s) ≡ true → (d : TypeRead) → typeOf (typePart s) ≡ d → Own s
+      typed p q r (type.Read t) e = headed-case t (record { framed = f; sequence = p; stamp = q; facility = r; type = sym (type-sound (typePart s) t e) })
       typed p q r type.Nothing e =
           at refusal.NoType (no-type-reads f p q r e)
           (NoType f p q r (λ t x. let z : type.Nothing ≡ type.Read t = sym e ∙ ap typeOf x ∙ type-complete t in let y : _≡_ {A = ℕ} 0 1 = cc in omega arith))
 
-      facility : isSequence (part 0 4 s) ≡ true → isStamp (part 4 8 s) ≡ true → (c : Bool) → isFacility (part 12 4 s) ≡ c → Own s
-      facility p q true r = typed p q r (typeOf (part 16 2 s)) refl
+      facility : isSequence (sequencePart s) ≡ true → isStamp (stampPart s) ≡ true → (c : Bool) → isFacility (facilityPart s) ≡ c → Own s
+      facility p q true r = typed p q r (typeOf (typePart s)) refl
       facility p q false r = at refusal.NoFacility (no-facility-reads f p q r) (NoFacility f p q r)
 
-      stamp : isSequence (part 0 4 s) ≡ true → (c : Bool) → isStamp (part 4 8 s) ≡ c → Own s
-      stamp p true q = facility p q (isFacility (part 12 4 s)) refl
+      stamp : isSequence (sequencePart s) ≡ true → (c : Bool) → isStamp (stampPart s) ≡ c → Own s
+      stamp p true q = facility p q (isFacility (facilityPart s)) refl
       stamp p false q = at refusal.NoStamp (no-stamp-reads f p q) (NoStamp f p q)
 
-      sequence : (c : Bool) → isSequence (part 0 4 s) ≡ c → Own s
-      sequence true p = stamp p (isStamp (part 4 8 s)) refl
+      sequence : (c : Bool) → isSequence (sequencePart s) ≡ c → Own s
+      sequence true p = stamp p (isStamp (stampPart s)) refl
       sequence false p = at refusal.NoSequence (no-sequence-reads f p) (NoSequence f p)
 
   -- THE LAW: each line is in the case of its number and its place
   pub case-of : Case s (numberOf (readOf s)) (placeOf (readOf s))
-  case-of = enough (ltb (length s) 18) refl
+  case-of = enough (ltb (length s) headLength) refl
     where
-      printable : 18 ≤ length s → length s ≤ 2048 → (c : Bool) → allIn 32 126 s ≡ c → Own s
+      printable : headLength ≤ length s → length s ≤ longestLine → (c : Bool) → allIn 32 126 s ≡ c → Own s
       printable h k true e = framed-case (record { enough = h; few = k; printable = e })
       printable h k false e = at refusal.Unprintable (line-byte s h k e) (Unprintable h k e)
 
-      few : 18 ≤ length s → (c : Bool) → ltb 2048 (length s) ≡ c → Own s
-      few h true e = let k = ltb-true 2048 (length s) e in at refusal.Long (line-long s h k) (Long k)
-      few h false e = printable h (ltb-false 2048 (length s) e) (allIn 32 126 s) refl
+      few : headLength ≤ length s → (c : Bool) → ltb longestLine (length s) ≡ c → Own s
+      few h true e = let k = ltb-true longestLine (length s) e in at refusal.Long (line-long s h k) (Long k)
+      few h false e = printable h (ltb-false longestLine (length s) e) (allIn 32 126 s) refl
 
-      enough : (c : Bool) → ltb (length s) 18 ≡ c → Own s
-      enough true e = let k = ltb-true (length s) 18 e in at refusal.Short (line-short s k) (Short k)
-      enough false e = few (ltb-false (length s) 18 e) (ltb 2048 (length s)) refl
+      enough : (c : Bool) → ltb (length s) headLength ≡ c → Own s
+      enough true e = let k = ltb-true (length s) headLength e in at refusal.Short (line-short s k) (Short k)
+      enough false e = few (ltb-false (length s) headLength e) (ltb longestLine (length s)) refl
 
   -- ---- and in no other: the facts of a case make the line read as that case's answer
 
@@ -182,15 +179,16 @@ module _ (s : List ℕ) where
   refused x e = (ap numberOf (sym e), ap placeOf (sym e))
 
   -- a text that is no type's has no type
-  no-type : ((t : MessageType) → part 16 2 s ≡ typeText t → ⊥) → typeOf (part 16 2 s) ≡ type.Nothing
-  no-type none = go (typeOf (part 16 2 s)) refl
+  no-type : ((t : MessageType) → typePart s ≡ typeText t → ⊥) → typeOf (typePart s) ≡ type.Nothing
+  no-type none = go (typeOf (typePart s)) refl
     where
-      go : (d : TypeRead) → typeOf (part 16 2 s) ≡ d → typeOf (part 16 2 s) ≡ type.Nothing
-      go (type.Read t) e = absurd (none t (sym (type-sound (part 16 2 s) t e)))
+      go : (d : TypeRead) → typeOf (typePart s) ≡ d → typeOf (typePart s) ≡ type.Nothing
+      go (type.Read t) e = absurd (none t (sym (type-sound (typePart s) t e)))
       go type.Nothing e = e
 
   -- THE LAW: the case that a line is in has its number and its place
   pub case-only : (n p : ℕ) → Case s n p → (numberOf (readOf s) ≡ n) × (placeOf (readOf s) ≡ p)
+  unfolding fits isOf
   case-only n p (Taken m r a e) = let q = ap readOf (sym e) ∙ allowed-reads m r a .0 in (ap numberOf q, ap placeOf q)
   case-only n p (Short h) = refused refusal.Short (line-short s h)
   case-only n p (Long h) = refused refusal.Long (line-long s (omega arith) h)
@@ -199,11 +197,11 @@ module _ (s : List ℕ) where
   case-only n p (NoStamp f a b) = refused refusal.NoStamp (no-stamp-reads f a b)
   case-only n p (NoFacility f a b c) = refused refusal.NoFacility (no-facility-reads f a b c)
   case-only n p (NoType f a b c d) = refused refusal.NoType (no-type-reads f a b c (no-type d))
-  case-only n p (Spacing t k l h d) = refused (refusal.Body fault.Spacing) (table-reads t k l h (fields-none t (drop 18 s) d))
-  case-only n p (Field t i k l f) = refused (refusal.Body (fault.Field (suc i))) (table-reads t k l (faulty-fields t (drop 18 s) i field.Nothing f) (faulty-fault t (drop 18 s) i field.Nothing refl f))
-  case-only n p (Number t i k l f) = refused (refusal.Body (fault.Number (suc i))) (table-reads t k l (faulty-fields t (drop 18 s) i field.Number f) (faulty-fault t (drop 18 s) i field.Number refl f))
+  case-only n p (Spacing t k l h d) = refused (refusal.Body fault.Spacing) (table-reads t k l h (fields-none t (bodyPart s) d))
+  case-only n p (Field t i k l f) = refused (refusal.Body (fault.Field (suc i))) (table-reads t k l (faulty-fields t (bodyPart s) i field.Nothing f) (faulty-fault t (bodyPart s) i field.Nothing refl f))
+  case-only n p (Number t i k l f) = refused (refusal.Body (fault.Number (suc i))) (table-reads t k l (faulty-fields t (bodyPart s) i field.Number f) (faulty-fault t (bodyPart s) i field.Number refl f))
   case-only n p (LongPlan k h) = refused refusal.LongPlan (long-reads Fz k (lt-ltb 439 (length s - 16) h))
-  case-only n p (Two t i k l f) = refused (refusal.Body (fault.Two (suc i))) (table-reads t k l (faulty-fields t (drop 18 s) i field.Two f) (faulty-fault t (drop 18 s) i field.Two refl f))
+  case-only n p (Two t i k l f) = refused (refusal.Body (fault.Two (suc i))) (table-reads t k l (faulty-fields t (bodyPart s) i field.Two f) (faulty-fault t (bodyPart s) i field.Two refl f))
 
   -- so no line is in two cases with different numbers or places
   pub one-case : (n p m q : ℕ) → Case s n p → Case s m q → (n ≡ m) × (p ≡ q)

@@ -21,6 +21,7 @@ use Rattle.shapes.specs.Pieces.{pieces}
 use Rattle.shapes.specs.Picture.{isOf, fits, fitsAny, oneOf, part}
 use Rattle.shapes.proofs.Laws.{fits-length}
 use Rattle.forms.specs.Form.{isSequence, isStamp, isFacility}
+use Rattle.frame.specs.Frame.{bodyPart, facilityPart, headLength, sequencePart, stampPart, typeAt, typePart}
 use Rattle.forms.specs.Kind.{SEQUENCE, STAMP, isForm}
 use Rattle.forms.proofs.Held.{form-held}
 use Rattle.words.specs.Word.{isWord}
@@ -45,18 +46,18 @@ use Rattle.line.specs.declared.Refusal.the-variants.{NoSequence, NoStamp
 next-part : (i n : ℕ) (s : List ℕ) → part i n s ++ drop (i + n) s ≡ drop i s
 next-part i n s = rw (← drop-drop n i s) (take-append-drop n (drop i s))
 
-pub five-parts : (s : List ℕ) → part 0 4 s ++ (part 4 8 s ++ (part 12 4 s ++ (part 16 2 s ++ drop 18 s))) ≡ s
-five-parts s = rw (next-part 16 2 s, next-part 12 4 s, next-part 4 8 s) (next-part 0 4 s)
+pub five-parts : (s : List ℕ) → sequencePart s ++ (stampPart s ++ (facilityPart s ++ (typePart s ++ bodyPart s))) ≡ s
+five-parts s = rw (next-part typeAt 2 s, next-part 12 4 s, next-part 4 8 s) (next-part 0 4 s)
 
 -- ---- and a line joined of texts of 4, 8, 4 and 2 bytes and a rest has these as its parts
 
 pub record Parts (a b c d e s : List ℕ) : Type 0 where
-  pub first : part 0 4 s ≡ a
-  pub second : part 4 8 s ≡ b
-  pub third : part 12 4 s ≡ c
-  pub fourth : part 16 2 s ≡ d
-  pub rest : drop 18 s ≡ e
-  pub size : length s ≡ 18 + length e
+  pub first : sequencePart s ≡ a
+  pub second : stampPart s ≡ b
+  pub third : facilityPart s ≡ c
+  pub fourth : typePart s ≡ d
+  pub rest : bodyPart s ≡ e
+  pub size : length s ≡ headLength + length e
 
 past : (x y : List ℕ) (i : ℕ) → length x ≡ i → (n : ℕ) → drop (i + n) (x ++ y) ≡ drop n y
 past x y i h n = rw (← h) (drop-append-add x y n)
@@ -81,11 +82,11 @@ pub record IsHeadOf (h : Head) (s : List ℕ) : Type 0 where
   pub sequence-word : isWord SEQUENCE (h .sequence .0) ≡ true
   pub stamp-word : isWord STAMP (h .stamp .0) ≡ true
   pub facility-value : isFacilityValue (h .facility .0) ≡ true
-  pub sequence-text : textOf (h .sequence .0) ≡ part 0 4 s
-  pub stamp-text : textOf (h .stamp .0) ≡ part 4 8 s
-  pub facility-text : facilityText (h .facility .0) ≡ part 12 4 s
-  pub type-text : typeText (h .kind) ≡ part 16 2 s
-  pub type-read : typeOf (part 16 2 s) ≡ type.Read (h .kind)
+  pub sequence-text : textOf (h .sequence .0) ≡ sequencePart s
+  pub stamp-text : textOf (h .stamp .0) ≡ stampPart s
+  pub facility-text : facilityText (h .facility .0) ≡ facilityPart s
+  pub type-text : typeText (h .kind) ≡ typePart s
+  pub type-read : typeOf (typePart s) ≡ type.Read (h .kind)
 
 sequence-form : (s : List ℕ) → isForm SEQUENCE s ≡ isSequence s
 unfolding isForm
@@ -117,21 +118,21 @@ facility-back f e =
 
 -- the head that a line of these forms reads as
 abbrev madeOf : List ℕ → MessageType → Head
-madeOf s t = record { sequence = record { 0 = packed (part 0 4 s) }; stamp = record { 0 = packed (part 4 8 s) }; facility = record { 0 = value 256 4 (part 12 4 s) }; kind = t }
+madeOf s t = record { sequence = record { 0 = packed (sequencePart s) }; stamp = record { 0 = packed (stampPart s) }; facility = record { 0 = value 256 4 (facilityPart s) }; kind = t }
 
-made-known : (s : List ℕ) (t : MessageType) → isSequence (part 0 4 s) ≡ true → isStamp (part 4 8 s) ≡ true → isFacility (part 12 4 s) ≡ true → typeOf (part 16 2 s) ≡ type.Read t → IsHeadOf (madeOf s t) s
+made-known : (s : List ℕ) (t : MessageType) → isSequence (sequencePart s) ≡ true → isStamp (stampPart s) ≡ true → isFacility (facilityPart s) ≡ true → typeOf (typePart s) ≡ type.Read t → IsHeadOf (madeOf s t) s
 made-known s t p q r y =
-    let a = sequence-form (part 0 4 s) ∙ p in
-    let b = stamp-form (part 4 8 s) ∙ q in
-    let c = facility-of (part 12 4 s) r in
+    let a = sequence-form (sequencePart s) ∙ p in
+    let b = stamp-form (stampPart s) ∙ q in
+    let c = facility-of (facilityPart s) r in
     record {
-      sequence-word = form-word SEQUENCE (part 0 4 s) a;
-      stamp-word = form-word STAMP (part 4 8 s) b;
+      sequence-word = form-word SEQUENCE (sequencePart s) a;
+      stamp-word = form-word STAMP (stampPart s) b;
       facility-value = c .1;
-      sequence-text = text-of-form SEQUENCE (part 0 4 s) a;
-      stamp-text = text-of-form STAMP (part 4 8 s) b;
+      sequence-text = text-of-form SEQUENCE (sequencePart s) a;
+      stamp-text = text-of-form STAMP (stampPart s) b;
       facility-text = c .0;
-      type-text = type-sound (part 16 2 s) t y;
+      type-text = type-sound (typePart s) t y;
       type-read = y;
     }
 
@@ -148,12 +149,12 @@ where-fails false w x r f g e = g refl e
 pub head-sound : (s : List ℕ) (h : Head) → headOf s ≡ head.Read h → IsHeadOf h s
 unfolding headOf
 head-sound s h =
-    where-holds (isSequence (part 0 4 s)) _ (head.Refused NoSequence) (head.Read h) (λ e. let z : _≡_ {A = ℕ} 0 1 = cc in omega arith)
-    (λ p. where-holds (isStamp (part 4 8 s)) _ (head.Refused NoStamp) (head.Read h) (λ e. let z : _≡_ {A = ℕ} 0 1 = cc in omega arith)
-    (λ q. where-holds (isFacility (part 12 4 s)) _ (head.Refused NoFacility) (head.Read h) (λ e. let z : _≡_ {A = ℕ} 0 1 = cc in omega arith)
-    (λ r. go p q r (typeOf (part 16 2 s)) refl)))
+    where-holds (isSequence (sequencePart s)) _ (head.Refused NoSequence) (head.Read h) (λ e. let z : _≡_ {A = ℕ} 0 1 = cc in omega arith)
+    (λ p. where-holds (isStamp (stampPart s)) _ (head.Refused NoStamp) (head.Read h) (λ e. let z : _≡_ {A = ℕ} 0 1 = cc in omega arith)
+    (λ q. where-holds (isFacility (facilityPart s)) _ (head.Refused NoFacility) (head.Read h) (λ e. let z : _≡_ {A = ℕ} 0 1 = cc in omega arith)
+    (λ r. go p q r (typeOf (typePart s)) refl)))
   where
-    go : isSequence (part 0 4 s) ≡ true → isStamp (part 4 8 s) ≡ true → isFacility (part 12 4 s) ≡ true → (d : TypeRead) → typeOf (part 16 2 s) ≡ d → typed s d ≡ head.Read h → IsHeadOf h s
+    go : isSequence (sequencePart s) ≡ true → isStamp (stampPart s) ≡ true → isFacility (facilityPart s) ≡ true → (d : TypeRead) → typeOf (typePart s) ≡ d → typed s d ≡ head.Read h → IsHeadOf h s
     go p q r (type.Read t) y e = let z : madeOf s t ≡ h = cc in subst (λ (g : Head). IsHeadOf g s) z (made-known s t p q r y)
     go p q r type.Nothing y e = absurd (let z : _≡_ {A = ℕ} 0 1 = cc in omega arith)
 
@@ -161,12 +162,12 @@ head-sound s h =
 pub head-complete : (s : List ℕ) (h : Head) → IsHeadOf h s → headOf s ≡ head.Read h
 unfolding headOf
 head-complete s h k =
-    let a : isSequence (part 0 4 s) ≡ true = rw (← (k .sequence-text)) (sym (sequence-form (textOf (h .sequence .0))) ∙ word-form SEQUENCE (h .sequence .0) (k .sequence-word)) in
-    let b : isStamp (part 4 8 s) ≡ true = rw (← (k .stamp-text)) (sym (stamp-form (textOf (h .stamp .0))) ∙ word-form STAMP (h .stamp .0) (k .stamp-word)) in
-    let c : isFacility (part 12 4 s) ≡ true = rw (← (k .facility-text)) (facility-form (h .facility .0) (k .facility-value)) in
-    let x : packed (part 0 4 s) ≡ h .sequence .0 = rw (← (k .sequence-text)) (packed-text (h .sequence .0) (word-packed SEQUENCE (h .sequence .0) (k .sequence-word))) in
-    let y : packed (part 4 8 s) ≡ h .stamp .0 = rw (← (k .stamp-text)) (packed-text (h .stamp .0) (word-packed STAMP (h .stamp .0) (k .stamp-word))) in
-    let z : value 256 4 (part 12 4 s) ≡ h .facility .0 = rw (← (k .facility-text)) (facility-back (h .facility .0) (k .facility-value)) in
+    let a : isSequence (sequencePart s) ≡ true = rw (← (k .sequence-text)) (sym (sequence-form (textOf (h .sequence .0))) ∙ word-form SEQUENCE (h .sequence .0) (k .sequence-word)) in
+    let b : isStamp (stampPart s) ≡ true = rw (← (k .stamp-text)) (sym (stamp-form (textOf (h .stamp .0))) ∙ word-form STAMP (h .stamp .0) (k .stamp-word)) in
+    let c : isFacility (facilityPart s) ≡ true = rw (← (k .facility-text)) (facility-form (h .facility .0) (k .facility-value)) in
+    let x : packed (sequencePart s) ≡ h .sequence .0 = rw (← (k .sequence-text)) (packed-text (h .sequence .0) (word-packed SEQUENCE (h .sequence .0) (k .sequence-word))) in
+    let y : packed (stampPart s) ≡ h .stamp .0 = rw (← (k .stamp-text)) (packed-text (h .stamp .0) (word-packed STAMP (h .stamp .0) (k .stamp-word))) in
+    let z : value 256 4 (facilityPart s) ≡ h .facility .0 = rw (← (k .facility-text)) (facility-back (h .facility .0) (k .facility-value)) in
     rw (a, b, c, k .type-read, x, y, z)
 
 -- ---- the line that a head and a body make

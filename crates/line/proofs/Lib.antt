@@ -5,3 +5,4 @@ pub mod Theorems
 pub mod Unique
 pub mod CasesBodies
 pub mod Cases
+pub mod Examples

@@ -10,6 +10,7 @@ use lib.ListN.{length, drop}
 use borrow.Author.Tests.{ltb-false, leb-true, le-ltb, le-leb, not-true}
 use Rattle.text.specs.Place.{allIn}
 use Rattle.text.proofs.Logic.{and-left, and-right}
+use Rattle.frame.specs.Frame.{bodyPart, headLength, longestLine}
 use Rattle.forms.specs.Kind.{SEQUENCE, STAMP}
 use Rattle.words.specs.Word.{isWord}
 use Rattle.heads.specs.Facility.{isFacilityValue}
@@ -38,18 +39,18 @@ headIn m k = record { sequence = m .sequence; stamp = m .stamp; facility = m .fa
 
 -- k is the type that stands in the line
 pub record Passes (s : List ℕ) (m : Message) (k : MessageType) : Type 0 where
-  pub enough : 18 ≤ length s
-  pub short : length s ≤ 2048
+  pub enough : headLength ≤ length s
+  pub short : length s ≤ longestLine
   pub printable : allIn 32 126 s ≡ true
   pub head : headOf s ≡ head.Read (headIn m k)
   pub plan : isLongPlan k (length s) ≡ false
-  pub body : bodyRead k (drop 18 s) ≡ body.Read (m .body) (m .trailing)
+  pub body : bodyRead k (bodyPart s) ≡ body.Read (m .body) (m .trailing)
 
 -- ---- what passes reads
 
 pub passes-reads : (s : List ℕ) (m : Message) (k : MessageType) → Passes s m k → readOf s ≡ Read m
 unfolding readOf restOf
-passes-reads s m k p = rw (le-ltb (length s) 18 (p .enough), le-ltb 2048 (length s) (p .short), p .printable, p .head, p .plan, p .body)
+passes-reads s m k p = rw (le-ltb (length s) headLength (p .enough), le-ltb longestLine (length s) (p .short), p .printable, p .head, p .plan, p .body)
 
 -- ---- what reads passes: one law for each step, from the last
 
@@ -71,19 +72,19 @@ module _ (m : Message) where
   pub reads-passes : (s : List ℕ) → readOf s ≡ Read m → (k : MessageType) × Passes s m k
   unfolding readOf restOf
   reads-passes s =
-      where-fails (ltb (length s) 18) (Refused Short) _ (Read m) (refused Short)
-      (λ a. where-fails (ltb 2048 (length s)) (Refused Long) _ (Read m) (refused Long)
+      where-fails (ltb (length s) headLength) (Refused Short) _ (Read m) (refused Short)
+      (λ a. where-fails (ltb longestLine (length s)) (Refused Long) _ (Read m) (refused Long)
       (λ b. where-holds (allIn 32 126 s) _ (Refused Unprintable) (Read m) (refused Unprintable)
       (λ c e. headed a b c (from-head s (headOf s) e))))
     where
-      headed : ltb (length s) 18 ≡ false → ltb 2048 (length s) ≡ false → allIn 32 126 s ≡ true → (h : Head) × (headOf s ≡ head.Read h) × (restOf h s ≡ Read m) → (k : MessageType) × Passes s m k
+      headed : ltb (length s) headLength ≡ false → ltb longestLine (length s) ≡ false → allIn 32 126 s ≡ true → (h : Head) × (headOf s ≡ head.Read h) × (restOf h s ≡ Read m) → (k : MessageType) × Passes s m k
       headed a b c (h, d, e) =
-          where-fails (isLongPlan (h .kind) (length s)) (Refused LongPlan) (withBody h (bodyRead (h .kind) (drop 18 s))) (Read m) (refused LongPlan)
-          (λ f g. let r = from-body h (bodyRead (h .kind) (drop 18 s)) g in (
+          where-fails (isLongPlan (h .kind) (length s)) (Refused LongPlan) (withBody h (bodyRead (h .kind) (bodyPart s))) (Read m) (refused LongPlan)
+          (λ f g. let r = from-body h (bodyRead (h .kind) (bodyPart s)) g in (
             h .kind,
             record {
-              enough = ltb-false (length s) 18 a;
-              short = ltb-false 2048 (length s) b;
+              enough = ltb-false (length s) headLength a;
+              short = ltb-false longestLine (length s) b;
               printable = c;
               head = d ∙ ap head.Read (r .0);
               plan = f;
@@ -97,9 +98,9 @@ module _ (s : List ℕ) (m : Message) (k : MessageType) (p : Passes s m k) where
   pub passes-head : IsHeadOf (headIn m k) s
   passes-head = head-sound s (headIn m k) (p .head)
 
-  pub passes-free : freeOf s ≡ freeBy (type.Read k) (drop 18 s)
+  pub passes-free : freeOf s ≡ freeBy (type.Read k) (bodyPart s)
   unfolding freeOf
-  passes-free = rw (le-ltb (length s) 18 (p .enough), passes-head .type-read)
+  passes-free = rw (le-ltb (length s) headLength (p .enough), passes-head .type-read)
 
 -- ---- the tests that an allowed message passes
 
@@ -108,18 +109,18 @@ pub record Allows (m : Message) (r : List ℕ) : Type 0 where
   pub stamp-word : isWord STAMP (m .stamp .0) ≡ true
   pub facility-value : isFacilityValue (m .facility .0) ≡ true
   pub body : isBody (m .body) r (m .trailing) ≡ true
-  pub short : length (lineOf m r) ≤ 2048
+  pub short : length (lineOf m r) ≤ longestLine
   pub plan : isLongPlan (typeIn (m .body)) (length (lineOf m r)) ≡ false
 
 module _ (m : Message) (r : List ℕ) where
   pub allows-allowed : Allows m r → isAllowed m r ≡ true
   unfolding isAllowed isHead hasSize
-  allows-allowed a = rw (a .sequence-word, a .stamp-word, a .facility-value, a .body, le-leb (length (lineOf m r)) 2048 (a .short), a .plan)
+  allows-allowed a = rw (a .sequence-word, a .stamp-word, a .facility-value, a .body, le-leb (length (lineOf m r)) longestLine (a .short), a .plan)
 
   pub allowed-allows : isAllowed m r ≡ true → Allows m r
   unfolding isAllowed isHead hasSize
   allowed-allows e =
-      let few = leb (length (lineOf m r)) 2048 in
+      let few = leb (length (lineOf m r)) longestLine in
       let long = isLongPlan (typeIn (m .body)) (length (lineOf m r)) in
       let held = and-left (isHead m && isBody (m .body) r (m .trailing)) (few && not long) e in
       let size = and-right (isHead m && isBody (m .body) r (m .trailing)) (few && not long) e in
@@ -129,13 +130,13 @@ module _ (m : Message) (r : List ℕ) where
         stamp-word = and-right (isWord SEQUENCE (m .sequence .0)) (isWord STAMP (m .stamp .0)) words;
         facility-value = and-right (isWord SEQUENCE (m .sequence .0) && isWord STAMP (m .stamp .0)) (isFacilityValue (m .facility .0)) (and-left (isHead m) (isBody (m .body) r (m .trailing)) held);
         body = and-right (isHead m) (isBody (m .body) r (m .trailing)) held;
-        short = leb-true (length (lineOf m r)) 2048 (and-left few (not long) size);
+        short = leb-true (length (lineOf m r)) longestLine (and-left few (not long) size);
         plan = not-true long (and-right few (not long) size);
       }
 
 -- ---- from a line that passes the steps to an allowed message, where its body is known
 
-module _ (s : List ℕ) (m : Message) (k : MessageType) (p : Passes s m k) (of-kind : typeIn (m .body) ≡ k) (of-text : bodyText (m .body) (freeOf s) (m .trailing) ≡ drop 18 s) where
+module _ (s : List ℕ) (m : Message) (k : MessageType) (p : Passes s m k) (of-kind : typeIn (m .body) ≡ k) (of-text : bodyText (m .body) (freeOf s) (m .trailing) ≡ bodyPart s) where
   -- its text is the line
   pub passes-text : lineOf m (freeOf s) ≡ s
   unfolding lineOf
@@ -158,7 +159,7 @@ module _ (s : List ℕ) (m : Message) (k : MessageType) (p : Passes s m k) (of-k
 -- ---- and back, from an allowed message to its text
 
 module _ (m : Message) (r : List ℕ) (a : Allows m r) where
-  pub text-body : drop 18 (lineOf m r) ≡ bodyText (m .body) r (m .trailing)
+  pub text-body : bodyPart (lineOf m r) ≡ bodyText (m .body) r (m .trailing)
   unfolding lineOf
   text-body = headed-parts (headIn m (typeIn (m .body))) (bodyText (m .body) r (m .trailing)) (a .sequence-word) (a .stamp-word) (a .facility-value) .rest
 

@@ -19,13 +19,14 @@ use Rattle.line.specs.declared.Refusal.{Refusal}
 use Rattle.line.specs.declared.Refusal.the-variants.{Short, Long, Unprintable, NoSequence, NoStamp, NoFacility, NoType, LongPlan, Body}
 use Rattle.table.specs.declared.Fault.the-variants.{Spacing, Field, Number, Two}
 use Rattle.line.proofs.Heads.{printable-left}
+use Rattle.frame.specs.Frame.{bodyPart}
 use Rattle.line.proofs.Steps.{reads-passes, passes-reads, passes-free, passes-text, passes-allows, allowed-allows, allows-allowed, allows-passes, text-body}
 
 -- what reads is allowed, and its text is the line
 pub reads-allowed : (s : List ℕ) (m : Message) → readOf s ≡ Read m → (isAllowed m (freeOf s) ≡ true) × (lineOf m (freeOf s) ≡ s)
 reads-allowed s m e =
     let (k, p) = reads-passes m s e in
-    let b : (typeIn (m .body) ≡ k) × (isBody (m .body) (freeOf s) (m .trailing) ≡ true) × (bodyText (m .body) (freeOf s) (m .trailing) ≡ drop 18 s) = rw (passes-free s m k p) (body-sound k (drop 18 s) (m .body) (m .trailing) (printable-left 18 s (p .printable)) (p .body)) in
+    let b : (typeIn (m .body) ≡ k) × (isBody (m .body) (freeOf s) (m .trailing) ≡ true) × (bodyText (m .body) (freeOf s) (m .trailing) ≡ bodyPart s) = rw (passes-free s m k p) (body-sound k (bodyPart s) (m .body) (m .trailing) (printable-left 18 s (p .printable)) (p .body)) in
     (allows-allowed m (freeOf s) (passes-allows s m k p (b .0) (b .2) (b .1)), passes-text s m k p (b .0) (b .2))
 
 -- the text of every allowed message reads as that message, and its free text is handed back

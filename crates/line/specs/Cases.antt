@@ -9,6 +9,7 @@ use lib.ListN.{length, drop}
 use Rattle.text.specs.Place.{allIn}
 use Rattle.shapes.specs.Picture.{part}
 use Rattle.forms.specs.Form.{isSequence, isStamp, isFacility}
+use Rattle.frame.specs.Frame.{bodyPart, facilityPart, sequencePart, stampPart, typePart}
 use Rattle.heads.specs.Message.{typeText}
 use Rattle.heads.specs.declared.MessageType.{MessageType}
 use Rattle.heads.specs.declared.MessageType.the-variants as type
@@ -31,10 +32,10 @@ pub record Framed (s : List ℕ) : Type 0 where
 -- and a head of the type t
 pub record Headed (s : List ℕ) (t : MessageType) : Type 0 where
   pub framed : Framed s
-  pub sequence : isSequence (part 0 4 s) ≡ true
-  pub stamp : isStamp (part 4 8 s) ≡ true
-  pub facility : isFacility (part 12 4 s) ≡ true
-  pub type : part 16 2 s ≡ typeText t
+  pub sequence : isSequence (sequencePart s) ≡ true
+  pub stamp : isStamp (stampPart s) ≡ true
+  pub facility : isFacility (facilityPart s) ≡ true
+  pub type : typePart s ≡ typeText t
 
 -- a body whose spacing and count are right: its field i is answered a, and all fields before it are read
 pub record Faulty (t : MessageType) (b : List ℕ) (i : ℕ) (a : FieldRead) : Type 0 where
@@ -56,17 +57,17 @@ pub data Case (s : List ℕ) : ℕ → ℕ → Type 0 where
   -- 3: a byte outside 32 to 126
   Unprintable : 18 ≤ length s → length s ≤ 2048 → allIn 32 126 s ≡ false → Case s 3 0
   -- 4, 5, 6, 7: sequence, stamp, facility, type wrong
-  NoSequence : Framed s → isSequence (part 0 4 s) ≡ false → Case s 4 0
-  NoStamp : Framed s → isSequence (part 0 4 s) ≡ true → isStamp (part 4 8 s) ≡ false → Case s 5 0
-  NoFacility : Framed s → isSequence (part 0 4 s) ≡ true → isStamp (part 4 8 s) ≡ true → isFacility (part 12 4 s) ≡ false → Case s 6 0
-  NoType : Framed s → isSequence (part 0 4 s) ≡ true → isStamp (part 4 8 s) ≡ true → isFacility (part 12 4 s) ≡ true → ((t : MessageType) → part 16 2 s ≡ typeText t → ⊥) → Case s 7 0
+  NoSequence : Framed s → isSequence (sequencePart s) ≡ false → Case s 4 0
+  NoStamp : Framed s → isSequence (sequencePart s) ≡ true → isStamp (stampPart s) ≡ false → Case s 5 0
+  NoFacility : Framed s → isSequence (sequencePart s) ≡ true → isStamp (stampPart s) ≡ true → isFacility (facilityPart s) ≡ false → Case s 6 0
+  NoType : Framed s → isSequence (sequencePart s) ≡ true → isStamp (stampPart s) ≡ true → isFacility (facilityPart s) ≡ true → ((t : MessageType) → typePart s ≡ typeText t → ⊥) → Case s 7 0
   -- 8: body spacing or field count wrong
-  Spacing : (t : MessageType) → Headed s t → isLongPlan t (length s) ≡ false → hasFields t ≡ true → ((fs : List (List ℕ)) (u : Bool) → allFields fs ≡ true → isCount t (length fs) ≡ true → bodyOf fs u ≡ drop 18 s → ⊥) → Case s 8 0
+  Spacing : (t : MessageType) → Headed s t → isLongPlan t (length s) ≡ false → hasFields t ≡ true → ((fs : List (List ℕ)) (u : Bool) → allFields fs ≡ true → isCount t (length fs) ≡ true → bodyOf fs u ≡ bodyPart s → ⊥) → Case s 8 0
   -- 9: a field without a reading; its place is given, 1 for the ident
-  Field : (t : MessageType) (i : ℕ) → Headed s t → isLongPlan t (length s) ≡ false → Faulty t (drop 18 s) i field.Nothing → Case s 9 (suc i)
+  Field : (t : MessageType) (i : ℕ) → Headed s t → isLongPlan t (length s) ≡ false → Faulty t (bodyPart s) i field.Nothing → Case s 9 (suc i)
   -- 10: an AF number field that is none of the eight, or come twice; its place
-  Number : (t : MessageType) (i : ℕ) → Headed s t → isLongPlan t (length s) ≡ false → Faulty t (drop 18 s) i field.Number → Case s 10 (suc i)
+  Number : (t : MessageType) (i : ℕ) → Headed s t → isLongPlan t (length s) ≡ false → Faulty t (bodyPart s) i field.Number → Case s 10 (suc i)
   -- 11: FZ over 439 bytes, counted from its type
   LongPlan : Headed s type.Fz → 439 < length s - 16 → Case s 11 0
   -- 18: an aircraft field with two different readings; its place
-  Two : (t : MessageType) (i : ℕ) → Headed s t → isLongPlan t (length s) ≡ false → Faulty t (drop 18 s) i field.Two → Case s 18 (suc i)
+  Two : (t : MessageType) (i : ℕ) → Headed s t → isLongPlan t (length s) ≡ false → Faulty t (bodyPart s) i field.Two → Case s 18 (suc i)

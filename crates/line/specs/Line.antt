@@ -6,6 +6,7 @@ use mathlib.Core.List.{List, _++_}
 use lib.Dec.{leb}
 use lib.ListN.{length}
 use Rattle.text.specs.Text.{textOf}
+use Rattle.frame.specs.Frame.{longestLine}
 use Rattle.forms.specs.Kind.{SEQUENCE, STAMP}
 use Rattle.words.specs.Word.{isWord}
 use Rattle.heads.specs.Facility.{facilityText, isFacilityValue}
@@ -26,7 +27,7 @@ isHead m = isWord SEQUENCE (m .sequence .0) && isWord STAMP (m .stamp .0) && isF
 
 -- "line over 2,048 bytes"; "FZ over 439 bytes"
 unfoldable pub hasSize : Message → List ℕ → Bool
-hasSize m r = leb (length (lineOf m r)) 2048 && not (isLongPlan (typeIn (m .body)) (length (lineOf m r)))
+hasSize m r = leb (length (lineOf m r)) longestLine && not (isLongPlan (typeIn (m .body)) (length (lineOf m r)))
 
 -- the messages that a line can have
 unfoldable pub isAllowed : Message → List ℕ → Bool

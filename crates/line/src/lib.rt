@@ -5,6 +5,11 @@ use fields::frame::Sequence;
 use fields::frame::SequenceRead;
 use fields::frame::Stamp;
 use fields::frame::StampRead;
+use frame::BODY_AT;
+use frame::FACILITY_AT;
+use frame::LONGEST_LINE;
+use frame::STAMP_AT;
+use frame::TYPE_AT;
 use heads::Facility;
 use heads::FacilityRead;
 use heads::MessageType;
@@ -14,6 +19,7 @@ use table::Fault;
 ghost use mathlib.Core.Path.{_≡_};
 ghost use Prim.Native.Nat.{_≤_};
 ghost use lib.ListN.{length};
+ghost use Rattle.frame.specs.Frame.{headLength};
 ghost use Rattle.line.specs.Cases.{Case};
 ghost use Rattle.line.specs.Read.{headOf, restOf, readOf, numberOf, placeOf, freeOf};
 
@@ -49,19 +55,19 @@ pub enum HeadRead {
 }
 
 fn read_head(line: &[u8]) -> HeadRead
-    requires { ⌜ 18 ≤ length (now line) ⌝ }
+    requires { ⌜ headLength ≤ length (now line) ⌝ }
     ensures { λ r. ⌜ r ≡ headOf (now (line .entry)) ⌝ }
 {
-    let SequenceRead::Read(sequence) = Sequence::read(&line[0..4]) else {
+    let SequenceRead::Read(sequence) = Sequence::read(&line[0..STAMP_AT]) else {
         return HeadRead::Refused(Refusal::NoSequence);
     };
-    let StampRead::Read(stamp) = Stamp::read(&line[4..12]) else {
+    let StampRead::Read(stamp) = Stamp::read(&line[STAMP_AT..FACILITY_AT]) else {
         return HeadRead::Refused(Refusal::NoStamp);
     };
-    let FacilityRead::Read(facility) = Facility::read(&line[12..16]) else {
+    let FacilityRead::Read(facility) = Facility::read(&line[FACILITY_AT..TYPE_AT]) else {
         return HeadRead::Refused(Refusal::NoFacility);
     };
-    let TypeRead::Read(kind) = MessageType::read(&line[16..18]) else {
+    let TypeRead::Read(kind) = MessageType::read(&line[TYPE_AT..BODY_AT]) else {
         return HeadRead::Refused(Refusal::NoType);
     };
     HeadRead::Read(Head {
@@ -74,14 +80,14 @@ fn read_head(line: &[u8]) -> HeadRead
 
 // The body after a head.
 fn read_rest(head: Head, line: &[u8]) -> LineRead
-    requires { ⌜ 18 ≤ length (now line) ⌝ }
+    requires { ⌜ headLength ≤ length (now line) ⌝ }
     ensures { λ r. ⌜ r ≡ restOf head (now (line .entry)) ⌝ }
 {
     let kind = head.kind;
     if counts::is_long_plan(kind, line.len()) {
         return LineRead::Refused(Refusal::LongPlan);
     }
-    let read = read_body(kind, &line[18..]);
+    let read = read_body(kind, &line[BODY_AT..]);
     match read {
         BodyRead::Read(body, trailing) => {
             let sequence = head.sequence;
@@ -105,10 +111,10 @@ pub fn read(line: &[u8]) -> LineRead
     ensures { λ r. ⌜ r ≡ readOf (now (line .entry)) ⌝ }
     ensures { λ r. ⌜ Case (now (line .entry)) (numberOf r) (placeOf r) ⌝ }
 {
-    if line.len() < 18 {
+    if line.len() < BODY_AT {
         return LineRead::Refused(Refusal::Short);
     }
-    if line.len() > 2048 {
+    if line.len() > LONGEST_LINE {
         return LineRead::Refused(Refusal::Long);
     }
     if !sweeps::each_within(32, 126, line) {
@@ -126,14 +132,14 @@ pub fn read(line: &[u8]) -> LineRead
 pub fn free(line: &[u8]) -> &[u8]
     ensures { λ r. ⌜ now r ≡ freeOf (now (line .entry)) ⌝ }
 {
-    if line.len() < 18 {
+    if line.len() < BODY_AT {
         return &line[..0];
     }
-    let TypeRead::Read(kind) = MessageType::read(&line[16..18]) else {
+    let TypeRead::Read(kind) = MessageType::read(&line[TYPE_AT..BODY_AT]) else {
         return &line[..0];
     };
     if !counts::has_fields(kind) {
-        return &line[18..];
+        return &line[BODY_AT..];
     }
-    layout::route(kind, &line[18..])
+    layout::route(kind, &line[BODY_AT..])
 }

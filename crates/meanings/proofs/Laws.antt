@@ -1,7 +1,7 @@
 -- What the ranges of stamps and positions say of their numbers, and signed numbers. Assumes nothing.
-use mathlib.Core.Path.{_≡_, _∙_}
-use mathlib.Core.Bool.{Bool, true, false, _&&_}
-use mathlib.Core.List.{List}
+use mathlib.Core.Path.{_≡_, refl, ap, _∙_}
+use mathlib.Core.Bool.{Bool, true, false, cond, _&&_}
+use mathlib.Core.List.{List, []}
 use Prim.Native.Nat.{ℕ, zero, suc, _+_, _-_, _^_, _≤_, _<_}
 use native.Mathlib.Omega.{arith}
 use lib.Dec.{leb, lit<}
@@ -15,13 +15,15 @@ use borrow.Author.Needs.{sfits-of}
 use borrow.Author.Tests.{leb-true}
 use Prim.Native.Char.{code}
 use Rattle.text.specs.Bytes.{bytes}
+use Rattle.text.specs.Text.{textOf, isPacked}
 use Rattle.text.specs.Number.{isNumeral, numberOf, readNumber}
 use Rattle.text.proofs.Logic.{and-left, and-right}
-use Rattle.shapes.specs.Picture.{fits, within, part}
+use Rattle.shapes.specs.Picture.{fits, fitsAny, oneOf, within, part}
 use Rattle.shapes.specs.Cut.{upTo}
+use Rattle.shapes.specs.Pieces.{pieces}
 use Rattle.shapes.proofs.Laws.{fits-length, not-cut, is-cut, cut-before, cut-after}
 use Rattle.forms.specs.Form.{isStamp, isPosition, isLevel}
-use Rattle.meanings.specs.Meaning.{decimalOf, signedBy, levelsOf}
+use Rattle.meanings.specs.Meaning.{decimalOf, shownOf, signedBy, momentOf, momentIn, minutesOf, minutesIn, levelsOf, levelsIn}
 use Rattle.meanings.specs.declared.Levels.the-variants as levels
 
 pub within-most : (lo hi : ℕ) (s : List ℕ) → within lo hi s ≡ true → decimalOf s ≤ hi
@@ -109,3 +111,25 @@ module _ (s : List ℕ) (i : ℕ) (at : i ≡ upTo (code "B") s) (e : isLevel s 
   pub two-levels : i < length s → levels.Block (decimalOf (take i s)) (decimalOf (take (length s - (i + 1)) (drop (i + 1) s))) ≡ levelsOf s
   unfolding levelsOf
   two-levels h = rw (e, is-cut (code "B") s i at h, cut-before (code "B") s i at h, cut-after (code "B") s i at h)
+
+-- ---- what is asked of the bytes that `show` left: no bytes are no field
+
+asked : {A : Type 0} (f : List ℕ → A) (t : ℕ) {s : List ℕ} → s ≡ shownOf t → f s ≡ cond (isPacked t) (f (textOf t)) (f [])
+unfolding shownOf
+asked f t e = ap f e ∙ go (isPacked t)
+  where
+    go : (b : Bool) → f (cond b (textOf t) []) ≡ cond b (f (textOf t)) (f [])
+    go true = refl
+    go false = refl
+
+pub moment-in : (t : ℕ) {s : List ℕ} → s ≡ shownOf t → momentOf s ≡ momentIn t
+unfolding momentOf momentIn isStamp fits
+moment-in t e = asked momentOf t e
+
+pub minutes-in : (t : ℕ) {s : List ℕ} → s ≡ shownOf t → minutesOf s ≡ minutesIn t
+unfolding minutesOf minutesIn isPosition fits
+minutes-in t e = asked minutesOf t e
+
+pub levels-in : (t : ℕ) {s : List ℕ} → s ≡ shownOf t → levelsOf s ≡ levelsIn t
+unfolding levelsOf levelsIn oneOf fitsAny pieces fits
+levels-in t e = asked levelsOf t e

@@ -2,7 +2,7 @@
 use Prim.Native.Nat.{ℕ, _+_, _*_, _/_, _%_}
 use Prim.Native.Char.{code}
 use mathlib.Core.Bool.{Bool, true, false, cond}
-use mathlib.Core.List.{List}
+use mathlib.Core.List.{List, []}
 use lib.Dec.{eqb}
 use lib.IntN.{ℤ, pos, _-ℤ_}
 use lib.ListN.{getD}
@@ -28,6 +28,10 @@ orNone numeral.Nothing = 0
 
 unfoldable pub decimalOf : List ℕ → ℕ
 decimalOf s = orNone (readNumber 10 s)
+
+-- the text of t; no bytes where t has none
+unfoldable pub shownOf : ℕ → List ℕ
+shownOf t = cond (isPacked t) (textOf t) []
 
 -- ---- a stamp, DDHHMMSS
 

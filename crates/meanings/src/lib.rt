@@ -7,7 +7,8 @@ use text::Numeral;
 use text::Written;
 ghost use mathlib.Core.Path.{_≡_};
 ghost use Prim.Native.Nat.{_≤_};
-ghost use Rattle.meanings.specs.Meaning.{decimalOf, inMinutes, signedBy, momentOf, momentIn, minutesOf, minutesIn, levelsOf, levelsIn};
+ghost use lib.ListN.{length, take};
+ghost use Rattle.meanings.specs.Meaning.{decimalOf, shownOf, inMinutes, signedBy, momentOf, momentIn, minutesOf, minutesIn, levelsOf, levelsIn};
 
 // Day, hour, minute, second, and the seconds since the day began.
 pub struct Moment {
@@ -46,6 +47,19 @@ fn decimal(s: &[u8]) -> u64
     }
 }
 
+// Writes the text of t at the start of the room, and answers how long it is; 0 where t has none, since no field is empty.
+fn show(t: u64, room: &mut [u8; 12]) -> usize
+    ensures { λ r. ⌜ r ≤ length (now (room .exit)) ⌝ }
+    ensures { λ r. ⌜ take r (now (room .exit)) ≡ shownOf t ⌝ }
+{
+    let written = writing::put(t, room, 0);
+    match written {
+        Written::Next(n) => n,
+        Written::NoRoom => 0,
+        Written::NoText => 0,
+    }
+}
+
 fn moment_of(s: &[u8]) -> When
     ensures { λ r. ⌜ r ≡ momentOf (now (s .entry)) ⌝ }
 {
@@ -70,12 +84,8 @@ pub fn stamp_moment(stamp: Stamp) -> When
     ensures { λ r. ⌜ r ≡ momentIn (stamp .0) ⌝ }
 {
     let mut room = [0u8; 12];
-    let written = writing::put(stamp.0, &mut room, 0);
-    match written {
-        Written::Next(n) => moment_of(&room[..n]),
-        Written::NoRoom => When::NotOne,
-        Written::NoText => When::NotOne,
-    }
+    let n = show(stamp.0, &mut room);
+    moment_of(&room[..n])
 }
 
 // Degrees and minutes, written together, as minutes.
@@ -116,12 +126,8 @@ pub fn position_minutes(position: Position) -> Minutes
     ensures { λ r. ⌜ r ≡ minutesIn (position .0) ⌝ }
 {
     let mut room = [0u8; 12];
-    let written = writing::put(position.0, &mut room, 0);
-    match written {
-        Written::Next(n) => minutes_of(&room[..n]),
-        Written::NoRoom => Minutes::NotOne,
-        Written::NoText => Minutes::NotOne,
-    }
+    let n = show(position.0, &mut room);
+    minutes_of(&room[..n])
 }
 
 fn levels_of(s: &[u8]) -> Levels
@@ -144,10 +150,6 @@ pub fn level_numbers(level: Level) -> Levels
     ensures { λ r. ⌜ r ≡ levelsIn (level .0) ⌝ }
 {
     let mut room = [0u8; 12];
-    let written = writing::put(level.0, &mut room, 0);
-    match written {
-        Written::Next(n) => levels_of(&room[..n]),
-        Written::NoRoom => Levels::NotOne,
-        Written::NoText => Levels::NotOne,
-    }
+    let n = show(level.0, &mut room);
+    levels_of(&room[..n])
 }

@@ -3,3 +3,4 @@ pub mod Boards
 pub mod Cases
 pub mod Unique
 pub mod Example
+pub mod Examples

@@ -1,6 +1,6 @@
 -- The laws of pictures, runs and cuts. Assumes nothing.
 use mathlib.Core.Path.{_≡_, refl, sym, ap, _∙_}
-use mathlib.Core.Bool.{Bool, true, false, _&&_, _||_, or-false}
+use mathlib.Core.Bool.{Bool, true, false, _&&_}
 use mathlib.Core.List.{List, [], _∷_}
 use Prim.Native.Char.{code}
 use Prim.Native.Nat.{ℕ, zero, suc, _+_, _-_, _≤_, _<_}
@@ -13,9 +13,8 @@ use lib.Seq.{take-all, take-take, drop-cons, drop-drop}
 use borrow.Author.Tests.{lt-ltb, le-ltb, eq-eqb, ne-eqb, eqb-true, leb-true}
 use Rattle.text.specs.Class.{all}
 use Rattle.text.proofs.Logic.{and-left, and-right, true-false, not-holds}
-use Rattle.shapes.specs.Picture.{isOf, fits, fitsAny, oneOf, run, part}
+use Rattle.shapes.specs.Picture.{isOf, fits, run, part}
 use Rattle.shapes.specs.Cut.{upTo, has, before, after, joins}
-use Rattle.shapes.proofs.Pieces.{pieces-more, pieces-one}
 
 -- the part `&s[a..]` is what is left
 pub rest-all : (s : List ℕ) (a : ℕ) → take (length s - a) (drop a s) ≡ drop a s
@@ -79,18 +78,9 @@ fits-length (k ∷ p) (b ∷ s) e = ap suc (fits-length p s (and-right (isOf k b
 pub fits-apart : (p s : List ℕ) → (length p ≡ length s → ⊥) → fits p s ≡ false
 fits-apart p s h = not-holds (fits p s) (λ e. h (sym (fits-length p s e)))
 
--- the first picture, and those after its bar
+-- what stands between two pictures
 abbrev pub bar : ℕ
 bar = code "|"
-
-module _ (p s : List ℕ) where
-  pub one-more : upTo bar p < length p → oneOf p s ≡ (fits (take (upTo bar p) p) s || oneOf (drop (upTo bar p + 1) p) s)
-  unfolding oneOf fitsAny
-  one-more h = rw (pieces-more bar p h)
-
-  pub one-last : length p ≤ upTo bar p → oneOf p s ≡ fits (take (upTo bar p) p) s
-  unfolding oneOf fitsAny
-  one-last h = rw (pieces-one bar p (omega (arith, upTo-le bar p)), take-all (upTo bar p) p h) (or-false (fits p s))
 
 -- ---- runs
 

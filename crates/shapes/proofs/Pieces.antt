@@ -2,12 +2,10 @@
 use mathlib.Core.Path.{_≡_, refl, sym, ap, _∙_}
 use mathlib.Core.Bool.{Bool, true, false, not, _||_}
 use mathlib.Core.List.{List, [], _∷_, _++_, append-nil}
-use Prim.Native.Nat.{ℕ, suc, _+_, _<_}
-use native.Mathlib.Numerals.{add-one}
+use Prim.Native.Nat.{ℕ, suc}
 use native.Mathlib.Omega.{arith}
 use lib.Dec.{eqb, leb·zero, leb·suc-suc}
 use lib.ListN.{length, take, drop}
-use lib.Seq.{drop-cons}
 use borrow.Author.Tests.{eq-eqb, eqb-true, not-true}
 use Rattle.text.proofs.Logic.{and-left, and-right}
 use Rattle.shapes.specs.Cut.{upTo, has}
@@ -34,9 +32,6 @@ module _ (b : ℕ) where
           → pieces b (x ∷ s) ≡ take (upTo b (x ∷ s)) (x ∷ s) ∷ piecesAfter (drop (upTo b (x ∷ s)) (x ∷ s))
       go true q r = rw q
       go false q r = rw (q, r)
-
-  pub pieces-more : (s : List ℕ) → upTo b s < length s → pieces b s ≡ take (upTo b s) s ∷ pieces b (drop (upTo b s + 1) s)
-  pieces-more s h = pieces-turn s ∙ rw (add-one, drop-cons s (upTo b s) 0)
 
   -- the pieces, each after a b, are the text after a b
   pub pieces-text : (s : List ℕ) → eachAfter b (pieces b s) ≡ b ∷ s

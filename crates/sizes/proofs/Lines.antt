@@ -10,6 +10,7 @@ use borrow.Author.Tests.{eq-eqb, ne-eqb, le-leb, lt-leb}
 use Rattle.text.specs.Place.{allIn}
 use Rattle.text.specs.declared.Sized.the-variants as sized
 use Rattle.text.proofs.Logic.{true-false, not-fails, not-holds}
+use Rattle.frame.specs.Frame.{headLength, longestLine}
 use Rattle.forms.specs.Kind.{SEQUENCE, STAMP}
 use Rattle.words.specs.Word.{isWord}
 use Rattle.heads.specs.Facility.{isFacilityValue}
@@ -111,7 +112,7 @@ module _ {b : Body} {t : MessageType} {n : ℕ} {ks : List ℕ} {vs : List Value
   pub has-few : n ≤ length ks
   has-few = rw (h .kinds) (count-dotted t n (h .right))
 
-  pub has-asks : (r : List ℕ) → length r ≤ 2048 → AllAsks (take n ks) r
+  pub has-asks : (r : List ℕ) → length r ≤ longestLine → AllAsks (take n ks) r
   has-asks r s = record { few = rw has-length (table-few t n (h .right)); short = s }
 
   pub has-sized : (r : List ℕ) → sizedAll (take n ks) r (take (length (take n ks)) vs) ≡ sizedAll (kindsIn b) r (valuesIn b)
@@ -170,7 +171,7 @@ space-long [] = refl
 space-long (f ∷ fs) = omega (arith, length-append f (bodyOf fs true), length-append f (bodyOf fs false), space-long fs)
 
 -- each field and its space have at most 2,049 bytes where the route has at most 2,048
-texts-short : (ks : List ℕ) (p m : ℕ) (r : List ℕ) (vs : List Value) → allowedFrom ks p m r vs ≡ true → length r ≤ 2048 → length (bodyOf (textsFrom ks p r vs) false) ≤ length ks * 2049
+texts-short : (ks : List ℕ) (p m : ℕ) (r : List ℕ) (vs : List Value) → allowedFrom ks p m r vs ≡ true → length r ≤ longestLine → length (bodyOf (textsFrom ks p r vs) false) ≤ length ks * 2049
 unfolding allowedFrom textsFrom bodyOf
 texts-short [] p m r [] e h = omega arith
 texts-short [] p m r (v ∷ vs) e h = true-false e refl
@@ -180,7 +181,7 @@ texts-short (k ∷ ks) p m r (v ∷ vs) e h =
     let rest = bodyOf (textsFrom ks (leftOf k s) r vs) false in
     omega (arith, length-append s rest, shown-line k p r v (allowed-first k ks p m r v vs e) h, texts-short ks (leftOf k s) (marksOf k m s) r vs (allowed-rest k ks p m r v vs e) h)
 
-module _ (b : Body) (r : List ℕ) (e : isFielded b r ≡ true) (h : length r ≤ 2048) where
+module _ (b : Body) (r : List ℕ) (e : isFielded b r ≡ true) (h : length r ≤ longestLine) where
   fielded-count : isCount (typeIn b) (fieldCount b) ≡ true
   unfolding isFielded
   fielded-count = not-fails _ (λ q. true-false (rw q at e) refl)
@@ -238,7 +239,7 @@ module _ (b : Body) (r : List ℕ) (t : Bool) where
   unfolding sizedBody
   body-unknown e = bytes-unknown (isBody b r t) (length (bodyText b r t)) e
 
-  body-short : isBody b r t ≡ true → length r ≤ 2048 → length (bodyText b r t) ≤ 38932
+  body-short : isBody b r t ≡ true → length r ≤ longestLine → length (bodyText b r t) ≤ 38932
   unfolding isBody bodyText fieldsText
   body-short e h = go (isWhole b) refl t
     where
@@ -281,7 +282,7 @@ free-short b r t e = omega (arith, free-inside (typeIn b) (bodyText b r t), ap l
 -- ---- the line
 
 -- a line of a head and a body has 18 bytes and the body's
-pub line-length : (m : Message) (r : List ℕ) → isWord SEQUENCE (m .sequence .0) ≡ true → isWord STAMP (m .stamp .0) ≡ true → isFacilityValue (m .facility .0) ≡ true → length (lineOf m r) ≡ 18 + length (bodyText (m .body) r (m .trailing))
+pub line-length : (m : Message) (r : List ℕ) → isWord SEQUENCE (m .sequence .0) ≡ true → isWord STAMP (m .stamp .0) ≡ true → isFacilityValue (m .facility .0) ≡ true → length (lineOf m r) ≡ headLength + length (bodyText (m .body) r (m .trailing))
 unfolding lineOf
 line-length m r x y z = headed-parts (headIn m (typeIn (m .body))) (bodyText (m .body) r (m .trailing)) x y z .size
 
@@ -299,7 +300,7 @@ module _ (m : Message) (r : List ℕ) where
   no-body e = line-not (rw (body-unknown (m .body) r (m .trailing) e, and-false))
 
   -- free text over 2,048 bytes makes a line as long
-  pub free-long : 2048 < length r → sized.NotOne ≡ sizedLine m r
+  pub free-long : longestLine < length r → sized.NotOne ≡ sizedLine m r
   free-long h = line-not (not-holds (isAllowed m r) (λ e. over (allowed-allows m r e)))
     where
       over : Allows m r → ⊥
@@ -313,23 +314,23 @@ pub record Known (m : Message) (r : List ℕ) (n : ℕ) : Type 0 where
   pub body : sizedBody (m .body) r (m .trailing) ≡ sized.Bytes n
 
 module _ {m : Message} {r : List ℕ} {n : ℕ} (s : Known m r n) where
-  line-size : length (lineOf m r) ≡ 18 + n
+  line-size : length (lineOf m r) ≡ headLength + n
   line-size = omega (arith, line-length m r (s .sequence) (s .stamp) (s .facility), body-known (m .body) r (m .trailing) (s .body) .1)
 
-  pub line-fits : length r ≤ 2048 → 18 + n ≤ 38950
+  pub line-fits : length r ≤ longestLine → headLength + n ≤ 38950
   line-fits h = let k = body-known (m .body) r (m .trailing) (s .body) in omega (arith, k .1, body-short (m .body) r (m .trailing) (k .0) h)
 
-  pub too-long : 2048 < 18 + n → sized.NotOne ≡ sizedLine m r
+  pub too-long : longestLine < headLength + n → sized.NotOne ≡ sizedLine m r
   unfolding isAllowed hasSize
-  too-long h = line-not m r (rw (line-size, lt-leb (18 + n) 2048 h, and-false))
+  too-long h = line-not m r (rw (line-size, lt-leb (headLength + n) longestLine h, and-false))
 
-  pub long-plan : isLongPlan (typeIn (m .body)) (18 + n) ≡ true → sized.NotOne ≡ sizedLine m r
+  pub long-plan : isLongPlan (typeIn (m .body)) (headLength + n) ≡ true → sized.NotOne ≡ sizedLine m r
   unfolding isAllowed hasSize
   long-plan h = line-not m r (rw (line-size, h, and-false, and-false))
 
-  pub line-is : 18 + n ≤ 2048 → isLongPlan (typeIn (m .body)) (18 + n) ≡ false → sized.Bytes (18 + n) ≡ sizedLine m r
+  pub line-is : headLength + n ≤ longestLine → isLongPlan (typeIn (m .body)) (headLength + n) ≡ false → sized.Bytes (headLength + n) ≡ sizedLine m r
   unfolding sizedLine isAllowed isHead hasSize
-  line-is h q = rw (s .sequence, s .stamp, s .facility, body-known (m .body) r (m .trailing) (s .body) .0, line-size, le-leb (18 + n) 2048 h, q)
+  line-is h q = rw (s .sequence, s .stamp, s .facility, body-known (m .body) r (m .trailing) (s .body) .0, line-size, le-leb (headLength + n) longestLine h, q)
 
 -- ---- a line by its size
 

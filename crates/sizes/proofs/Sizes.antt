@@ -13,6 +13,7 @@ use lib.Seq.{drop-cons, getD-take, length-take-le}
 use borrow.Author.Tests.{eqb-true}
 use Rattle.text.proofs.Logic.{not-holds}
 use Rattle.forms.specs.Form.{isRoute}
+use Rattle.frame.specs.Frame.{longestLine}
 use Rattle.forms.specs.Kind.{AMENDMENT}
 use Rattle.spacing.specs.Body.{bodyOf}
 use Rattle.kinds.specs.Field.{ROUTE, plain, leftOf, marksOf, follows, isOne, isKindValue, shownKind, isValue, shown}
@@ -87,10 +88,10 @@ module _ (k p m : ℕ) (r : List ℕ) (v : Value) where
       go false x b y = rw x
 
 -- every field has at most 2,048 bytes where the route has
-pub shown-line : (k p : ℕ) (r : List ℕ) (v : Value) → isValue k p r v ≡ true → length r ≤ 2048 → length (shown k p r v) ≤ 2048
+pub shown-line : (k p : ℕ) (r : List ℕ) (v : Value) → isValue k p r v ≡ true → length r ≤ longestLine → length (shown k p r v) ≤ longestLine
 shown-line k p r v e h = go (eqb (plain k p) ROUTE) refl
   where
-    go : (b : Bool) → eqb (plain k p) ROUTE ≡ b → length (shown k p r v) ≤ 2048
+    go : (b : Bool) → eqb (plain k p) ROUTE ≡ b → length (shown k p r v) ≤ longestLine
     go true x = rw (← (route-shown k p r v (eqb-true (plain k p) ROUTE x))) h
     go false x = omega (arith, shown-short k p r v e x)
 

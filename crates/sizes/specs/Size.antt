@@ -18,6 +18,7 @@ use Rattle.line.specs.Line.{lineOf, isAllowed}
 use Rattle.sizes.specs.declared.SizedField.{SizedField}
 use Rattle.sizes.specs.declared.SizedField.the-variants as field
 use Rattle.sizes.specs.declared.SizedAll.{SizedAll}
+use Rattle.frame.specs.Frame.{longestLine}
 use Rattle.sizes.specs.declared.SizedAll.the-variants as all
 
 -- ---- sizes
@@ -48,4 +49,4 @@ sizedLine m r = cond (isAllowed m r) (sized.Bytes (length (lineOf m r))) sized.N
 
 pub record AllAsks (ks r : List ℕ) : Type 0 where
   pub few : length ks ≤ 19
-  pub short : length r ≤ 2048
+  pub short : length r ≤ longestLine

@@ -3,6 +3,8 @@ use counts::field_count;
 use counts::has_fields;
 use counts::has_route;
 use counts::is_count;
+use frame::BODY_AT;
+use frame::LONGEST_LINE;
 use kinds::ROUTE;
 use kinds::Value;
 use layout::kinds_of;
@@ -17,6 +19,7 @@ use values::values_in;
 ghost use mathlib.Core.Path.{_≡_};
 ghost use Prim.Native.Nat.{_≤_};
 ghost use lib.ListN.{length, take, drop};
+ghost use Rattle.frame.specs.Frame.{longestLine};
 ghost use Rattle.kinds.specs.Field.{ROUTE, plain as plainly};
 ghost use Rattle.messages.specs.Allowed.{allNone};
 ghost use Rattle.sizes.specs.Size.{AllAsks, sizedText, sizedField, sizedAll, sizedFields, sizedBody, sizedLine};
@@ -124,7 +127,7 @@ fn is_none_from(values: [Value; 19], n: usize) -> bool
 
 // How long the text of the fields is, where a line can have this body.
 fn size_fields(b: Body, free: &[u8]) -> Sized
-    requires { ⌜ length (now free) ≤ 2048 ⌝ }
+    requires { ⌜ length (now free) ≤ longestLine ⌝ }
     ensures { λ r. ⌜ r ≡ sizedFields b (now (free .entry)) ⌝ }
 {
     let kind = type_in(b);
@@ -154,7 +157,7 @@ fn size_fields(b: Body, free: &[u8]) -> Sized
 
 // How long the body is, a space at its end counted.
 fn size_body(b: Body, free: &[u8], trailing: bool) -> Sized
-    requires { ⌜ length (now free) ≤ 2048 ⌝ }
+    requires { ⌜ length (now free) ≤ longestLine ⌝ }
     ensures { λ r. ⌜ r ≡ sizedBody b (now (free .entry)) trailing ⌝ }
 {
     if !has_fields(type_in(b)) {
@@ -179,7 +182,7 @@ fn size_body(b: Body, free: &[u8], trailing: bool) -> Sized
 pub fn size_line(m: Message, free: &[u8]) -> Sized
     ensures { λ r. ⌜ r ≡ sizedLine m (now (free .entry)) ⌝ }
 {
-    if free.len() > 2048 {
+    if free.len() > LONGEST_LINE {
         return Sized::NotOne;
     }
     let sequence = m.sequence;
@@ -198,8 +201,8 @@ pub fn size_line(m: Message, free: &[u8]) -> Sized
     let Sized::Bytes(n) = size_body(body, free, m.trailing) else {
         return Sized::NotOne;
     };
-    let size = 18 + n;
-    if size > 2048 {
+    let size = BODY_AT + n;
+    if size > LONGEST_LINE {
         return Sized::NotOne;
     }
     if counts::is_long_plan(type_in(body), size) {

@@ -2,19 +2,44 @@
 use mathlib.Core.Path.{_≡_, refl, sym, ap₂, _∙_}
 use mathlib.Core.Bool.{Bool, true, false, _&&_, _||_, Bool·beq}
 use mathlib.Core.List.{List, [], _∷_, _++_, map}
-use Prim.Native.Nat.{ℕ, _≤_, _<_}
+use Prim.Native.Nat.{ℕ, _-_, _≤_, _<_}
 use native.Mathlib.Omega.{arith}
 use lib.Dec.{leb, eqb, lit≤}
-use borrow.Author.Tests.{le-leb, lt-leb, ne-eqb, leb-true, leb-false, eqb-true}
+use borrow.Author.Tests.{le-leb, lt-leb, eq-eqb, ne-eqb, leb-true, leb-false, eqb-true}
 use Rattle.text.specs.Class.{all, isDigit, isLetter, isAlnum, isTextByte}
 use Rattle.text.specs.Code.{codeOf, byteOf}
 use Rattle.text.specs.Place.{inRange, allIn}
 use Rattle.text.specs.Number.{isDigitTo}
 use Rattle.text.proofs.Logic.{and-left, and-right, or-second, beq-eq, below, below-at}
 
-pub code-high : (b : ℕ) → 90 < b → codeOf b ≡ 0
-unfolding codeOf isDigit isLetter
-code-high b h = simp (le-leb 48 b (omega arith), lt-leb b 57 (omega arith), le-leb 65 b (omega arith), lt-leb b 90 (omega arith), ne-eqb b 47 (λ e. omega arith))
+-- ---- the code of a byte, range by range
+
+module _ (b : ℕ) where
+  pub code-slash : b ≡ 47 → codeOf b ≡ 37
+  unfolding codeOf isDigit isLetter
+  code-slash e = simp (lt-leb 48 b (omega arith), lt-leb 65 b (omega arith), eq-eqb b 47 e)
+
+  pub code-low : b < 48 → (b ≡ 47 → ⊥) → codeOf b ≡ 0
+  unfolding codeOf isDigit isLetter
+  code-low h n = simp (lt-leb 48 b h, lt-leb 65 b (omega arith), ne-eqb b 47 n)
+
+  pub code-digit : 48 ≤ b → b ≤ 57 → codeOf b ≡ b - 47
+  unfolding codeOf isDigit
+  code-digit h k = simp (le-leb 48 b h, le-leb b 57 k)
+
+  pub code-between : 57 < b → b < 65 → codeOf b ≡ 0
+  unfolding codeOf isDigit isLetter
+  code-between h k = simp (le-leb 48 b (omega arith), lt-leb b 57 h, lt-leb 65 b k, ne-eqb b 47 (λ e. omega arith))
+
+  pub code-letter : 65 ≤ b → b ≤ 90 → codeOf b ≡ b - 54
+  unfolding codeOf isDigit isLetter
+  code-letter h k = simp (le-leb 48 b (omega arith), lt-leb b 57 (omega arith), le-leb 65 b h, le-leb b 90 k)
+
+  pub code-high : 90 < b → codeOf b ≡ 0
+  unfolding codeOf isDigit isLetter
+  code-high h = simp (le-leb 48 b (omega arith), lt-leb b 57 (omega arith), le-leb 65 b (omega arith), lt-leb b 90 (omega arith), ne-eqb b 47 (λ e. omega arith))
+
+-- ---- there and back
 
 back : ℕ → Bool
 back b = eqb (codeOf b) 0 || eqb (byteOf (codeOf b)) b

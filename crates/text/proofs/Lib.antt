@@ -9,5 +9,6 @@ pub mod Numbers
 pub mod Parts
 pub mod Order
 pub mod Unique
+pub mod Examples
 pub mod Turn
 pub mod Packs

@@ -1,6 +1,10 @@
 // A message written as its line: what it takes is known before a byte is written.
 use counts::field_count;
 use counts::has_fields;
+use frame::BODY_AT;
+use frame::FACILITY_AT;
+use frame::STAMP_AT;
+use frame::TYPE_AT;
 use kinds::Value;
 use layout::kinds_of;
 use messages::Body;
@@ -96,10 +100,10 @@ fn put_line(m: Message, free: &[u8], out: &mut [u8])
     let body = m.body;
     let kind = type_in(body);
     sequence.put(out, 0);
-    stamp.put(&mut out[4..], 0);
-    facility.put(&mut out[12..], 0);
-    kind.put(&mut out[16..], 0);
-    put_body(body, free, m.trailing, &mut out[18..]);
+    stamp.put(&mut out[STAMP_AT..], 0);
+    facility.put(&mut out[FACILITY_AT..], 0);
+    kind.put(&mut out[TYPE_AT..], 0);
+    put_body(body, free, m.trailing, &mut out[BODY_AT..]);
 }
 
 // Writes a message's line from place `at`: 16 for values that no line has, then 15 where it does not fit; every other

@@ -11,18 +11,6 @@ use borrow.Author.Needs.{needs}
 use Rattle.ages.proofs.age.Statement.{statement}
 use Rattle.ages.proofs.age.Tie as tie
 
-returns : tie.Need-returns
-returns c = let h : c .before .args .last < 28 = omega (arith, c .if1 .taken) in in-age-case (out-of-range (LastUnder h))
-
-returns-2 : tie.Need-returns-2
-returns-2 c = let h : 31 < c .before .before .args .last = omega (arith, c .if2 .taken) in in-age-case (out-of-range (LastOver h))
-
-returns-3 : tie.Need-returns-3
-returns-3 c = in-age-case (out-of-range (NowOut (sym (c .before .before .stamp-moment .ensures) ∙ c .enum-told .given .1)))
-
-returns-4 : tie.Need-returns-4
-returns-4 c = in-age-case (out-of-range (StampOut (sym (c .before .before .stamp-moment2 .ensures) ∙ c .enum-told2 .given .1)))
-
 age-at-requires : tie.Need-age-at-requires
 age-at-requires c κs =
     let s = c .before in
@@ -50,16 +38,10 @@ returns-5 c =
 pub age-spec : {M : Type 1} → statement M
 age-spec =
     tie.close
-    (tie.spec
-    returns
-    returns-2
-    (λ c κs. search needs)
-    (λ c. search needs)
-    (λ c. search needs)
-    returns-3
-    (λ c κs. search needs)
-    (λ c. search needs)
-    (λ c. search needs)
-    returns-4
-    age-at-requires
+    (tie.spec (λ c. let h : c .before .args .last < 28 = omega (arith, c .if1 .taken) in in-age-case (out-of-range (LastUnder h)))
+    (λ c. let h : 31 < c .before .before .args .last = omega (arith, c .if2 .taken) in in-age-case (out-of-range (LastOver h)))
+    (λ c κs. search needs) (λ c. search needs) (λ c. search needs)
+    (λ c. in-age-case (out-of-range (NowOut (sym (c .before .before .stamp-moment .ensures) ∙ c .enum-told .given .1)))) (λ c κs. search needs)
+    (λ c. search needs) (λ c. search needs)
+    (λ c. in-age-case (out-of-range (StampOut (sym (c .before .before .stamp-moment2 .ensures) ∙ c .enum-told2 .given .1)))) age-at-requires
     returns-5)

@@ -22,9 +22,6 @@ returns-2 c =
     let h : i .args .stamped .seconds ≤ i .args .moment .seconds = omega (arith, e .if2 .left) in
     same-day _ _ _ (t .if1 .taken) h
 
-day-before-requires : tie.Need-day-before-requires
-day-before-requires c κs = c .before .before .before .pre .1 .0 .day-least
-
 returns-3 : tie.Need-returns-3
 returns-3 c =
     let t = c .before .before in
@@ -39,4 +36,6 @@ returns-4 c =
 
 pub age-at-spec : {M : Type 1} → statement M
 age-at-spec =
-    tie.close (tie.spec returns returns-2 day-before-requires (λ c. search needs) (λ c. search needs) returns-3 returns-4)
+    tie.close
+    (tie.spec returns returns-2 (λ c κs. c .before .before .before .pre .1 .0 .day-least) (λ c. search needs) (λ c. search needs) returns-3
+    returns-4)

@@ -6,11 +6,8 @@ use borrow.Author.Needs.{needs}
 use Rattle.ages.proofs.day_before.Statement.{statement}
 use Rattle.ages.proofs.day_before.Tie as tie
 
-returns : tie.Need-returns
-returns c = let e : c .before .args .day ≡ 1 = omega (arith, c .if1 .taken) in sym (before-first _ _ e)
-
-returns-2 : tie.Need-returns-2
-returns-2 c = let f : c .before .args .day ≡ 1 → ⊥ = λ e. omega (arith, e, c .if1 .left) in sym (before-other _ _ f)
-
 pub day-before-spec : {M : Type 1} → statement M
-day-before-spec = tie.close (tie.spec returns (λ c. search needs) returns-2)
+day-before-spec =
+    tie.close
+    (tie.spec (λ c. let e : c .before .args .day ≡ 1 = omega (arith, c .if1 .taken) in sym (before-first _ _ e)) (λ c. search needs)
+    (λ c. let f : c .before .args .day ≡ 1 → ⊥ = λ e. omega (arith, e, c .if1 .left) in sym (before-other _ _ f)))

@@ -8,43 +8,8 @@ returns : tie.Need-returns
 unfolding countWith
 returns c = rw (c .amendment-count .ensures, c .before .enum-told .given .1)
 
-returns-2 : tie.Need-returns-2
-unfolding countWith
-returns-2 c = rw (c .enum-told2 .given .1)
-
-returns-3 : tie.Need-returns-3
-unfolding countWith
-returns-3 c = rw (c .enum-told3 .given .1)
-
-returns-4 : tie.Need-returns-4
-unfolding countWith
-returns-4 c = rw (c .enum-told4 .given .1)
-
-returns-5 : tie.Need-returns-5
-unfolding countWith
-returns-5 c = rw (c .enum-told5 .given .1)
-
-returns-6 : tie.Need-returns-6
-unfolding countWith
-returns-6 c = rw (c .enum-told6 .given .1)
-
-returns-7 : tie.Need-returns-7
-unfolding countWith
-returns-7 c = rw (c .enum-told7 .given .1)
-
-returns-8 : tie.Need-returns-8
-unfolding countWith
-returns-8 c = rw (c .enum-told8 .given .1)
-
-returns-9 : tie.Need-returns-9
-unfolding countWith
-returns-9 c = rw (c .enum-told9 .given .1)
-
-returns-10 : tie.Need-returns-10
-unfolding countWith
-returns-10 c = rw (c .enum-told10 .given .1)
-
 pub field-count-spec : {M : Type 1} → statement M
+unfolding countWith
 field-count-spec =
     tie.close
     (tie.spec
@@ -63,12 +28,12 @@ field-count-spec =
     (λ c. search needs)
     (λ c. search needs)
     returns
-    returns-2
-    returns-3
-    returns-4
-    returns-5
-    returns-6
-    returns-7
-    returns-8
-    returns-9
-    returns-10)
+    (λ c. search needs)
+    (λ c. search needs)
+    (λ c. search needs)
+    (λ c. search needs)
+    (λ c. search needs)
+    (λ c. search needs)
+    (λ c. search needs)
+    (λ c. search needs)
+    (λ c. search needs))

@@ -4,11 +4,8 @@ use borrow.Author.Needs.{needs}
 use Rattle.cutter.proofs.at_start.Statement.{statement}
 use Rattle.cutter.proofs.at_start.Tie as tie
 
-returns : tie.Need-returns
-returns c = held-start _ _ (c .before .begun .given .1)
-
-returns-2 : tie.Need-returns-2
-returns-2 c = mark-start _ (c .enum-told .given .1)
-
 pub at-start-spec : {M : Type 1} → statement M
-at-start-spec = tie.close (tie.spec (λ c. search needs) (λ c. search needs) returns returns-2)
+at-start-spec =
+    tie.close
+    (tie.spec (λ c. search needs) (λ c. search needs) (λ c. held-start _ _ (c .before .begun .given .1))
+    (λ c. mark-start _ (c .enum-told .given .1)))

@@ -5,12 +5,6 @@ use borrow.Author.Needs.{needs}
 use Rattle.cutter.proofs.close.Statement.{statement}
 use Rattle.cutter.proofs.close.Tie as tie
 
-returns : tie.Need-returns
-returns c = close-long _ _ _ (sym (c .before .before .at-start .ensures) ∙ c .before .if1 .taken) (c .if2 .taken)
-
-returns-2 : tie.Need-returns-2
-returns-2 c = close-within _ _ _ (sym (c .before .before .at-start .ensures) ∙ c .before .if1 .taken) (c .if2 .left)
-
 returns-3 : tie.Need-returns-3
 returns-3 c =
     let h = c .before .before .before .before .before in
@@ -26,14 +20,6 @@ returns-4 c =
 pub close-spec : {M : Type 1} → statement M
 close-spec =
     tie.close
-    (tie.spec
-    (λ c κs. search needs)
-    returns
-    returns-2
-    (λ c κs. search needs)
-    (λ c. search needs)
-    (λ c. search needs)
-    (λ c. search needs)
-    returns-3
-    (λ c. search needs)
-    returns-4)
+    (tie.spec (λ c κs. search needs) (λ c. close-long _ _ _ (sym (c .before .before .at-start .ensures) ∙ c .before .if1 .taken) (c .if2 .taken))
+    (λ c. close-within _ _ _ (sym (c .before .before .at-start .ensures) ∙ c .before .if1 .taken) (c .if2 .left)) (λ c κs. search needs)
+    (λ c. search needs) (λ c. search needs) (λ c. search needs) returns-3 (λ c. search needs) returns-4)

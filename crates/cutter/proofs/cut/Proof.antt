@@ -9,17 +9,11 @@ use borrow.Author.Needs.{needs}
 use Rattle.cutter.proofs.cut.Statement.{statement}
 use Rattle.cutter.proofs.cut.Tie as tie
 
-returns : tie.Need-returns
-returns c = in-cut-case _ _ _ (cut-refused _ _ _ (sym (c .before .is-allowed .ensures) ∙ not-true _ (c .if1 .taken)))
-
 returns-2 : tie.Need-returns-2
 returns-2 c =
     let h = c .before .before in
     let f = h .before .before .before in
     in-cut-case _ _ _ (cut-taken _ _ _ (sym (f .before .before .is-allowed .ensures) ∙ not-false _ (f .before .if1 .left)) _ (f .find-far .ensures) _ (h .before .before .if2 .taken) _ (h .hold .ensures .0) (h .hold .ensures .1))
-
-slice-aggregate-close : tie.Need-slice-aggregate-close
-slice-aggregate-close c = sym (length-take-le _ _ (found-le _ _ (c .before .before .before .find-far .ensures)))
 
 add-t12 : tie.Need-add-t12
 add-t12 c =
@@ -36,16 +30,8 @@ returns-3 c =
 pub cut-spec : {M : Type 1} → statement M
 cut-spec =
     tie.close
-    (tie.spec
-    (λ c κs. search needs)
-    (λ c. search needs)
-    returns
-    (λ c κs. search needs)
-    (λ c κs. search needs)
-    (λ c. search needs)
-    returns-2
-    slice-aggregate-close
-    (λ c κs. search needs)
-    add-t12
-    (λ c. search needs)
+    (tie.spec (λ c κs. search needs) (λ c. search needs)
+    (λ c. in-cut-case _ _ _ (cut-refused _ _ _ (sym (c .before .is-allowed .ensures) ∙ not-true _ (c .if1 .taken)))) (λ c κs. search needs)
+    (λ c κs. search needs) (λ c. search needs) returns-2
+    (λ c. sym (length-take-le _ _ (found-le _ _ (c .before .before .before .find-far .ensures)))) (λ c κs. search needs) add-t12 (λ c. search needs)
     returns-3)

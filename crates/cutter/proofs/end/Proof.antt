@@ -7,9 +7,6 @@ use borrow.Author.Needs.{needs}
 use Rattle.cutter.proofs.end.Statement.{statement}
 use Rattle.cutter.proofs.end.Tie as tie
 
-returns : tie.Need-returns
-returns c = in-end-case _ _ (end-refused _ _ (sym (c .before .is-allowed .ensures) ∙ not-true _ (c .if1 .taken)))
-
 returns-2 : tie.Need-returns-2
 returns-2 c =
     let s = c .before in
@@ -21,4 +18,7 @@ returns-3 c =
     in-end-case _ _ (end-inside _ _ (sym (s .before .before .is-allowed .ensures) ∙ not-false _ (s .before .if1 .left)) (sym (s .at-start .ensures) ∙ c .if2 .left))
 
 pub end-spec : {M : Type 1} → statement M
-end-spec = tie.close (tie.spec (λ c κs. search needs) returns (λ c κs. search needs) returns-2 returns-3)
+end-spec =
+    tie.close
+    (tie.spec (λ c κs. search needs) (λ c. in-end-case _ _ (end-refused _ _ (sym (c .before .is-allowed .ensures) ∙ not-true _ (c .if1 .taken))))
+    (λ c κs. search needs) returns-2 returns-3)

@@ -15,8 +15,5 @@ returns c =
     let h : length (now (a .s)) ≤ a .n = omega (arith, c .if1 .taken) in
     sym (take-all (a .n) (now (a .s)) h)
 
-slice-aggregate-result : tie.Need-slice-aggregate-result
-slice-aggregate-result c = sym (length-take-le _ _ (c .before .if1 .left))
-
 pub first-spec : {M : Type 1} → statement M
-first-spec = tie.close (tie.spec returns slice-aggregate-result (λ c. search needs))
+first-spec = tie.close (tie.spec returns (λ c. sym (length-take-le _ _ (c .before .if1 .left))) (λ c. search needs))

@@ -5,9 +5,6 @@ use borrow.Author.Needs.{needs}
 use Rattle.cutter.proofs.hold.Statement.{statement}
 use Rattle.cutter.proofs.hold.Tie as tie
 
-returns : tie.Need-returns
-returns c = mark-more _ _ _ (c .enum-told .given .1)
-
 returns-2 : tie.Need-returns-2
 returns-2 c =
     let w = c .before .before .before .before .before in
@@ -21,13 +18,5 @@ returns-3 c =
 pub hold-spec : {M : Type 1} → statement M
 hold-spec =
     tie.close
-    (tie.spec
-    (λ c. search needs)
-    (λ c. search needs)
-    returns
-    (λ c κs. search needs)
-    (λ c. search needs)
-    (λ c. search needs)
-    returns-2
-    (λ c. search needs)
-    returns-3)
+    (tie.spec (λ c. search needs) (λ c. search needs) (λ c. mark-more _ _ _ (c .enum-told .given .1)) (λ c κs. search needs) (λ c. search needs)
+    (λ c. search needs) returns-2 (λ c. search needs) returns-3)

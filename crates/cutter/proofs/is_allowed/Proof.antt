@@ -7,18 +7,6 @@ use borrow.Author.Needs.{needs}
 use Rattle.cutter.proofs.is_allowed.Statement.{statement}
 use Rattle.cutter.proofs.is_allowed.Tie as tie
 
-returns : tie.Need-returns
-returns c = wrong-size _ _ (c .if1 .taken)
-
-returns-2 : tie.Need-returns-2
-returns-2 c = too-many _ _ (c .before .before .before .before .if1 .left) _ (c .before .before .begun .given .1) (c .if2 .taken)
-
-slice-aggregate-find : tie.Need-slice-aggregate-find
-slice-aggregate-find c = sym (length-take-le _ _ (omega (arith, c .before .if2 .left, c .before .before .before .before .before .if1 .left)))
-
-returns-3 : tie.Need-returns-3
-returns-3 c = mark-allowed _ _ (c .before .before .if1 .left) (c .enum-told .given .1)
-
 returns-4 : tie.Need-returns-4
 returns-4 c =
     let b = c .before .before .before .before in
@@ -27,12 +15,7 @@ returns-4 c =
 pub is-allowed-spec : {M : Type 1} → statement M
 is-allowed-spec =
     tie.close
-    (tie.spec
-    returns
-    (λ c. search needs)
-    (λ c. search needs)
-    returns-2
-    slice-aggregate-find
-    (λ c κs. search needs)
-    returns-3
-    returns-4)
+    (tie.spec (λ c. wrong-size _ _ (c .if1 .taken)) (λ c. search needs) (λ c. search needs)
+    (λ c. too-many _ _ (c .before .before .before .before .if1 .left) _ (c .before .before .begun .given .1) (c .if2 .taken))
+    (λ c. sym (length-take-le _ _ (omega (arith, c .before .if2 .left, c .before .before .before .before .before .if1 .left))))
+    (λ c κs. search needs) (λ c. mark-allowed _ _ (c .before .before .if1 .left) (c .enum-told .given .1)) returns-4)

@@ -5,24 +5,10 @@ use borrow.Author.Needs.{needs}
 use Rattle.cutter.proofs.line.Statement.{statement}
 use Rattle.cutter.proofs.line.Tie as tie
 
-returns : tie.Need-returns
-returns c = c .first .ensures ∙ line-held _ _ _ _ (c .before .before .answer .given .1)
-
-returns-2 : tie.Need-returns-2
-returns-2 c = c .first2 .ensures ∙ line-part _ _ _ _ (c .before .before .answer2 .given .1)
-
-returns-3 : tie.Need-returns-3
-returns-3 c = c .first3 .ensures ∙ line-none _ _ _ (c .before .match .keys3)
-
 pub line-spec : {M : Type 1} → statement M
 line-spec =
     tie.close
-    (tie.spec
-    (λ c. search needs)
-    (λ c κs. search needs)
-    (λ c. search needs)
-    (λ c κs. search needs)
-    (λ c κs. search needs)
-    returns
-    returns-2
-    returns-3)
+    (tie.spec (λ c. search needs) (λ c κs. search needs) (λ c. search needs) (λ c κs. search needs) (λ c κs. search needs)
+    (λ c. c .first .ensures ∙ line-held _ _ _ _ (c .before .before .answer .given .1))
+    (λ c. c .first2 .ensures ∙ line-part _ _ _ _ (c .before .before .answer2 .given .1))
+    (λ c. c .first3 .ensures ∙ line-none _ _ _ (c .before .match .keys3)))

@@ -10,10 +10,11 @@ use Rattle.layout.specs.Table.{routeBy}
 use Rattle.line.proofs.Ways.{free-short, free-none, free-whole, free-route}
 use borrow.Author.Needs.{needs}
 use Rattle.line.proofs.free.Statement.{statement}
+use Rattle.frame.specs.Frame.{headLength, typePart}
 use Rattle.line.proofs.free.Tie as tie
 
 -- the type that was read
-told : (c : tie.After-known-told) → let k = c .before in typeOf (part 16 2 (now (k .before .before .before .before .before .before .args .line))) ≡ type.Read (k .kind .given .0 .0)
+told : (c : tie.After-known-told) → let k = c .before in typeOf (typePart (now (k .before .before .before .before .before .before .args .line))) ≡ type.Read (k .kind .given .0 .0)
 told c = let k = c .before in sym (k .before .before .read .ensures) ∙ k .kind .given .1
 
 returns : tie.Need-returns
@@ -38,7 +39,7 @@ returns-4 c =
     let h = i .before in
     let e = h .before .before .before .before .before .before in
     let s = now (e .before .before .args .line) in
-    c .route .ensures ∙ ap (routeBy _) (rest-all s 18) ∙ free-route s (e .if1 .left) _ (told (h .before)) (so (h .has-fields .ensures) (i .if2 .left))
+    c .route .ensures ∙ ap (routeBy _) (rest-all s headLength) ∙ free-route s (e .if1 .left) _ (told (h .before)) (so (h .has-fields .ensures) (i .if2 .left))
 
 pub free-spec : {M : Type 1} → statement M
 free-spec =

@@ -1,52 +1,13 @@
--- `meanings::level_numbers` meets its contract: the text stands at the start of twelve bytes, and is asked there.
--- Assumes nothing.
-use mathlib.Core.Path.{refl, sym, _∙_}
-use native.Mathlib.Omega.{arith}
+-- `meanings::level_numbers` meets its contract: it asks the text that `show` left. Assumes nothing.
+use mathlib.Core.Path.{sym, _∙_}
 use lib.Seq.{length-take-le}
-use Rattle.text.proofs.Laws.{shown-packed, shown-size, shown-text, text-short, twelve-room, no-text-known}
-use Rattle.meanings.specs.Meaning.{levelsIn}
+use Rattle.meanings.proofs.Laws.{levels-in}
 use borrow.Author.Needs.{needs}
 use Rattle.meanings.proofs.level_numbers.Statement.{statement}
 use Rattle.meanings.proofs.level_numbers.Tie as tie
 
-array-share-prefix-room : tie.Need-array-share-prefix-room
-array-share-prefix-room c =
-    let p = c .before .before .before .before .put in
-    let told = sym (p .ensures .0) ∙ c .before .written .given .1 in
-    omega (arith, shown-size _ _ _ _ refl told (p .ensures .1), text-short _ (shown-packed _ _ _ _ refl told (p .ensures .1)), p .kept .1 .0)
-
-slice-aggregate-levels-of : tie.Need-slice-aggregate-levels-of
-slice-aggregate-levels-of c =
-    let p = c .before .before .before .before .before .put in
-    let told = sym (p .ensures .0) ∙ c .before .before .written .given .1 in
-    sym (length-take-le _ _ (omega (arith, shown-size _ _ _ _ refl told (p .ensures .1), text-short _ (shown-packed _ _ _ _ refl told (p .ensures .1)), p .kept .1 .0)))
-
-returns : tie.Need-returns
-unfolding levelsIn
-returns c =
-    let p = c .before .before .before .before .before .before .put in
-    let told = sym (p .ensures .0) ∙ c .before .before .before .written .given .1 in
-    c .levels-of .ensures ∙ rw (shown-text _ _ _ _ refl told (p .ensures .1), shown-packed _ _ _ _ refl told (p .ensures .1))
-
-returns-2 : tie.Need-returns-2
-returns-2 c = absurd (twelve-room _ _ refl (sym (c .before .before .before .put .ensures .0) ∙ c .enum-told .given .1))
-
-returns-3 : tie.Need-returns-3
-unfolding levelsIn
-returns-3 c = rw (no-text-known _ _ _ (sym (c .before .before .before .put .ensures .0) ∙ c .enum-told2 .given .1))
-
 pub level-numbers-spec : {M : Type 1} → statement M
 level-numbers-spec =
     tie.close
-    (tie.spec
-    (λ c. search needs)
-    (λ c κs. search needs)
-    (λ c. search needs)
-    array-share-prefix-room
-    slice-aggregate-levels-of
-    (λ c κs. search needs)
-    (λ c. search needs)
-    (λ c. search needs)
-    returns
-    returns-2
-    returns-3)
+    (tie.spec (λ c κs. search needs) (λ c. c .show .ensures .0) (λ c. sym (length-take-le _ _ (c .before .show .ensures .0))) (λ c κs. search needs)
+    (λ c. c .levels-of .ensures ∙ levels-in _ (c .before .before .show .ensures .1)))

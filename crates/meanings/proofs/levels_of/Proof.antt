@@ -11,10 +11,6 @@ use borrow.Author.Needs.{needs}
 use Rattle.meanings.proofs.levels_of.Statement.{statement}
 use Rattle.meanings.proofs.levels_of.Tie as tie
 
-returns : tie.Need-returns
-unfolding levelsOf isForm
-returns c = rw (not-so (c .before .is-form .ensures) (c .if1 .taken))
-
 returns-2 : tie.Need-returns-2
 unfolding isForm
 returns-2 c =
@@ -22,9 +18,6 @@ returns-2 c =
     let c₃ = c₂ .before in
     let c₄ = c₃ .before in
     ap One (c .decimal .ensures) ∙ one-level _ _ (c₂ .find .ensures) (so (c₄ .is-form .ensures) (c₃ .if1 .left)) (c .before .if2 .taken)
-
-slice-aggregate-decimal : tie.Need-slice-aggregate-decimal
-slice-aggregate-decimal c = sym (length-take-le _ _ (le-of-lt (c .before .if2 .left)))
 
 returns-3 : tie.Need-returns-3
 unfolding isForm
@@ -37,19 +30,9 @@ returns-3 c =
     ap₂ Block (c₂ .decimal2 .ensures) (c .decimal3 .ensures) ∙ two-levels _ _ (c₅ .find .ensures) (so (c₇ .is-form .ensures) (c₆ .if1 .left)) (c₄ .if2 .left)
 
 pub levels-of-spec : {M : Type 1} → statement M
+unfolding levelsOf isForm
 levels-of-spec =
     tie.close
-    (tie.spec
-    (λ c κs. search needs)
-    returns
-    (λ c κs. search needs)
-    (λ c κs. search needs)
-    returns-2
-    (λ c. search needs)
-    slice-aggregate-decimal
-    (λ c κs. search needs)
-    (λ c. search needs)
-    (λ c. search needs)
-    (λ c. search needs)
-    (λ c κs. search needs)
-    returns-3)
+    (tie.spec (λ c κs. search needs) (λ c. rw (not-so (c .before .is-form .ensures) (c .if1 .taken))) (λ c κs. search needs) (λ c κs. search needs)
+    returns-2 (λ c. search needs) (λ c. sym (length-take-le _ _ (le-of-lt (c .before .if2 .left)))) (λ c κs. search needs) (λ c. search needs)
+    (λ c. search needs) (λ c. search needs) (λ c κs. search needs) returns-3)

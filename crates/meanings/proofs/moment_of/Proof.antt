@@ -1,63 +1,23 @@
 -- `meanings::moment_of` meets its contract. Assumes nothing.
+use Prim.Native.Nat.{_≤_}
 use native.Mathlib.Omega.{arith}
+use denote.Ref.{now}
 use Rattle.text.proofs.Logic.{so, not-so}
 use Rattle.meanings.specs.Meaning.{momentOf}
-use Rattle.meanings.proofs.Laws.{stamped}
+use Rattle.meanings.proofs.Laws.{Stamped, stamped}
 use borrow.Author.Needs.{needs}
 use Rattle.meanings.proofs.moment_of.Statement.{statement}
 use Rattle.meanings.proofs.moment_of.Tie as tie
 
-returns : tie.Need-returns
-unfolding momentOf
-returns c = rw (not-so (c .before .is-stamp .ensures) (c .if1 .taken))
+stamp : (c : tie.Else1) → Stamped (now (c .before .before .before .args .s))
+stamp c = stamped _ (so (c .before .is-stamp .ensures) (c .if1 .left))
 
-part-decimal-end : tie.Need-part-decimal-end
-part-decimal-end c = omega (arith, stamped _ (so (c .before .is-stamp .ensures) (c .if1 .left)) .size)
-
-part-decimal-end-2 : tie.Need-part-decimal-end-2
-part-decimal-end-2 c = omega (arith, stamped _ (so (c .before .before .before .is-stamp .ensures) (c .before .before .if1 .left)) .size)
-
-part-decimal-end-3 : tie.Need-part-decimal-end-3
-part-decimal-end-3 c =
+in-day : (c : tie.After-decimal4)
+    → (c .before .before .before .before .decimal2 .result ≤ 23) × (c .before .before .decimal3 .result ≤ 59) × (c .decimal4 .result ≤ 59)
+in-day c =
     let c₄ = c .before .before .before .before in
-    let c₅ = c₄ .before in
-    omega (arith, stamped _ (so (c₅ .is-stamp .ensures) (c₄ .if1 .left)) .size)
-
-part-decimal-end-4 : tie.Need-part-decimal-end-4
-part-decimal-end-4 c =
-    let c₆ = c .before .before .before .before .before .before in
-    let c₇ = c₆ .before in
-    omega (arith, stamped _ (so (c₇ .is-stamp .ensures) (c₆ .if1 .left)) .size)
-
-mul-seconds : tie.Need-mul-seconds
-mul-seconds c =
-    let c₄ = c .before .before .before .before in
-    let c₈ = c₄ .before .before .before .before in
-    let c₉ = c₈ .before in
-    omega (arith, c₄ .decimal2 .ensures, stamped _ (so (c₉ .is-stamp .ensures) (c₈ .if1 .left)) .hour)
-
-mul-seconds-2 : tie.Need-mul-seconds-2
-mul-seconds-2 c =
-    let c₂ = c .before .before in
-    let c₈ = c₂ .before .before .before .before .before .before in
-    let c₉ = c₈ .before in
-    omega (arith, c₂ .decimal3 .ensures, stamped _ (so (c₉ .is-stamp .ensures) (c₈ .if1 .left)) .minute)
-
-add-seconds : tie.Need-add-seconds
-add-seconds c =
-    let c₂ = c .before .before in
-    let c₄ = c₂ .before .before in
-    let c₈ = c₄ .before .before .before .before in
-    let c₉ = c₈ .before in
-    omega (arith, c₄ .decimal2 .ensures, c₂ .decimal3 .ensures, stamped _ (so (c₉ .is-stamp .ensures) (c₈ .if1 .left)) .hour, stamped _ (so (c₉ .is-stamp .ensures) (c₈ .if1 .left)) .minute)
-
-add-seconds-2 : tie.Need-add-seconds-2
-add-seconds-2 c =
-    let c₂ = c .before .before in
-    let c₄ = c₂ .before .before in
-    let c₈ = c₄ .before .before .before .before in
-    let c₉ = c₈ .before in
-    omega (arith, c₄ .decimal2 .ensures, c₂ .decimal3 .ensures, c .decimal4 .ensures, stamped _ (so (c₉ .is-stamp .ensures) (c₈ .if1 .left)) .hour, stamped _ (so (c₉ .is-stamp .ensures) (c₈ .if1 .left)) .minute, stamped _ (so (c₉ .is-stamp .ensures) (c₈ .if1 .left)) .second)
+    let t = stamp (c₄ .before .before .before .before) in
+    (omega (arith, c₄ .decimal2 .ensures, t .hour), omega (arith, c .before .before .decimal3 .ensures, t .minute), omega (arith, c .decimal4 .ensures, t .second))
 
 returns-2 : tie.Need-returns-2
 unfolding momentOf
@@ -66,33 +26,16 @@ returns-2 c =
     let c₄ = c₂ .before .before in
     let c₆ = c₄ .before .before in
     let c₈ = c₆ .before .before in
-    let c₉ = c₈ .before in
-    rw ((so (c₉ .is-stamp .ensures) (c₈ .if1 .left)), c₆ .decimal .ensures, c₄ .decimal2 .ensures, c₂ .decimal3 .ensures, c .decimal4 .ensures)
+    rw ((so (c₈ .before .is-stamp .ensures) (c₈ .if1 .left)), c₆ .decimal .ensures, c₄ .decimal2 .ensures, c₂ .decimal3 .ensures, c .decimal4 .ensures)
 
 pub moment-of-spec : {M : Type 1} → statement M
+unfolding momentOf
 moment-of-spec =
     tie.close
-    (tie.spec
-    (λ c κs. search needs)
-    returns
-    (λ c. search needs)
-    (λ c. search needs)
-    part-decimal-end
-    (λ c κs. search needs)
-    (λ c. search needs)
-    (λ c. search needs)
-    part-decimal-end-2
-    (λ c κs. search needs)
-    (λ c. search needs)
-    (λ c. search needs)
-    part-decimal-end-3
-    (λ c κs. search needs)
-    (λ c. search needs)
-    (λ c. search needs)
-    part-decimal-end-4
-    (λ c κs. search needs)
-    mul-seconds
-    mul-seconds-2
-    add-seconds
-    add-seconds-2
-    returns-2)
+    (tie.spec (λ c κs. search needs) (λ c. rw (not-so (c .before .is-stamp .ensures) (c .if1 .taken))) (λ c. search needs) (λ c. search needs)
+    (λ c. omega (arith, stamp c .size)) (λ c κs. search needs) (λ c. search needs) (λ c. search needs)
+    (λ c. omega (arith, stamp (c .before .before) .size)) (λ c κs. search needs) (λ c. search needs) (λ c. search needs)
+    (λ c. omega (arith, stamp (c .before .before .before .before) .size)) (λ c κs. search needs) (λ c. search needs) (λ c. search needs)
+    (λ c. omega (arith, stamp (c .before .before .before .before .before .before) .size)) (λ c κs. search needs)
+    (λ c. omega (arith, in-day c .0)) (λ c. omega (arith, in-day c .1)) (λ c. omega (arith, in-day c .0, in-day c .1))
+    (λ c. omega (arith, in-day c .0, in-day c .1, in-day c .2)) returns-2)

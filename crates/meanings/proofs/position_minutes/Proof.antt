@@ -1,52 +1,13 @@
--- `meanings::position_minutes` meets its contract: the text stands at the start of twelve bytes, and is asked there.
--- Assumes nothing.
-use mathlib.Core.Path.{refl, sym, _∙_}
-use native.Mathlib.Omega.{arith}
+-- `meanings::position_minutes` meets its contract: it asks the text that `show` left. Assumes nothing.
+use mathlib.Core.Path.{sym, _∙_}
 use lib.Seq.{length-take-le}
-use Rattle.text.proofs.Laws.{shown-packed, shown-size, shown-text, text-short, twelve-room, no-text-known}
-use Rattle.meanings.specs.Meaning.{minutesIn}
+use Rattle.meanings.proofs.Laws.{minutes-in}
 use borrow.Author.Needs.{needs}
 use Rattle.meanings.proofs.position_minutes.Statement.{statement}
 use Rattle.meanings.proofs.position_minutes.Tie as tie
 
-array-share-prefix-room : tie.Need-array-share-prefix-room
-array-share-prefix-room c =
-    let p = c .before .before .before .before .put in
-    let told = sym (p .ensures .0) ∙ c .before .written .given .1 in
-    omega (arith, shown-size _ _ _ _ refl told (p .ensures .1), text-short _ (shown-packed _ _ _ _ refl told (p .ensures .1)), p .kept .1 .0)
-
-slice-aggregate-minutes-of : tie.Need-slice-aggregate-minutes-of
-slice-aggregate-minutes-of c =
-    let p = c .before .before .before .before .before .put in
-    let told = sym (p .ensures .0) ∙ c .before .before .written .given .1 in
-    sym (length-take-le _ _ (omega (arith, shown-size _ _ _ _ refl told (p .ensures .1), text-short _ (shown-packed _ _ _ _ refl told (p .ensures .1)), p .kept .1 .0)))
-
-returns : tie.Need-returns
-unfolding minutesIn
-returns c =
-    let p = c .before .before .before .before .before .before .put in
-    let told = sym (p .ensures .0) ∙ c .before .before .before .written .given .1 in
-    c .minutes-of .ensures ∙ rw (shown-text _ _ _ _ refl told (p .ensures .1), shown-packed _ _ _ _ refl told (p .ensures .1))
-
-returns-2 : tie.Need-returns-2
-returns-2 c = absurd (twelve-room _ _ refl (sym (c .before .before .before .put .ensures .0) ∙ c .enum-told .given .1))
-
-returns-3 : tie.Need-returns-3
-unfolding minutesIn
-returns-3 c = rw (no-text-known _ _ _ (sym (c .before .before .before .put .ensures .0) ∙ c .enum-told2 .given .1))
-
 pub position-minutes-spec : {M : Type 1} → statement M
 position-minutes-spec =
     tie.close
-    (tie.spec
-    (λ c. search needs)
-    (λ c κs. search needs)
-    (λ c. search needs)
-    array-share-prefix-room
-    slice-aggregate-minutes-of
-    (λ c κs. search needs)
-    (λ c. search needs)
-    (λ c. search needs)
-    returns
-    returns-2
-    returns-3)
+    (tie.spec (λ c κs. search needs) (λ c. c .show .ensures .0) (λ c. sym (length-take-le _ _ (c .before .show .ensures .0))) (λ c κs. search needs)
+    (λ c. c .minutes-of .ensures ∙ minutes-in _ (c .before .before .show .ensures .1)))

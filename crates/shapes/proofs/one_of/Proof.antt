@@ -1,23 +1,37 @@
 -- `shapes::one_of` meets its contract: one of the pictures that are left fits as one of all does. Assumes nothing.
 use mathlib.Core.Path.{_≡_, refl, sym, ap, _∙_}
-use mathlib.Core.Bool.{Bool, true, false, _||_}
-use mathlib.Core.List.{List}
+use mathlib.Core.Bool.{Bool, true, false, cond, _||_}
+use mathlib.Core.List.{List, [], _∷_}
 use Prim.Native.Nat.{ℕ, _+_, _-_, _≤_, _<_}
 use native.Mathlib.Omega.{arith}
-use lib.Dec.{ltb}
-use lib.ListN.{length, take, drop, length-drop}
+use lib.Dec.{leb}
+use lib.ListN.{length, take, drop, length-drop, drop-of-length-le}
 use lib.Seq.{drop-drop}
-use borrow.Author.Tests.{ltb-true, ltb-false}
-use Rattle.shapes.specs.Picture.{fits as fitting, oneOf}
+use borrow.Author.Tests.{le-leb, lt-leb, leb-true, leb-false}
+use denote.Ref.{now}
+use Rattle.shapes.specs.Picture.{fits as fitting, fitsAny, oneOf}
 use Rattle.shapes.specs.Cut.{upTo}
-use Rattle.shapes.proofs.Laws.{rest-all, upTo-le, one-more, one-last, bar}
+use Rattle.shapes.specs.Pieces.{pieces}
+use Rattle.shapes.proofs.Laws.{rest-all, next-byte, upTo-le, bar}
+use Rattle.shapes.proofs.Pieces.{piecesAfter, pieces-turn}
 use Rattle.shapes.proofs.one_of.Statement.{statement}
 use Rattle.shapes.proofs.one_of.Tie as tie
 
+-- the pictures that are left from a place on: none past the end
+left : List ℕ → ℕ → List (List ℕ)
+left p from = cond (leb from (length p)) (pieces bar (drop from p)) []
+
 record Inv (p s : List ℕ) (from : ℕ) : Type 0 where
   at : from ≤ length p + 1
-  rest : from ≤ length p → oneOf (drop from p) s ≡ oneOf p s
-  none : length p < from → oneOf p s ≡ false
+  rest : fitsAny (left p from) s ≡ oneOf p s
+
+begin : (p s : List ℕ) → Inv p s 0
+unfolding left oneOf
+begin p s = record { at = omega arith; rest = rw (le-leb 0 (length p) (omega arith)) }
+
+done : {p s : List ℕ} {from : ℕ} → Inv p s from → length p < from → false ≡ oneOf p s
+unfolding left fitsAny
+done {p} {s} {from} v h = rw (lt-leb from (length p) h) at (v .rest)
 
 -- n is the place of the next bar in what is left, r what `fits` answered
 module _ {p s : List ℕ} {from : ℕ} (v : Inv p s from) (more : from ≤ length p) (n : ℕ) (is : n ≡ upTo bar (take (length p - from) (drop from p))) where
@@ -27,43 +41,29 @@ module _ {p s : List ℕ} {from : ℕ} (v : Inv p s from) (more : from ≤ lengt
   inside : from + n ≤ length p
   inside = omega (arith, bar-at, upTo-le bar (drop from p), length-drop from p)
 
+  after : piecesAfter bar (drop (from + n) p) ≡ left p (from + n + 1)
+  unfolding left
+  after = go (leb (from + n + 1) (length p)) refl
+    where
+      go : (t : Bool) → leb (from + n + 1) (length p) ≡ t
+          → piecesAfter bar (drop (from + n) p) ≡ cond (leb (from + n + 1) (length p)) (pieces bar (drop (from + n + 1) p)) []
+      go true q = rw (q, next-byte p (from + n) (omega (arith, leb-true (from + n + 1) (length p) q)))
+      go false q = let h : length p ≤ from + n = omega (arith, leb-false (from + n + 1) (length p) q) in rw (q, drop-of-length-le p h)
+
+  turn : left p from ≡ take n (drop from p) ∷ left p (from + n + 1)
+  unfolding left
+  turn = rw (le-leb from (length p) more, pieces-turn bar (drop from p), ← bar-at, drop-drop n from p, after)
+
   module _ (r : Bool) (told : r ≡ fitting (take (from + n - from) (drop from p)) s) where
-    first : r ≡ fitting (take (upTo bar (drop from p)) (drop from p)) s
-    first = let z : from + n - from ≡ upTo bar (drop from p) = omega (arith, bar-at) in told ∙ ap (λ (k : ℕ). fitting (take k (drop from p)) s) z
-
-    module _ (next : n < length (drop from p)) where
-      split : oneOf p s ≡ (fitting (take (upTo bar (drop from p)) (drop from p)) s || oneOf (drop (upTo bar (drop from p) + 1) (drop from p)) s)
-      split = sym (v .rest more) ∙ one-more (drop from p) s (omega (arith, bar-at))
-
-      rest-at : drop (upTo bar (drop from p) + 1) (drop from p) ≡ drop (from + n + 1) p
-      rest-at = let z : from + (upTo bar (drop from p) + 1) ≡ from + n + 1 = omega (arith, bar-at) in drop-drop (upTo bar (drop from p) + 1) from p ∙ ap (λ (k : ℕ). drop k p) z
-
-    module _ (last : length (drop from p) ≤ n) where
-      only : oneOf p s ≡ fitting (take (upTo bar (drop from p)) (drop from p)) s
-      only = sym (v .rest more) ∙ one-last (drop from p) s (omega (arith, bar-at))
+    answered : oneOf p s ≡ (r || fitsAny (left p (from + n + 1)) s)
+    unfolding fitsAny
+    answered = let z : from + n - from ≡ n = omega arith in sym (v .rest) ∙ rw (turn, told, z)
 
     found : r ≡ true → true ≡ oneOf p s
-    found e = go (ltb n (length (drop from p))) refl
-      where
-        go : (t : Bool) → ltb n (length (drop from p)) ≡ t → true ≡ oneOf p s
-        go true q = sym (split (ltb-true n (length (drop from p)) q) ∙ rw (sym first ∙ e))
-        go false q = sym (only (ltb-false n (length (drop from p)) q) ∙ sym first ∙ e)
+    found e = sym (answered ∙ rw e)
 
     again : r ≡ false → Inv p s (from + n + 1)
-    again e = go (ltb n (length (drop from p))) refl
-      where
-        go : (t : Bool) → ltb n (length (drop from p)) ≡ t → Inv p s (from + n + 1)
-        go true q =
-            let h : n < length (drop from p) = ltb-true n (length (drop from p)) q in record {
-              at = omega (arith, inside);
-              rest = λ k. sym (split h ∙ rw (sym first ∙ e, rest-at h));
-              none = λ k. absurd (omega (arith, length-drop from p));
-            }
-        go false q = record {
-          at = omega (arith, inside);
-          rest = λ k. absurd (omega (arith, ltb-false n (length (drop from p)) q, length-drop from p));
-          none = λ k. only (ltb-false n (length (drop from p)) q) ∙ sym first ∙ e;
-        }
+    again e = record { at = omega (arith, inside); rest = sym (answered ∙ rw e) }
 
 abbrev Inv-loop : tie.InvT-loop
 Inv-loop pictures s from₀ from = Inv pictures s from
@@ -71,85 +71,25 @@ Inv-loop pictures s from₀ from = Inv pictures s from
 abbrev μ-loop : tie.MeasureT-loop
 μ-loop pictures s from₀ from = length pictures + 1 - from
 
-loop-holds : tie.Need-loop-holds Inv-loop μ-loop
-loop-holds c = record { at = omega arith; rest = λ h. refl; none = λ h. absurd (omega arith) }
-
-sub-find : tie.Need-sub-find Inv-loop μ-loop
-sub-find c = omega arith
-
-part-find-start : tie.Need-part-find-start Inv-loop μ-loop
-part-find-start c = omega arith
-
-part-find-end : tie.Need-part-find-end Inv-loop μ-loop
-part-find-end c = omega arith
-
-find-requires : tie.Need-find-requires Inv-loop μ-loop
-find-requires c κs = tt
-
-add-end : tie.Need-add-end Inv-loop μ-loop
-add-end c = omega (arith, inside (c .before .before .before .loop .inv) (c .before .before .loop-test .taken) (c .find .result) (c .find .ensures))
-
-sub-fits : tie.Need-sub-fits Inv-loop μ-loop
-sub-fits c = omega arith
-
-part-fits-start : tie.Need-part-fits-start Inv-loop μ-loop
-part-fits-start c = omega arith
-
-part-fits-end : tie.Need-part-fits-end Inv-loop μ-loop
-part-fits-end c = omega (arith, inside (c .before .before .before .loop .inv) (c .before .before .loop-test .taken) (c .find .result) (c .find .ensures))
-
-fits-requires : tie.Need-fits-requires Inv-loop μ-loop
-fits-requires c κs = tt
+ends : (c : tie.After-find Inv-loop μ-loop)
+    → c .before .before .before .loop .from + c .find .result ≤ length (now (c .before .before .before .before .before .before .args .pictures))
+ends c = inside (c .before .before .before .loop .inv) (c .before .before .loop-test .taken) (c .find .result) (c .find .ensures)
 
 returns : tie.Need-returns Inv-loop μ-loop
 returns c =
     let c₃ = c .before .before .before in
     let c₅ = c₃ .before .before in
-    let c₆ = c₅ .before in
-    found (c₆ .loop .inv) (c₅ .loop-test .taken) (c₃ .find .result) (c₃ .find .ensures) (c .before .fits2 .result) (c .before .fits2 .ensures) (c .if1 .taken)
-
-add-from : tie.Need-add-from Inv-loop μ-loop
-add-from c =
-    let c₃ = c .before .before .before in
-    let c₅ = c₃ .before .before in
-    let c₆ = c₅ .before in
-    omega (arith, inside (c₆ .loop .inv) (c₅ .loop-test .taken) (c₃ .find .result) (c₃ .find .ensures))
-
-loop-less : tie.Need-loop-less Inv-loop μ-loop
-loop-less c =
-    let c₃ = c .before .before .before in
-    let c₅ = c₃ .before .before in
-    let c₆ = c₅ .before in
-    omega (arith, inside (c₆ .loop .inv) (c₅ .loop-test .taken) (c₃ .find .result) (c₃ .find .ensures))
+    found (c₅ .before .loop .inv) (c₅ .loop-test .taken) (c₃ .find .result) (c₃ .find .ensures) (c .before .fits2 .result) (c .before .fits2 .ensures) (c .if1 .taken)
 
 loop-again : tie.Need-loop-again Inv-loop μ-loop
 loop-again c =
     let c₃ = c .before .before .before in
     let c₅ = c₃ .before .before in
-    let c₆ = c₅ .before in
-    again (c₆ .loop .inv) (c₅ .loop-test .taken) (c₃ .find .result) (c₃ .find .ensures) (c .before .fits2 .result) (c .before .fits2 .ensures) (c .if1 .left)
-
-returns-2 : tie.Need-returns-2 Inv-loop μ-loop
-returns-2 c = sym (c .before .loop .inv .none (c .loop-test .left))
+    again (c₅ .before .loop .inv) (c₅ .loop-test .taken) (c₃ .find .result) (c₃ .find .ensures) (c .before .fits2 .result) (c .before .fits2 .ensures) (c .if1 .left)
 
 pub one-of-spec : {M : Type 1} → statement M
 one-of-spec =
     tie.close
-    (tie.spec
-    Inv-loop
-    μ-loop
-    loop-holds
-    sub-find
-    part-find-start
-    part-find-end
-    find-requires
-    add-end
-    sub-fits
-    part-fits-start
-    part-fits-end
-    fits-requires
-    returns
-    add-from
-    loop-less
-    loop-again
-    returns-2)
+    (tie.spec Inv-loop μ-loop (λ c. begin _ _) (λ c. omega arith) (λ c. omega arith) (λ c. omega arith) (λ c κs. tt) (λ c. omega (arith, ends c))
+    (λ c. omega arith) (λ c. omega arith) (λ c. omega (arith, ends c)) (λ c κs. tt) returns (λ c. omega (arith, ends (c .before .before .before)))
+    (λ c. omega (arith, ends (c .before .before .before))) loop-again (λ c. done (c .before .loop .inv) (c .loop-test .left)))

@@ -26,31 +26,9 @@ module _ {lo hi : ℕ} {s : List ℕ} {seen : Bool} {i : ℕ} (v : Inv lo hi s s
   unfolding allIn all
   again h = record { at = omega arith; rest = simp and-assoc (simp (next-byte s i h, and-assoc) at (v .rest)) }
 
-abbrev Inv-loop : tie.InvT-loop
-Inv-loop lo hi s all₀ i₀ all i = Inv lo hi s all i
-
-abbrev μ-loop : tie.MeasureT-loop
-μ-loop lo hi s all₀ i₀ all i = length s - i
-
-loop-holds : tie.Need-loop-holds Inv-loop μ-loop
-loop-holds c = record { at = omega arith; rest = refl }
-
-shared-slice-read-b : tie.Need-shared-slice-read-b Inv-loop μ-loop
-shared-slice-read-b c = omega arith
-
-add-i : tie.Need-add-i Inv-loop μ-loop
-add-i c = omega arith
-
-loop-less : tie.Need-loop-less Inv-loop μ-loop
-loop-less c = omega arith
-
-loop-again : tie.Need-loop-again Inv-loop μ-loop
-loop-again c = again (c .before .before .loop .inv) (c .before .loop-test .taken)
-
-returns : tie.Need-returns Inv-loop μ-loop
-returns c = done (c .before .loop .inv) (c .loop-test .left)
-
 pub each-within-spec : {M : Type 1} → statement M
 each-within-spec =
     tie.close
-    (tie.spec Inv-loop μ-loop loop-holds shared-slice-read-b add-i loop-less loop-again returns)
+    (tie.spec (λ lo hi s all₀ i₀ all i. Inv lo hi s all i) (λ lo hi s all₀ i₀ all i. length s - i) (λ c. record { at = omega arith; rest = refl })
+    (λ c. omega arith) (λ c. omega arith) (λ c. omega arith) (λ c. again (c .before .before .loop .inv) (c .before .loop-test .taken))
+    (λ c. done (c .before .loop .inv) (c .loop-test .left)))

@@ -38,9 +38,6 @@ Inv-loop b s i₀ i = Inv b s i
 abbrev μ-loop : tie.MeasureT-loop
 μ-loop b s i₀ i = length s - i
 
-loop-holds : tie.Need-loop-holds Inv-loop μ-loop
-loop-holds c = record { at = omega arith; rest = omega arith }
-
 loop-again : tie.Need-loop-again Inv-loop μ-loop
 loop-again c =
     let a = c .before .before .before in
@@ -51,28 +48,10 @@ add-result c =
     let a = c .before .before .before in
     omega (arith, found (a .loop .inv) (c .find .result) (c .find .ensures), upTo-le (a .before .before .args .b) (a .before .before .args .s .now))
 
-returns : tie.Need-returns Inv-loop μ-loop
-returns c = found (c .before .before .before .loop .inv) (c .find .result) (c .find .ensures)
-
 pub find-far-spec : {M : Type 1} → statement M
 find-far-spec =
     tie.close
-    (tie.spec
-    Inv-loop
-    μ-loop
-    loop-holds
-    (λ c. search needs)
-    (λ c. search needs)
-    (λ c. search needs)
-    (λ c. search needs)
-    (λ c. search needs)
-    (λ c κs. search needs)
-    (λ c. search needs)
-    (λ c. search needs)
-    loop-again
-    (λ c. search needs)
-    (λ c. search needs)
-    (λ c. search needs)
-    (λ c κs. search needs)
-    add-result
-    returns)
+    (tie.spec Inv-loop μ-loop (λ c. record { at = omega arith; rest = omega arith }) (λ c. search needs) (λ c. search needs) (λ c. search needs)
+    (λ c. search needs) (λ c. search needs) (λ c κs. search needs) (λ c. search needs) (λ c. search needs) loop-again (λ c. search needs)
+    (λ c. search needs) (λ c. search needs) (λ c κs. search needs) add-result
+    (λ c. found (c .before .before .before .loop .inv) (c .find .result) (c .find .ensures)))

@@ -36,32 +36,10 @@ module _ {b : ℕ} {s : List ℕ} {seen : Bool} {i : ℕ} (v : Inv b s seen i) w
       let f : i + 1 - 1 ≡ i = omega arith in
       record { at = omega arith; rest = simp (f, next-byte s i h, or-assoc) (simp (next-byte s (i - 1) l, e, next-byte s i h) at (v .rest)) }
 
-abbrev Inv-loop : tie.InvT-loop
-Inv-loop b s some₀ i₀ some i = Inv b s some i
-
-abbrev μ-loop : tie.MeasureT-loop
-μ-loop b s some₀ i₀ some i = length s - i
-
-loop-holds : tie.Need-loop-holds Inv-loop μ-loop
-loop-holds c = record { at = omega arith; rest = refl }
-
-loop-again : tie.Need-loop-again Inv-loop μ-loop
-loop-again c = again (c .before .before .before .loop .inv) (c .before .before .loop-test .taken)
-
-returns : tie.Need-returns Inv-loop μ-loop
-returns c = done (c .before .loop .inv) (c .loop-test .left)
-
 pub has-twice-spec : {M : Type 1} → statement M
 has-twice-spec =
     tie.close
-    (tie.spec
-    Inv-loop
-    μ-loop
-    loop-holds
-    (λ c. search needs)
-    (λ c. search needs)
-    (λ c. search needs)
-    (λ c. search needs)
-    (λ c. search needs)
-    loop-again
-    returns)
+    (tie.spec (λ b s some₀ i₀ some i. Inv b s some i) (λ b s some₀ i₀ some i. length s - i) (λ c. record { at = omega arith; rest = refl })
+    (λ c. search needs) (λ c. search needs) (λ c. search needs) (λ c. search needs) (λ c. search needs)
+    (λ c. again (c .before .before .before .loop .inv) (c .before .before .loop-test .taken))
+    (λ c. done (c .before .loop .inv) (c .loop-test .left)))

@@ -25,31 +25,9 @@ module _ {b : ℕ} {s : List ℕ} {seen : Bool} {i : ℕ} (v : Inv b s seen i) w
   again : i < length s → Inv b s (seen || eqb (getD s i 0) b) (i + 1)
   again h = record { at = omega arith; rest = simp or-assoc (simp (next-byte s i h, has-more) at (v .rest)) }
 
-abbrev Inv-loop : tie.InvT-loop
-Inv-loop b s some₀ i₀ some i = Inv b s some i
-
-abbrev μ-loop : tie.MeasureT-loop
-μ-loop b s some₀ i₀ some i = length s - i
-
-loop-holds : tie.Need-loop-holds Inv-loop μ-loop
-loop-holds c = record { at = omega arith; rest = refl }
-
-shared-slice-read-some : tie.Need-shared-slice-read-some Inv-loop μ-loop
-shared-slice-read-some c = omega arith
-
-add-i : tie.Need-add-i Inv-loop μ-loop
-add-i c = omega arith
-
-loop-less : tie.Need-loop-less Inv-loop μ-loop
-loop-less c = omega arith
-
-loop-again : tie.Need-loop-again Inv-loop μ-loop
-loop-again c = again (c .before .before .loop .inv) (c .before .loop-test .taken)
-
-returns : tie.Need-returns Inv-loop μ-loop
-returns c = done (c .before .loop .inv) (c .loop-test .left)
-
 pub holds-spec : {M : Type 1} → statement M
 holds-spec =
     tie.close
-    (tie.spec Inv-loop μ-loop loop-holds shared-slice-read-some add-i loop-less loop-again returns)
+    (tie.spec (λ b s some₀ i₀ some i. Inv b s some i) (λ b s some₀ i₀ some i. length s - i) (λ c. record { at = omega arith; rest = refl })
+    (λ c. omega arith) (λ c. omega arith) (λ c. omega arith) (λ c. again (c .before .before .loop .inv) (c .before .loop-test .taken))
+    (λ c. done (c .before .loop .inv) (c .loop-test .left)))

@@ -28,12 +28,6 @@ Inv-loop b s n₀ i₀ n i = Counting b s n i
 abbrev μ-loop : tie.MeasureT-loop
 μ-loop b s n₀ i₀ n i = length s - i
 
-loop-holds : tie.Need-loop-holds Inv-loop μ-loop
-loop-holds c = record { at = omega arith; rest = omega arith }
-
-how-many-of-few-requires : tie.Need-how-many-of-few-requires Inv-loop μ-loop
-how-many-of-few-requires c κs = simp length-take (omega arith)
-
 add-n : tie.Need-add-n Inv-loop μ-loop
 add-n c =
     let a = c .before .before in
@@ -45,39 +39,16 @@ loop-again c =
     let a = c .before .before in
     again (a .before .loop .inv) 224 (omega (arith, a .loop-test .taken)) (c .how-many-of-few .result) (c .how-many-of-few .ensures)
 
-how-many-of-few-requires-2 : tie.Need-how-many-of-few-requires-2 Inv-loop μ-loop
-how-many-of-few-requires-2 c κs = simp length-take (omega (arith, c .before .loop-test .left))
-
 add-result : tie.Need-add-result Inv-loop μ-loop
 add-result c =
     let a = c .before .before .before in
     omega (arith, done (a .loop .inv) (c .how-many-of-few2 .result) (c .how-many-of-few2 .ensures), many-le (a .before .before .args .b) (a .before .before .args .s .now))
 
-returns : tie.Need-returns Inv-loop μ-loop
-returns c = done (c .before .before .before .loop .inv) (c .how-many-of-few2 .result) (c .how-many-of-few2 .ensures)
-
 pub how-many-spec : {M : Type 1} → statement M
 how-many-spec =
     tie.close
-    (tie.spec
-    Inv-loop
-    μ-loop
-    loop-holds
-    (λ c. search needs)
-    (λ c. search needs)
-    (λ c. search needs)
-    (λ c. search needs)
-    (λ c. search needs)
-    how-many-of-few-requires
-    (λ c. search needs)
-    add-n
-    (λ c. search needs)
-    (λ c. search needs)
-    loop-again
-    (λ c. search needs)
-    (λ c. search needs)
-    (λ c. search needs)
-    how-many-of-few-requires-2
-    (λ c. search needs)
-    add-result
-    returns)
+    (tie.spec Inv-loop μ-loop (λ c. record { at = omega arith; rest = omega arith }) (λ c. search needs) (λ c. search needs) (λ c. search needs)
+    (λ c. search needs) (λ c. search needs) (λ c κs. simp length-take (omega arith)) (λ c. search needs) add-n (λ c. search needs)
+    (λ c. search needs) loop-again (λ c. search needs) (λ c. search needs) (λ c. search needs)
+    (λ c κs. simp length-take (omega (arith, c .before .loop-test .left))) (λ c. search needs) add-result
+    (λ c. done (c .before .before .before .loop .inv) (c .how-many-of-few2 .result) (c .how-many-of-few2 .ensures)))

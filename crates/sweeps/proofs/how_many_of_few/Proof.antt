@@ -28,31 +28,14 @@ Inv-loop b s n₀ i₀ n i = Counting b s n i
 abbrev μ-loop : tie.MeasureT-loop
 μ-loop b s n₀ i₀ n i = length s - i
 
-loop-holds : tie.Need-loop-holds Inv-loop μ-loop
-loop-holds c = record { at = omega arith; rest = omega arith }
-
 add-n : tie.Need-add-n Inv-loop μ-loop
 add-n c =
     let a = c .before .before in
     omega (arith, again (a .loop .inv) (c .before .loop-test .taken) .rest, many-le (a .before .args .b) (a .before .args .s .now), a .before .pre)
 
-loop-again : tie.Need-loop-again Inv-loop μ-loop
-loop-again c = again (c .before .before .loop .inv) (c .before .loop-test .taken)
-
-returns : tie.Need-returns Inv-loop μ-loop
-returns c = done (c .before .loop .inv) (c .loop-test .left)
-
 pub how-many-of-few-spec : {M : Type 1} → statement M
 how-many-of-few-spec =
     tie.close
-    (tie.spec
-    Inv-loop
-    μ-loop
-    loop-holds
-    (λ c. search needs)
-    (λ c. search needs)
-    add-n
-    (λ c. search needs)
-    (λ c. search needs)
-    loop-again
-    returns)
+    (tie.spec Inv-loop μ-loop (λ c. record { at = omega arith; rest = omega arith }) (λ c. search needs) (λ c. search needs) add-n
+    (λ c. search needs) (λ c. search needs) (λ c. again (c .before .before .loop .inv) (c .before .loop-test .taken))
+    (λ c. done (c .before .loop .inv) (c .loop-test .left)))

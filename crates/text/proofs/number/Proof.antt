@@ -83,23 +83,6 @@ Inv-loop s base n₀ i₀ n i = Inv s base n i
 abbrev μ-loop : tie.MeasureT-loop
 μ-loop s base n₀ i₀ n i = length s - i
 
-returns : tie.Need-returns Inv-loop μ-loop
-unfolding readNumber isNumeral
-returns c = simp (lt-leb _ _ (c .if1 .taken))
-
-returns-2 : tie.Need-returns-2 Inv-loop μ-loop
-unfolding readNumber isNumeral
-returns-2 c = simp (le-leb _ _ (c .before .if1 .left), lt-leb _ _ (c .if2 .taken))
-
-loop-holds : tie.Need-loop-holds Inv-loop μ-loop
-loop-holds c = begin _ _ (c .if2 .left) (c .before .if1 .left)
-
-shared-slice-read-code : tie.Need-shared-slice-read-code Inv-loop μ-loop
-shared-slice-read-code c = omega arith
-
-code-requires : tie.Need-code-requires Inv-loop μ-loop
-code-requires c κs = tt
-
 returns-3 : tie.Need-returns-3 Inv-loop μ-loop
 returns-3 c =
     let k = c .before .code in
@@ -121,47 +104,17 @@ fitting c =
     let l = c₅ in
     fits (l .loop .inv) (k .result) (c₄ .loop-test .taken) (k .ensures) (omega arith) (c .if4 .left)
 
-mul-n : tie.Need-mul-n Inv-loop μ-loop
-mul-n c = omega (arith, fitting c)
-
-sub-n : tie.Need-sub-n Inv-loop μ-loop
-sub-n c = omega arith
-
-add-n : tie.Need-add-n Inv-loop μ-loop
-add-n c = omega (arith, fitting c)
-
-add-i : tie.Need-add-i Inv-loop μ-loop
-add-i c = omega arith
-
-loop-less : tie.Need-loop-less Inv-loop μ-loop
-loop-less c = omega arith
-
 loop-again : tie.Need-loop-again Inv-loop μ-loop
 loop-again c =
     let k = c .before .before .code in
     let l = c .before .before .before .before .before in
     again (l .loop .inv) (k .result) (c .before .before .before .before .loop-test .taken) (k .ensures) (omega arith) (c .if4 .left)
 
-returns-5 : tie.Need-returns-5 Inv-loop μ-loop
-returns-5 c = done (c .before .loop .inv) (c .loop-test .left)
-
 pub number-spec : {M : Type 1} → statement M
+unfolding readNumber isNumeral
 number-spec =
     tie.close
-    (tie.spec
-    Inv-loop
-    μ-loop
-    returns
-    returns-2
-    loop-holds
-    shared-slice-read-code
-    code-requires
-    returns-3
-    returns-4
-    mul-n
-    sub-n
-    add-n
-    add-i
-    loop-less
-    loop-again
-    returns-5)
+    (tie.spec Inv-loop μ-loop (λ c. simp (lt-leb _ _ (c .if1 .taken))) (λ c. simp (le-leb _ _ (c .before .if1 .left), lt-leb _ _ (c .if2 .taken)))
+    (λ c. begin _ _ (c .if2 .left) (c .before .if1 .left)) (λ c. omega arith) (λ c κs. tt) returns-3 returns-4 (λ c. omega (arith, fitting c))
+    (λ c. omega arith) (λ c. omega (arith, fitting c)) (λ c. omega arith) (λ c. omega arith) loop-again
+    (λ c. done (c .before .loop .inv) (c .loop-test .left)))

@@ -33,19 +33,6 @@ Inv-loop s n₀ w₀ i₀ n w i = Packs s n w i
 abbrev μ-loop : tie.MeasureT-loop
 μ-loop s n₀ w₀ i₀ n w i = length s - i
 
-returns : tie.Need-returns Inv-loop μ-loop
-unfolding packOf isText
-returns c = simp (lt-leb _ _ (c .if1 .taken))
-
-loop-holds : tie.Need-loop-holds Inv-loop μ-loop
-loop-holds c = begin _ (c .if1 .left)
-
-shared-slice-read-code : tie.Need-shared-slice-read-code Inv-loop μ-loop
-shared-slice-read-code c = omega arith
-
-code-requires : tie.Need-code-requires Inv-loop μ-loop
-code-requires c κs = tt
-
 returns-2 : tie.Need-returns-2 Inv-loop μ-loop
 returns-2 c =
     let k = c .before .code in
@@ -60,41 +47,16 @@ roomy c =
     let l = c₄ in
     fits (l .loop .inv) (k .result) (c₃ .loop-test .taken) (k .ensures)
 
-mul-n : tie.Need-mul-n Inv-loop μ-loop
-mul-n c = omega (arith, roomy c)
-
-add-n : tie.Need-add-n Inv-loop μ-loop
-add-n c = omega (arith, roomy c)
-
-add-i : tie.Need-add-i Inv-loop μ-loop
-add-i c = omega arith
-
-loop-less : tie.Need-loop-less Inv-loop μ-loop
-loop-less c = omega arith
-
 loop-again : tie.Need-loop-again Inv-loop μ-loop
 loop-again c =
     let k = c .before .code in
     let l = c .before .before .before .before in
     again (l .loop .inv) (k .result) (c .before .before .before .loop-test .taken) (k .ensures) (omega (arith, c .if2 .left))
 
-returns-3 : tie.Need-returns-3 Inv-loop μ-loop
-returns-3 c = done (c .before .loop .inv) (c .loop-test .left)
-
 pub pack-spec : {M : Type 1} → statement M
+unfolding packOf isText
 pack-spec =
     tie.close
-    (tie.spec
-    Inv-loop
-    μ-loop
-    returns
-    loop-holds
-    shared-slice-read-code
-    code-requires
-    returns-2
-    mul-n
-    add-n
-    add-i
-    loop-less
-    loop-again
-    returns-3)
+    (tie.spec Inv-loop μ-loop (λ c. simp (lt-leb _ _ (c .if1 .taken))) (λ c. begin _ (c .if1 .left)) (λ c. omega arith) (λ c κs. tt) returns-2
+    (λ c. omega (arith, roomy c)) (λ c. omega (arith, roomy c)) (λ c. omega arith) (λ c. omega arith) loop-again
+    (λ c. done (c .before .loop .inv) (c .loop-test .left)))

@@ -13,29 +13,8 @@ Inv-loop s n₀ w₀ i₀ n w i = Packs s n w i
 abbrev μ-loop : tie.MeasureT-loop
 μ-loop s n₀ w₀ i₀ n w i = length s - i
 
-loop-holds : tie.Need-loop-holds Inv-loop μ-loop
-loop-holds c = begin _ (text-length _ (c .before .pre))
-
-shared-slice-read-text-code : tie.Need-shared-slice-read-text-code Inv-loop μ-loop
-shared-slice-read-text-code c = omega arith
-
-text-code-requires : tie.Need-text-code-requires Inv-loop μ-loop
-text-code-requires c κs = text-byte-at (c .before .before .loop .inv) (c .before .loop-test .taken) (c .before .before .before .before .pre)
-
 roomy : (c : tie.After-text-code Inv-loop μ-loop) → c .before .before .before .loop .n + c .text-code .result * (c .before .before .before .loop .w / 38) + c .before .before .before .loop .w / 38 ≤ 38 ^ 12
 roomy c = fits (c .before .before .before .loop .inv) (c .text-code .result) (c .before .before .loop-test .taken) (c .text-code .ensures)
-
-mul-n : tie.Need-mul-n Inv-loop μ-loop
-mul-n c = omega (arith, roomy c)
-
-add-n : tie.Need-add-n Inv-loop μ-loop
-add-n c = omega (arith, roomy c)
-
-add-i : tie.Need-add-i Inv-loop μ-loop
-add-i c = omega arith
-
-loop-less : tie.Need-loop-less Inv-loop μ-loop
-loop-less c = omega arith
 
 loop-again : tie.Need-loop-again Inv-loop μ-loop
 loop-again c =
@@ -44,21 +23,10 @@ loop-again c =
     let more = c .before .before .loop-test .taken in
     again v (k .result) more (k .ensures) (text-some-at v (k .result) more (k .ensures) (c .before .before .before .before .before .pre))
 
-returns : tie.Need-returns Inv-loop μ-loop
-returns c = all-summed (c .before .loop .inv) (c .loop-test .left)
-
 pub pack-known-spec : {M : Type 1} → statement M
 pack-known-spec =
     tie.close
-    (tie.spec
-    Inv-loop
-    μ-loop
-    loop-holds
-    shared-slice-read-text-code
-    text-code-requires
-    mul-n
-    add-n
-    add-i
-    loop-less
-    loop-again
-    returns)
+    (tie.spec Inv-loop μ-loop (λ c. begin _ (text-length _ (c .before .pre))) (λ c. omega arith)
+    (λ c κs. text-byte-at (c .before .before .loop .inv) (c .before .loop-test .taken) (c .before .before .before .before .pre))
+    (λ c. omega (arith, roomy c)) (λ c. omega (arith, roomy c)) (λ c. omega arith) (λ c. omega arith) loop-again
+    (λ c. all-summed (c .before .loop .inv) (c .loop-test .left)))

@@ -9,6 +9,7 @@ use lib.Seq.{length-take-le}
 use denote.Ref.{now}
 use Rattle.text.specs.Text.{textOf, spliced, writtenBytes}
 use Rattle.text.proofs.Splice.{length-spliced}
+use Rattle.frame.specs.Frame.{headLength}
 use Rattle.forms.specs.Kind.{SEQUENCE, STAMP}
 use Rattle.words.specs.Word.{isWord}
 use Rattle.heads.specs.Facility.{facilityText, isFacilityValue}
@@ -52,7 +53,7 @@ module _ (m : Message) (r out : List ℕ) (a : LineAsks m r out) where
   unfolding lineOf
   parts = headed-parts (headIn m (typeIn (m .body))) body (allows .sequence-word) (allows .stamp-word) (allows .facility-value)
 
-  room : 18 + length body ≤ length out
+  room : headLength + length body ≤ length out
   room = omega (arith, parts .size, a .room)
 
   sequence-size : length sequence ≡ 4
@@ -72,7 +73,7 @@ module _ (m : Message) (r out : List ℕ) (a : LineAsks m r out) where
   four-size = rw length-append (omega (arith, three-size, length-type (typeIn (m .body))))
 
   -- what stands at the start of o, of at most 18 bytes, is written within out
-  within : (vs : List ℕ) {o : List ℕ} → length vs ≤ 18 → o ≡ spliced out 0 vs → 18 ≤ length o
+  within : (vs : List ℕ) {o : List ℕ} → length vs ≤ headLength → o ≡ spliced out 0 vs → headLength ≤ length o
   within vs h is = omega (arith, room, ap length is, length-spliced out vs 0 (omega (arith, room)))
 
   module _ {o₁ : List ℕ} (w₁ : o₁ ≡ writtenBytes (isWord SEQUENCE (m .sequence .0)) sequence out 0) where
@@ -111,7 +112,7 @@ module _ (m : Message) (r out : List ℕ) (a : LineAsks m r out) where
               let w : y₄ ≡ writtenBytes true kind (restFrom 16 o₃) 0 = rw is at w₄ in
               written-next out (sequence ++ stamp ++ facility) kind 16 three-size (omega (arith, length-type (typeIn (m .body)), room)) third refl w
 
-          inside₄ : 18 ≤ length o₄
+          inside₄ : headLength ≤ length o₄
           inside₄ = within (sequence ++ stamp ++ facility ++ kind) (omega (arith, four-size)) fourth
 
           asks : BodyAsks (m .body) r (m .trailing) (restFrom 18 o₄)

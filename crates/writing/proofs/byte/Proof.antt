@@ -5,31 +5,10 @@ use Rattle.text.specs.Code.{byteOf}
 use Rattle.writing.proofs.byte.Statement.{statement}
 use Rattle.writing.proofs.byte.Tie as tie
 
-add-result : tie.Need-add-result
-add-result c = search needs
-
-cast-result : tie.Need-cast-result
-cast-result c = search needs
-
-returns : tie.Need-returns
-unfolding byteOf
-returns c = simp (le-leb _ _ (c .if1 .taken))
-
-add-result-2 : tie.Need-add-result-2
-add-result-2 c = search needs
-
-cast-result-2 : tie.Need-cast-result-2
-cast-result-2 c = search needs
-
-returns-2 : tie.Need-returns-2
-unfolding byteOf
-returns-2 c = simp (lt-leb _ _ (c .before .if1 .left), le-leb _ _ (c .if2 .taken))
-
-returns-3 : tie.Need-returns-3
-unfolding byteOf
-returns-3 c = simp (lt-leb _ _ (c .before .if1 .left), lt-leb _ _ (c .if2 .left))
-
 pub byte-spec : {M : Type 1} → statement M
+unfolding byteOf
 byte-spec =
     tie.close
-    (tie.spec add-result cast-result returns add-result-2 cast-result-2 returns-2 returns-3)
+    (tie.spec (λ c. search needs) (λ c. search needs) (λ c. simp (le-leb _ _ (c .if1 .taken))) (λ c. search needs) (λ c. search needs)
+    (λ c. simp (lt-leb _ _ (c .before .if1 .left), le-leb _ _ (c .if2 .taken)))
+    (λ c. simp (lt-leb _ _ (c .before .if1 .left), lt-leb _ _ (c .if2 .left))))

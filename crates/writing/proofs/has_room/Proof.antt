@@ -7,11 +7,8 @@ use Rattle.text.proofs.Laws.{room-left}
 use Rattle.writing.proofs.has_room.Statement.{statement}
 use Rattle.writing.proofs.has_room.Tie as tie
 
-returns : tie.Need-returns
-returns c = let a = c .before .args in sym (lt-leb (a .at + a .n) (a .len) (omega arith))
-
-returns-2 : tie.Need-returns-2
-returns-2 c = let a = c .before .args in room-left (a .n) (a .len) (a .at) (omega arith)
-
 pub has-room-spec : {M : Type 1} → statement M
-has-room-spec = tie.close (tie.spec returns returns-2)
+has-room-spec =
+    tie.close
+    (tie.spec (λ c. let a = c .before .args in sym (lt-leb (a .at + a .n) (a .len) (omega arith)))
+    (λ c. let a = c .before .args in room-left (a .n) (a .len) (a .at) (omega arith)))

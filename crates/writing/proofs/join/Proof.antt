@@ -32,12 +32,6 @@ slice-aggregate-pack c =
     let c₁₂ = c₉ .before .before .before in
     sym (length-take-le _ _ (omega (arith, join-end _ _ _ _ _ refl (sym (c₁₂ .put .ensures .0) ∙ c₉ .first .given .1) (c₁₂ .put .ensures .1) (c₇ .if1 .left) _ _ (sym (c₅ .put2 .ensures .0) ∙ c₂ .second .given .1) (c₅ .put2 .ensures .1))))
 
-returns-2 : tie.Need-returns-2
-returns-2 c = join-first _ _ (no-text-known _ _ _ (sym (c .before .before .before .put .ensures .0) ∙ c .enum-told .given .1))
-
-returns-3 : tie.Need-returns-3
-returns-3 c = absurd (twelve-room _ _ refl (sym (c .before .before .before .put .ensures .0) ∙ c .enum-told2 .given .1))
-
 returns-4 : tie.Need-returns-4
 returns-4 c =
     let c₃ = c .before .before .before in
@@ -66,25 +60,8 @@ returns-6 c =
 pub join-spec : {M : Type 1} → statement M
 join-spec =
     tie.close
-    (tie.spec
-    (λ c. search needs)
-    (λ c κs. search needs)
-    (λ c. search needs)
-    (λ c. search needs)
-    (λ c. search needs)
-    returns
-    (λ c. search needs)
-    (λ c. search needs)
-    (λ c. search needs)
-    (λ c κs. search needs)
-    (λ c. search needs)
-    (λ c. search needs)
-    (λ c. search needs)
-    array-share-prefix-room
-    slice-aggregate-pack
-    (λ c κs. search needs)
-    returns-2
-    returns-3
-    returns-4
-    returns-5
-    returns-6)
+    (tie.spec (λ c. search needs) (λ c κs. search needs) (λ c. search needs) (λ c. search needs) (λ c. search needs) returns (λ c. search needs)
+    (λ c. search needs) (λ c. search needs) (λ c κs. search needs) (λ c. search needs) (λ c. search needs) (λ c. search needs)
+    array-share-prefix-room slice-aggregate-pack (λ c κs. search needs)
+    (λ c. join-first _ _ (no-text-known _ _ _ (sym (c .before .before .before .put .ensures .0) ∙ c .enum-told .given .1)))
+    (λ c. absurd (twelve-room _ _ refl (sym (c .before .before .before .put .ensures .0) ∙ c .enum-told2 .given .1))) returns-4 returns-5 returns-6)

@@ -26,9 +26,6 @@ write-requires c κs =
     let k = size-known (a .t) (found-at (h .before)) in
     (k .0, room-told (textOf (a .t)) (now (a .out)) (a .at) (k .1) (h .has-room .ensures) (c .before .if1 .left))
 
-returns-2 : tie.Need-returns-2
-returns-2 c = no-text _ _ _ (size-none _ (sym (c .before .before .size .ensures) ∙ c .enum-told .given .1))
-
 returns-3 : tie.Need-returns-3
 returns-3 c =
     let w = c .before .before .write .ensures in
@@ -42,13 +39,5 @@ returns-3 c =
 pub put-spec : {M : Type 1} → statement M
 put-spec =
     tie.close
-    (tie.spec
-    (λ c κs. search needs)
-    (λ c. search needs)
-    (λ c. search needs)
-    (λ c κs. search needs)
-    returns
-    write-requires
-    returns-2
-    (λ c. search needs)
-    returns-3)
+    (tie.spec (λ c κs. search needs) (λ c. search needs) (λ c. search needs) (λ c κs. search needs) returns write-requires
+    (λ c. no-text _ _ _ (size-none _ (sym (c .before .before .size .ensures) ∙ c .enum-told .given .1))) (λ c. search needs) returns-3)

@@ -49,38 +49,11 @@ Inv-loop s out₀ at i₀ out i = Inv s at out₀ out i
 abbrev μ-loop : tie.MeasureT-loop
 μ-loop s out₀ at i₀ out i = length s - i
 
-returns : tie.Need-returns Inv-loop μ-loop
-returns c = no-room-told _ _ _ refl (c .before .has-room .ensures) refl (c .if1 .taken)
-
 loop-holds : tie.Need-loop-holds Inv-loop μ-loop
 loop-holds c =
     let a = c .before .before .before .before .args in
     let room = room-told (now (a .s)) (now (a .out)) (a .at) refl (c .before .has-room .ensures) (c .if1 .left) in
     record { inside = omega arith; room = room; same = refl; rest = rw add-zero }
-
-shared-slice-read-out : tie.Need-shared-slice-read-out Inv-loop μ-loop
-shared-slice-read-out c = omega arith
-
-add-out : tie.Need-add-out Inv-loop μ-loop
-add-out c = omega arith
-
-slice-write-out : tie.Need-slice-write-out Inv-loop μ-loop
-slice-write-out c = omega arith
-
-add-i : tie.Need-add-i Inv-loop μ-loop
-add-i c = omega arith
-
-loop-less : tie.Need-loop-less Inv-loop μ-loop
-loop-less c = omega arith
-
-loop-again : tie.Need-loop-again Inv-loop μ-loop
-loop-again c = again (c .before .before .loop .inv) (c .before .loop-test .taken)
-
-add-t6 : tie.Need-add-t6 Inv-loop μ-loop
-add-t6 c = omega arith
-
-same-length : tie.Need-same-length Inv-loop μ-loop
-same-length c = c .before .loop .inv .same
 
 returns-2 : tie.Need-returns-2 Inv-loop μ-loop
 returns-2 c =
@@ -93,18 +66,6 @@ returns-2 c =
 pub put-bytes-spec : {M : Type 1} → statement M
 put-bytes-spec =
     tie.close
-    (tie.spec
-    Inv-loop
-    μ-loop
-    (λ c κs. search needs)
-    returns
-    loop-holds
-    shared-slice-read-out
-    add-out
-    slice-write-out
-    add-i
-    loop-less
-    loop-again
-    add-t6
-    same-length
-    returns-2)
+    (tie.spec Inv-loop μ-loop (λ c κs. search needs) (λ c. no-room-told _ _ _ refl (c .before .has-room .ensures) refl (c .if1 .taken)) loop-holds
+    (λ c. omega arith) (λ c. omega arith) (λ c. omega arith) (λ c. omega arith) (λ c. omega arith)
+    (λ c. again (c .before .before .loop .inv) (c .before .loop-test .taken)) (λ c. omega arith) (λ c. c .before .loop .inv .same) returns-2)

@@ -53,48 +53,14 @@ module _ {t r w k : ℕ} (v : Inv t r w k) where
         let all : tight 38 12 t ≡ false = sym (v .tightly) ∙ tight-turn w k place (v .weight) r more ∙ rw (lt-leb (w / 38) r h) in
         rw (lt-ltb t (38 ^ 12) (v .small), all)
 
-abbrev Inv-loop : tie.InvT-loop
-Inv-loop t r₀ w₀ k₀ r w k = Inv t r w k
-
-abbrev μ-loop : tie.MeasureT-loop
-μ-loop t r₀ w₀ k₀ r w k = 12 - k
-
-returns : tie.Need-returns Inv-loop μ-loop
-unfolding sizeOf isPacked
-returns c = rw (le-ltb _ (38 ^ 12) (c .if1 .taken))
-
-loop-holds : tie.Need-loop-holds Inv-loop μ-loop
-loop-holds c = record { small = c .if1 .left; weight = refl; left = c .if1 .left; tightly = refl; long = omega arith }
-
-returns-2 : tie.Need-returns-2 Inv-loop μ-loop
-returns-2 c = bad (c .before .before .loop .inv) (c .before .loop-test .taken) (c .if2 .taken)
-
-rem-r : tie.Need-rem-r Inv-loop μ-loop
-rem-r c = omega (arith, heavy (c .before .before .loop .inv) (c .before .loop-test .taken))
-
-add-k : tie.Need-add-k Inv-loop μ-loop
-add-k c = omega (arith, place (c .before .before .loop .inv) (c .before .loop-test .taken))
-
-loop-less : tie.Need-loop-less Inv-loop μ-loop
-loop-less c = omega (arith, place (c .before .before .loop .inv) (c .before .loop-test .taken))
-
-loop-again : tie.Need-loop-again Inv-loop μ-loop
-loop-again c = again (c .before .before .loop .inv) (c .before .loop-test .taken) (c .if2 .left)
-
-returns-3 : tie.Need-returns-3 Inv-loop μ-loop
-returns-3 c = done (c .before .loop .inv) (c .loop-test .left)
-
 pub size-spec : {M : Type 1} → statement M
+unfolding sizeOf isPacked
 size-spec =
     tie.close
-    (tie.spec
-    Inv-loop
-    μ-loop
-    returns
-    loop-holds
-    returns-2
-    rem-r
-    add-k
-    loop-less
-    loop-again
-    returns-3)
+    (tie.spec (λ t r₀ w₀ k₀ r w k. Inv t r w k) (λ t r₀ w₀ k₀ r w k. 12 - k) (λ c. rw (le-ltb _ (38 ^ 12) (c .if1 .taken)))
+    (λ c. record { small = c .if1 .left; weight = refl; left = c .if1 .left; tightly = refl; long = omega arith })
+    (λ c. bad (c .before .before .loop .inv) (c .before .loop-test .taken) (c .if2 .taken))
+    (λ c. omega (arith, heavy (c .before .before .loop .inv) (c .before .loop-test .taken)))
+    (λ c. omega (arith, place (c .before .before .loop .inv) (c .before .loop-test .taken)))
+    (λ c. omega (arith, place (c .before .before .loop .inv) (c .before .loop-test .taken)))
+    (λ c. again (c .before .before .loop .inv) (c .before .loop-test .taken) (c .if2 .left)) (λ c. done (c .before .loop .inv) (c .loop-test .left)))

@@ -98,36 +98,6 @@ loop-holds c =
       rest = rw add-zero;
     }
 
-div-byte : tie.Need-div-byte Inv-loop μ-loop
-div-byte c = heavy (c .before .loop .inv) (c .loop-test .taken)
-
-byte-requires : tie.Need-byte-requires Inv-loop μ-loop
-byte-requires c κs = omega (arith, digit (c .before .loop .inv) (c .loop-test .taken))
-
-add-out : tie.Need-add-out Inv-loop μ-loop
-add-out c = omega (arith, inside (c .before .before .loop .inv) (c .before .loop-test .taken), c .before .before .loop .inv .same)
-
-slice-write-out : tie.Need-slice-write-out Inv-loop μ-loop
-slice-write-out c = inside (c .before .before .loop .inv) (c .before .loop-test .taken)
-
-rem-r : tie.Need-rem-r Inv-loop μ-loop
-rem-r c = heavy (c .before .before .loop .inv) (c .before .loop-test .taken)
-
-add-j : tie.Need-add-j Inv-loop μ-loop
-add-j c = omega (arith, place (c .before .before .loop .inv) (c .before .loop-test .taken))
-
-loop-less : tie.Need-loop-less Inv-loop μ-loop
-loop-less c = omega (arith, place (c .before .before .loop .inv) (c .before .loop-test .taken))
-
-loop-again : tie.Need-loop-again Inv-loop μ-loop
-loop-again c = again (c .before .before .loop .inv) (c .before .loop-test .taken) (c .byte .result) (c .byte .ensures)
-
-add-result : tie.Need-add-result Inv-loop μ-loop
-add-result c = omega (arith, all (c .before .loop .inv) (c .loop-test .left), c .before .loop .inv .room)
-
-same-length : tie.Need-same-length Inv-loop μ-loop
-same-length c = c .before .loop .inv .same
-
 returns : tie.Need-returns Inv-loop μ-loop
 returns c =
     let v = c .before .loop .inv in
@@ -137,18 +107,12 @@ returns c =
 pub write-spec : {M : Type 1} → statement M
 write-spec =
     tie.close
-    (tie.spec
-    Inv-loop
-    μ-loop
-    loop-holds
-    div-byte
-    byte-requires
-    add-out
-    slice-write-out
-    rem-r
-    add-j
-    loop-less
-    loop-again
-    add-result
-    same-length
-    returns)
+    (tie.spec Inv-loop μ-loop loop-holds (λ c. heavy (c .before .loop .inv) (c .loop-test .taken))
+    (λ c κs. omega (arith, digit (c .before .loop .inv) (c .loop-test .taken)))
+    (λ c. omega (arith, inside (c .before .before .loop .inv) (c .before .loop-test .taken), c .before .before .loop .inv .same))
+    (λ c. inside (c .before .before .loop .inv) (c .before .loop-test .taken))
+    (λ c. heavy (c .before .before .loop .inv) (c .before .loop-test .taken))
+    (λ c. omega (arith, place (c .before .before .loop .inv) (c .before .loop-test .taken)))
+    (λ c. omega (arith, place (c .before .before .loop .inv) (c .before .loop-test .taken)))
+    (λ c. again (c .before .before .loop .inv) (c .before .loop-test .taken) (c .byte .result) (c .byte .ensures))
+    (λ c. omega (arith, all (c .before .loop .inv) (c .loop-test .left), c .before .loop .inv .room)) (λ c. c .before .loop .inv .same) returns)

@@ -1,0 +1,55 @@
+-- What the promises of `line` require on lines written out, and wrong answers that they do not allow: of each, `Post` is the function's
+-- `ensures` as it stands in the source, r any result that meets it. Assumes nothing.
+use mathlib.Core.Path.{_≡_, refl, ap, _∙_}
+use denote.Ref.{now}
+use Rattle.text.specs.Bytes.{bytes}
+use Rattle.text.specs.Class.{all, isDigit, isLetter, isAlnum}
+use Rattle.text.specs.Code.{codeOf}
+use Rattle.text.specs.Place.{value, places, allIn}
+use Rattle.text.specs.Text.{packed}
+use Rattle.text.specs.Number.{isDigitTo, digitOf, isNumeral, numberOf as number}
+use Rattle.shapes.specs.Pieces.{pieces}
+use Rattle.shapes.specs.Picture.{isOf, fits, fitsAny, oneOf, run, within}
+use Rattle.shapes.specs.Cut.{upTo, has, before, after, joins}
+use Rattle.forms.specs.Form.{isStamp, isKey, isTzIdent}
+use Rattle.forms.specs.Kind.{isForm}
+use Rattle.words.specs.Pair.{isPairForm, pairOf}
+use Rattle.idents.specs.Ident.{identFrom, tzIdentOf}
+use Rattle.heads.specs.Message.{typeOf}
+use Rattle.spacing.specs.Body.{ended, fieldsOf}
+use Rattle.kinds.specs.Field.{plain, leftOf, marksOf, readKind, readMark, barred, readIn, isOne, isTwo, follows, contentOf}
+use Rattle.table.specs.Read.{answerFrom, counted, answers, answerOf, routeIn, routeOf}
+use Rattle.counts.specs.Table.{countWith, isCount}
+use Rattle.layout.specs.Table.{kindsOf, countIn, answerBy, routeBy}
+use Rattle.bodies.specs.Read.{bodyRead}
+use Rattle.line.specs.Read.{headOf, restOf, readOf, numberOf, placeOf, freeOf}
+use Rattle.line.specs.declared.LineRead.{LineRead}
+use Rattle.line.proofs.read.Reads as read
+use Rattle.line.proofs.free.Reads as free
+
+-- document 01's starred line is read
+pub refuses-every-line : (κs : _) (a : _) (r : _) (s : _) → read.Post κs a r s → now (a .0) ≡ bytes "000006143655KZMAHB" → numberOf r ≡ 0
+unfolding readOf headOf restOf bodyRead typeOf allIn isStamp isOf fits fitsAny oneOf pieces within isDigit isLetter isAlnum all isNumeral isDigitTo codeOf number value digitOf
+refuses-every-line κs a r s p e = ap numberOf (p .0 ∙ ap readOf e)
+
+-- the last line of its printed example has no computer number: 9, place 1
+pub reads-all-as-one : (κs : _) (a : _) (r : _) (s : _) → read.Post κs a r s → now (a .0) ≡ bytes "000506081900KZAATZ QQX12 315 250 3020N/08430W"
+    → (numberOf r ≡ 9) × (placeOf r ≡ 1)
+unfolding readOf headOf restOf bodyRead typeOf allIn isStamp isOf fits fitsAny oneOf pieces within isDigit isLetter isAlnum all isNumeral isDigitTo codeOf number value digitOf answerBy isCount countIn fieldsOf ended countWith answerOf answers counted kindsOf answerFrom readIn readKind readMark barred plain isOne isTwo follows contentOf leftOf marksOf isKey isTzIdent isForm isPairForm pairOf identFrom tzIdentOf upTo has before after joins run
+reads-all-as-one κs a r s p e = (ap numberOf (p .0 ∙ ap readOf e), ap placeOf (p .0 ∙ ap readOf e))
+
+-- of a line whose sequence and stamp are both wrong the sequence is answered
+pub answers-4-and-5-exchanged : (κs : _) (a : _) (r : _) (s : _) → read.Post κs a r s → now (a .0) ≡ bytes "000G32143655KZMAHB" → numberOf r ≡ 4
+unfolding readOf headOf allIn isOf fits isDigit isLetter isAlnum all
+answers-4-and-5-exchanged κs a r s p e = ap numberOf (p .0 ∙ ap readOf e)
+
+-- the body of an HB begins after its type
+pub free-with-type : (κs : _) (a : _) (r : _) (s : _) → free.Post κs a r s → now (a .0) ≡ bytes "000006143655KZMAHB UP" → now r ≡ bytes " UP"
+unfolding freeOf typeOf fits isOf
+free-with-type κs a r s p e = p ∙ ap freeOf e
+
+-- the route of an FZ is its last field, without the space before it
+pub route-with-its-space : (κs : _) (a : _) (r : _) (s : _) → free.Post κs a r s
+    → now (a .0) ≡ bytes "000106081500KZAAFZ QQX12 C172/A 0120 ABC P0816 050 ABC..DEF" → now r ≡ bytes "ABC..DEF"
+unfolding freeOf typeOf fits isOf routeBy routeOf routeIn fieldsOf ended pieces plain leftOf contentOf follows
+route-with-its-space κs a r s p e = p ∙ ap freeOf e

@@ -1,0 +1,67 @@
+-- What the promises of `printer` require on boards and buffers written out, and wrong answers that they do not allow: of each, `Post` is
+-- the function's `ensures` as it stands in the source, r any result and s any state at exit that meet it. Assumes nothing.
+use Prim.Native.Nat.{ℕ}
+use mathlib.Core.Path.{_≡_, refl, ap, _∙_}
+use mathlib.Core.Bool.{true, false}
+use mathlib.Core.List.{List, [], _∷_, _++_}
+use lib.ListN.{replicate}
+use denote.Ref.{now}
+use Rattle.text.specs.Bytes.{bytes}
+use Rattle.text.specs.Class.{isDigit, isLetter}
+use Rattle.text.specs.Code.{codeOf, byteOf}
+use Rattle.text.specs.Place.{value, places, digits}
+use Rattle.text.specs.Text.{packed, textOf, spliced, hasRoom, writtenNext, writtenBytes}
+use Rattle.text.specs.declared.Written.the-variants as written
+use Rattle.text.specs.Number.{padded}
+use Rattle.slips.specs.Text.{lineText, rowText, rowsText}
+use Rattle.decimals.specs.Decimal.{widthBy, decimal}
+use Rattle.board.specs.Board.{rowsOf, wordsOf, isAllowed}
+use Rattle.board.proofs.Theorems.{rows-words, allowed-words}
+use Rattle.board.proofs.Examples.{tracked, one-row}
+use Rattle.printer.specs.Text.{boardText, countsText}
+use Rattle.printer.specs.Print.{textIn, printOf, outAfter, numberOf}
+use Rattle.printer.proofs.print.Reads as print
+use Rattle.printer.proofs.print_counts.Reads as print-counts
+
+-- ---- `print`, of the board of one row
+
+abbrev text : List ℕ
+text = bytes "FLIGHTS 1" ++ 10 ∷ (bytes "QQX12 - - - 06081500 310 240 3015N/08430W" ++ 10 ∷ [])
+
+its-text : boardText (tracked ∷ []) ≡ text
+unfolding boardText rowsText rowText lineText textOf digits byteOf packed value codeOf isDigit isLetter decimal padded places widthBy
+its-text = refl
+
+-- where they just fit, the buffer holds the count of flights and the row, with a hyphen for each part of the missing entry
+pub last-row-lost : (κs : _) (a : _) (r : _) (s : _) → print.Post κs a r s → now (a .0) ≡ wordsOf (tracked ∷ []) → now (a .1 .0) ≡ replicate 52 0 → a .1 .1 .0 ≡ 0
+    → now (s .1 .0) ≡ text
+unfolding outAfter hasRoom spliced
+last-row-lost κs a r s p e f g = p .1 .0 ∙ rw (e, f, g, allowed-words (tracked ∷ []) one-row, rows-words (tracked ∷ []) one-row, its-text)
+
+-- with one byte less they do not: 15, and nothing is written
+pub room-without-the-last-row : (κs : _) (a : _) (r : _) (s : _) → print.Post κs a r s → now (a .0) ≡ wordsOf (tracked ∷ []) → now (a .1 .0) ≡ replicate 51 0 → a .1 .1 .0 ≡ 0
+    → (numberOf r ≡ 15) × (now (s .1 .0) ≡ replicate 51 0)
+unfolding printOf outAfter hasRoom
+room-without-the-last-row κs a r s p e f g =
+    let b = allowed-words (tracked ∷ []) one-row in
+    let z = rows-words (tracked ∷ []) one-row in
+    (rw (p .0, e, f, g, b, z, its-text), p .1 .0 ∙ rw (e, f, g, b, z, its-text))
+
+-- of words that are no board and have no room 13 is answered
+pub numbers-13-and-15 : (κs : _) (a : _) (r : _) (s : _) → print.Post κs a r s → isAllowed (now (a .0)) ≡ false → now (a .1 .0) ≡ [] → numberOf r ≡ 13
+unfolding printOf
+numbers-13-and-15 κs a r s p b f = rw (p .0, b)
+
+-- ---- `print_counts`
+
+-- the lines first, then those taken
+pub counts-exchanged : (κs : _) (a : _) (r : _) (s : _) → print-counts.Post κs a r s → a .0 ≡ 5 → a .1 .0 ≡ 4 → now (a .1 .1 .0) ≡ replicate 18 0 → a .1 .1 .1 .0 ≡ 1
+    → now (s .1 .1 .0) ≡ 0 ∷ (bytes "LINES 5 TAKEN 4" ++ 10 ∷ 0 ∷ [])
+unfolding writtenBytes hasRoom spliced countsText lineText byteOf decimal padded places widthBy
+counts-exchanged κs a r s p e f g h = p .1 ∙ rw (e, f, g, h)
+
+-- the line feed needs room too: without it nothing is written
+pub no-room-for-the-line-feed : (κs : _) (a : _) (r : _) (s : _) → print-counts.Post κs a r s → a .0 ≡ 5 → a .1 .0 ≡ 4 → now (a .1 .1 .0) ≡ replicate 15 0 → a .1 .1 .1 .0 ≡ 0
+    → (r ≡ written.NoRoom) × (now (s .1 .1 .0) ≡ replicate 15 0)
+unfolding writtenNext writtenBytes hasRoom countsText lineText byteOf decimal padded places widthBy
+no-room-for-the-line-feed κs a r s p e f g h = (p .0 ∙ rw (e, f, g, h), p .1 ∙ rw (e, f, g, h))
