@@ -61,18 +61,7 @@ in-line s = go (readOf s) refl
   where
     go : (r : LineRead) → readOf s ≡ r → May (askedFrom r)
     go (read.Read m) e = in-message s m e
-    go read.Short e = tt
-    go read.Long e = tt
-    go read.Unprintable e = tt
-    go read.NoSequence e = tt
-    go read.NoStamp e = tt
-    go read.NoFacility e = tt
-    go read.NoType e = tt
-    go read.Spacing e = tt
-    go (read.Field i) e = tt
-    go (read.Number i) e = tt
-    go read.LongPlan e = tt
-    go (read.Two i) e = tt
+    go (read.Refused x) e = tt
 
 -- a DZ's clock has no letter before it, and is an arrival's too
 pub asks-dz : (s : List ℕ) (k : Key) (a : Arrival) → askedOf s ≡ Dz k a → (isWord KEY (k .0) ≡ true) × (isArrival (arrival.Entry a) ≡ true)

@@ -9,18 +9,18 @@ use Rattle.messages.specs.declared.Body.{Body}
 use Rattle.messages.specs.declared.Body.the-variants as body
 use Rattle.fields.specs.declared.frame.Stamp.{Stamp}
 use Rattle.line.specs.Cases.{Case}
-use Rattle.line.specs.Read.{readOf, numberOf, placeOf}
+use Rattle.line.specs.Read.{readOf, refusalNumber, refusalPlace, numberOf, placeOf}
 use Rattle.line.specs.declared.LineRead.{LineRead}
 use Rattle.line.specs.declared.LineRead.the-variants as read
+use Rattle.line.specs.declared.Refusal.{Refusal}
 use Rattle.line.proofs.Cases.{case-of, case-only}
-use Rattle.asks.specs.Asked.{askedIn, askedBy, askedFrom, askedOf, refusalNumber, refusalPlace}
+use Rattle.asks.specs.Asked.{askedIn, askedBy, askedFrom, askedOf}
 use Rattle.asks.specs.declared.Asked.{Asked}
 use Rattle.asks.specs.declared.Asked.the-variants.{Dz, Az, Tz, Other, Refused}
-use Rattle.asks.specs.declared.Refusal.{Refusal}
 
--- what is asked beside the line's own answer r: refused with r's number and place, or else r is a message
-abbrev By : LineRead → Asked → Type 0
-By r (Refused x) = (refusalNumber x ≡ numberOf r) × (refusalPlace x ≡ placeOf r) × ((m : Message) → r ≡ read.Read m → ⊥)
+-- what is asked beside the line's own answer r: r's refusal, or else r is a message
+abbrev pub By : LineRead → Asked → Type 0
+By r (Refused x) = read.Refused x ≡ r
 By r (Dz k a) = (m : Message) × (r ≡ read.Read m)
 By r (Az k a) = (m : Message) × (r ≡ read.Read m)
 By r (Tz k t) = (m : Message) × (r ≡ read.Read m)
@@ -42,41 +42,26 @@ by-message : (m : Message) → By (read.Read m) (askedBy m)
 unfolding askedBy
 by-message m = by-body m (m .stamp) (m .body)
 
--- an answer with a number over 0 is no message
-no-message : (r : LineRead) → (numberOf r ≡ 0 → ⊥) → (m : Message) → r ≡ read.Read m → ⊥
-no-message r h m e = h (ap numberOf e)
-
 by-line : (r : LineRead) → By r (askedFrom r)
 by-line (read.Read m) = by-message m
-by-line read.Short = (refl, refl, no-message read.Short (λ h. omega arith))
-by-line read.Long = (refl, refl, no-message read.Long (λ h. omega arith))
-by-line read.Unprintable = (refl, refl, no-message read.Unprintable (λ h. omega arith))
-by-line read.NoSequence = (refl, refl, no-message read.NoSequence (λ h. omega arith))
-by-line read.NoStamp = (refl, refl, no-message read.NoStamp (λ h. omega arith))
-by-line read.NoFacility = (refl, refl, no-message read.NoFacility (λ h. omega arith))
-by-line read.NoType = (refl, refl, no-message read.NoType (λ h. omega arith))
-by-line read.Spacing = (refl, refl, no-message read.Spacing (λ h. omega arith))
-by-line (read.Field i) = (refl, refl, no-message (read.Field i) (λ h. omega arith))
-by-line (read.Number i) = (refl, refl, no-message (read.Number i) (λ h. omega arith))
-by-line read.LongPlan = (refl, refl, no-message read.LongPlan (λ h. omega arith))
-by-line (read.Two i) = (refl, refl, no-message (read.Two i) (λ h. omega arith))
+by-line (read.Refused x) = refl
 
 module _ (s : List ℕ) where
-  by-asked : By (readOf s) (askedOf s)
+  pub asks-read : (a : Asked) → askedOf s ≡ a → By (readOf s) a
   unfolding askedOf
-  by-asked = by-line (readOf s)
+  asks-read a e = subst (By (readOf s)) e (by-line (readOf s))
 
   -- a refusal has the number and the place of the line's own answer
   pub asks-number : (x : Refusal) → askedOf s ≡ Refused x → (refusalNumber x ≡ numberOf (readOf s)) × (refusalPlace x ≡ placeOf (readOf s))
-  asks-number x e = let p = subst (By (readOf s)) e by-asked in (p .0, p .1)
+  asks-number x e = let p = asks-read (Refused x) e in (ap numberOf p, ap placeOf p)
 
   -- what is refused is not read
   pub refused-unread : (x : Refusal) → askedOf s ≡ Refused x → (m : Message) → readOf s ≡ read.Read m → ⊥
-  refused-unread x e = subst (By (readOf s)) e by-asked .2
+  refused-unread x e m q = let d : read.Refused x ≡ read.Read m = asks-read (Refused x) e ∙ q in let z : _≡_ {A = ℕ} 0 1 = cc in omega arith
 
   -- and what is not read is refused
   pub unread-refused : ((m : Message) → readOf s ≡ read.Read m → ⊥) → (x : Refusal) × (askedOf s ≡ Refused x)
-  unread-refused none = go (askedOf s) by-asked
+  unread-refused none = go (askedOf s) (asks-read (askedOf s) refl)
     where
       go : (a : Asked) → By (readOf s) a → (x : Refusal) × (a ≡ Refused x)
       go (Refused x) p = (x, refl)
@@ -87,9 +72,7 @@ module _ (s : List ℕ) where
 
   -- THE CASE of a refusal: the line is in the case of its number and place
   pub refused-case : (x : Refusal) → askedOf s ≡ Refused x → Case s (refusalNumber x) (refusalPlace x)
-  refused-case x e =
-      let p = asks-number x e in
-      subst (λ (n : ℕ). Case s n (refusalPlace x)) (sym (p .0)) (subst (λ (i : ℕ). Case s (numberOf (readOf s)) i) (sym (p .1)) (case-of s))
+  refused-case x e = subst (λ (r : LineRead). Case s (numberOf r) (placeOf r)) (sym (asks-read (Refused x) e)) (case-of s)
 
   -- and in no other
   pub refused-only : (x : Refusal) → askedOf s ≡ Refused x → (n i : ℕ) → Case s n i → (refusalNumber x ≡ n) × (refusalPlace x ≡ i)

@@ -14,8 +14,6 @@ use Rattle.line.specs.declared.LineRead.{LineRead}
 use Rattle.line.specs.declared.LineRead.the-variants as read
 use Rattle.asks.specs.declared.Asked.{Asked}
 use Rattle.asks.specs.declared.Asked.the-variants.{Dz, Az, Tz, Other, Refused}
-use Rattle.asks.specs.declared.Refusal.{Refusal}
-use Rattle.asks.specs.declared.Refusal.the-variants.{Short, Long, Unprintable, NoSequence, NoStamp, NoFacility, NoType, Spacing, Field, Number, LongPlan, Two}
 
 -- of a line with the stamp s; "the flight's key is the part before the slash"
 abbrev pub dzAsks : Message-Dz → Stamp → Asked
@@ -45,47 +43,7 @@ askedBy m = askedIn (m .stamp) (m .body)
 -- the line's own answer, where it is not read
 abbrev pub askedFrom : LineRead → Asked
 askedFrom (read.Read m) = askedBy m
-askedFrom read.Short = Refused Short
-askedFrom read.Long = Refused Long
-askedFrom read.Unprintable = Refused Unprintable
-askedFrom read.NoSequence = Refused NoSequence
-askedFrom read.NoStamp = Refused NoStamp
-askedFrom read.NoFacility = Refused NoFacility
-askedFrom read.NoType = Refused NoType
-askedFrom read.Spacing = Refused Spacing
-askedFrom (read.Field i) = Refused (Field i)
-askedFrom (read.Number i) = Refused (Number i)
-askedFrom read.LongPlan = Refused LongPlan
-askedFrom (read.Two i) = Refused (Two i)
+askedFrom (read.Refused x) = Refused x
 
 unfoldable pub askedOf : List ℕ → Asked
 askedOf s = askedFrom (readOf s)
-
--- document 01's answer number, and the place that it gives; 0 where it gives none
-abbrev pub refusalNumber : Refusal → ℕ
-refusalNumber Short = 1
-refusalNumber Long = 2
-refusalNumber Unprintable = 3
-refusalNumber NoSequence = 4
-refusalNumber NoStamp = 5
-refusalNumber NoFacility = 6
-refusalNumber NoType = 7
-refusalNumber Spacing = 8
-refusalNumber (Field i) = 9
-refusalNumber (Number i) = 10
-refusalNumber LongPlan = 11
-refusalNumber (Two i) = 18
-
-abbrev pub refusalPlace : Refusal → ℕ
-refusalPlace Short = 0
-refusalPlace Long = 0
-refusalPlace Unprintable = 0
-refusalPlace NoSequence = 0
-refusalPlace NoStamp = 0
-refusalPlace NoFacility = 0
-refusalPlace NoType = 0
-refusalPlace Spacing = 0
-refusalPlace (Field i) = i
-refusalPlace (Number i) = i
-refusalPlace LongPlan = 0
-refusalPlace (Two i) = i

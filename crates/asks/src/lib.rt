@@ -3,6 +3,7 @@ use fields::flight::Key;
 use fields::frame::Stamp;
 use fields::track::ArrivalClock;
 use line::LineRead;
+use line::Refusal;
 use messages::Az;
 use messages::Body;
 use messages::Dz;
@@ -12,22 +13,6 @@ use rows::Arrival;
 use rows::Track;
 ghost use mathlib.Core.Path.{_≡_};
 ghost use Rattle.asks.specs.Asked.{dzAsks, azAsks, tzAsks, askedBy, askedOf};
-
-// Document 01's answers 1 to 11 and 18, with the place of the field.
-pub enum Refusal {
-    Short,
-    Long,
-    Unprintable,
-    NoSequence,
-    NoStamp,
-    NoFacility,
-    NoType,
-    Spacing,
-    Field(usize),
-    Number(usize),
-    LongPlan,
-    Two(usize),
-}
 
 pub enum Asked {
     Dz(Key, Arrival),
@@ -110,17 +95,6 @@ pub fn read(line: &[u8]) -> Asked
     let read = line::read(line);
     match read {
         LineRead::Read(m) => ask(m),
-        LineRead::Short => Asked::Refused(Refusal::Short),
-        LineRead::Long => Asked::Refused(Refusal::Long),
-        LineRead::Unprintable => Asked::Refused(Refusal::Unprintable),
-        LineRead::NoSequence => Asked::Refused(Refusal::NoSequence),
-        LineRead::NoStamp => Asked::Refused(Refusal::NoStamp),
-        LineRead::NoFacility => Asked::Refused(Refusal::NoFacility),
-        LineRead::NoType => Asked::Refused(Refusal::NoType),
-        LineRead::Spacing => Asked::Refused(Refusal::Spacing),
-        LineRead::Field(place) => Asked::Refused(Refusal::Field(place)),
-        LineRead::Number(place) => Asked::Refused(Refusal::Number(place)),
-        LineRead::LongPlan => Asked::Refused(Refusal::LongPlan),
-        LineRead::Two(place) => Asked::Refused(Refusal::Two(place)),
+        LineRead::Refused(refusal) => Asked::Refused(refusal),
     }
 }

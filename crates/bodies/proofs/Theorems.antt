@@ -20,6 +20,7 @@ use Rattle.table.specs.Read.{padded, answerOf, valuesOf, routeIn, routeOf}
 use Rattle.table.specs.Show.{textsFrom, allowedFrom, marksFrom, routed}
 use Rattle.table.specs.declared.Answer.{Answer}
 use Rattle.table.specs.declared.Answer.the-variants as answer
+use Rattle.table.specs.declared.Fault.{Fault}
 use Rattle.table.proofs.Theorems.{complete, allowed-taken, body-printable}
 use Rattle.table.proofs.Routes.{Back, route-back, written-back}
 use Rattle.table.proofs.Amends.{marks-count}
@@ -63,22 +64,19 @@ typed-taken : (t : MessageType) (s : List ℕ) (b : Body) (u : Bool) → typedOf
 unfolding answerBy valuesBy
 typed-taken t s b u e = go (isCount t (countIn s)) refl
   where
-    none : {X : Type 0} → read.Spacing ≡ read.Read b u → X
-    none z = absurd (let y : _≡_ {A = ℕ} 0 1 = cc in omega arith)
+    none : {X : Type 0} (x : Fault) → read.Refused x ≡ read.Read b u → X
+    none x z = absurd (let y : _≡_ {A = ℕ} 0 1 = cc in omega arith)
 
     at : isCount t (countIn s) ≡ true → (a : Answer) → answerOf (kindsOf t (countIn s)) s ≡ a → typedOf t (padded (valuesOf (kindsOf t (countIn s)) s)) a ≡ read.Read b u → Taken t s b u
     at q (answer.Taken v m) p d =
         let z : v ≡ u = cc in
         let y : bodyFrom t m (padded (valuesOf (kindsOf t (countIn s)) s)) ≡ b = cc in
         record { marks = m; count = q; answer = p ∙ rw z; is = y }
-    at q answer.Spacing p d = none d
-    at q (answer.Field i) p d = absurd (let y : _≡_ {A = ℕ} 0 1 = cc in omega arith)
-    at q (answer.Number i) p d = absurd (let y : _≡_ {A = ℕ} 0 1 = cc in omega arith)
-    at q (answer.Two i) p d = absurd (let y : _≡_ {A = ℕ} 0 1 = cc in omega arith)
+    at q (answer.Refused x) p d = none x d
 
     go : (c : Bool) → isCount t (countIn s) ≡ c → Taken t s b u
     go true q = at q (answerOf (kindsOf t (countIn s)) s) refl (rw q at e)
-    go false q = none (rw q at e)
+    go false q = none _ (rw q at e)
 
 -- the text and the rules of what is read
 record Held (t : MessageType) (s : List ℕ) (b : Body) (u : Bool) : Type 0 where

@@ -15,10 +15,7 @@ use Rattle.bodies.specs.declared.BodyRead.the-variants as read
 
 abbrev pub typedOf : MessageType → List Value → Answer → BodyRead
 typedOf t w (answer.Taken trailing m) = read.Read (bodyFrom t m w) trailing
-typedOf t w answer.Spacing = read.Spacing
-typedOf t w (answer.Field i) = read.Field i
-typedOf t w (answer.Number i) = read.Number i
-typedOf t w (answer.Two i) = read.Two i
+typedOf t w (answer.Refused x) = read.Refused x
 
 -- by the table where the type has fields; "RT, TO and HB bodies are kept whole", and then no value is held
 unfoldable pub bodyRead : MessageType → List ℕ → BodyRead

@@ -24,18 +24,16 @@ use messages::Plan;
 use messages::Rz;
 use messages::Tz;
 use table::Answer;
+use table::Fault;
 use table::TableRead;
 ghost use mathlib.Core.Path.{_≡_};
 ghost use Rattle.messages.specs.Body.{afFrom, azFrom, dzFrom, rzFrom, tzFrom, planFrom, bodyFrom};
 ghost use Rattle.bodies.specs.Read.{typedOf, bodyRead};
 
-// What a body is read as: the answers 0, 8, 9, 10 and 18, with the place of the field.
+// What a body is read as, and whether a space stands at its end; or its fault.
 pub enum BodyRead {
     Read(Body, bool),
-    Spacing,
-    Field(usize),
-    Number(usize),
-    Two(usize),
+    Refused(Fault),
 }
 
 fn af_from(marks: u8, w: [Value; 19]) -> Af
@@ -183,28 +181,28 @@ fn body_from(t: MessageType, marks: u8, w: [Value; 19]) -> Body
     }
 }
 
-// The values given their types.
-fn typed(t: MessageType, read: TableRead) -> BodyRead
-    ensures { λ r. ⌜ r ≡ typedOf t (read .values) (read .answer) ⌝ }
+// The fields of a type's body by the table; of a body that is kept whole no value is held.
+fn read_fields(t: MessageType, body: &[u8]) -> TableRead
+    ensures { λ r. ⌜ typedOf t (r .values) (r .answer) ≡ bodyRead t (now (body .entry)) ⌝ }
 {
+    if !counts::has_fields(t) {
+        return TableRead {
+            answer: Answer::Taken(false, 0),
+            values: [Value { a: 0, b: 0, c: 0 }; 19],
+        };
+    }
+    layout::read(t, body)
+}
+
+// Reads the body of a type's line, and gives the values their types.
+pub fn read_body(t: MessageType, body: &[u8]) -> BodyRead
+    ensures { λ r. ⌜ r ≡ bodyRead t (now (body .entry)) ⌝ }
+{
+    let read = read_fields(t, body);
     let answer = read.answer;
     let values = read.values;
     match answer {
         Answer::Taken(trailing, marks) => BodyRead::Read(body_from(t, marks, values), trailing),
-        Answer::Spacing => BodyRead::Spacing,
-        Answer::Field(place) => BodyRead::Field(place),
-        Answer::Number(place) => BodyRead::Number(place),
-        Answer::Two(place) => BodyRead::Two(place),
+        Answer::Refused(fault) => BodyRead::Refused(fault),
     }
-}
-
-// Reads the body of a type's line: by the table, or kept whole, and then no value is held.
-pub fn read_body(t: MessageType, body: &[u8]) -> BodyRead
-    ensures { λ r. ⌜ r ≡ bodyRead t (now (body .entry)) ⌝ }
-{
-    if !counts::has_fields(t) {
-        let values = [Value { a: 0, b: 0, c: 0 }; 19];
-        return BodyRead::Read(body_from(t, 0, values), false);
-    }
-    typed(t, layout::read(t, body))
 }

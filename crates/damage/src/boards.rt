@@ -6,13 +6,23 @@ use crate::numbers::say_number;
 use crate::numbers::say_two;
 use crate::numbers::say_words;
 use ages::Aged;
-use asks::Refusal;
 use cutter::Begun;
 use feeding::FeedAnswer;
 use fields::frame::Stamp;
+use line::Refusal;
 use planner::LineAnswer;
 use planner::StrikeAnswer;
 use printer::Printed;
+use table::Fault;
+
+fn say_fault(fault: Fault) {
+    match fault {
+        Fault::Spacing => say_two(8, 0),
+        Fault::Field(place) => say_two(9, place as u64),
+        Fault::Number(place) => say_two(10, place as u64),
+        Fault::Two(place) => say_two(18, place as u64),
+    }
+}
 
 fn say_refusal(refusal: Refusal) {
     match refusal {
@@ -23,11 +33,8 @@ fn say_refusal(refusal: Refusal) {
         Refusal::NoStamp => say_two(5, 0),
         Refusal::NoFacility => say_two(6, 0),
         Refusal::NoType => say_two(7, 0),
-        Refusal::Spacing => say_two(8, 0),
-        Refusal::Field(place) => say_two(9, place as u64),
-        Refusal::Number(place) => say_two(10, place as u64),
         Refusal::LongPlan => say_two(11, 0),
-        Refusal::Two(place) => say_two(18, place as u64),
+        Refusal::Body(fault) => say_fault(fault),
     }
 }
 

@@ -19,7 +19,8 @@ use Rattle.idents.specs.Ident.{identOf}
 use Rattle.kinds.specs.Field.{markOf, contentOf, leftOf, marksOf, follows, plain, readKind, readIn}
 use Rattle.table.specs.Read.{answerOf, answers, counted, answerFrom, routeIn, routeOf}
 use Rattle.table.specs.declared.Answer.{Answer}
-use Rattle.table.specs.declared.Answer.the-variants.{Taken, Spacing}
+use Rattle.table.specs.declared.Answer.the-variants.{Taken, Refused}
+use Rattle.table.specs.declared.Fault.the-variants.{Spacing}
 use Rattle.counts.specs.Table.{isCount}
 use Rattle.layout.specs.Table.{dotted, kindsOf, countIn, answerBy, routeBy}
 use Rattle.layout.proofs.kinds_of.Reads as kinds-of
@@ -38,7 +39,7 @@ level-before-time κs r s p = p
 
 -- answer 8
 abbrev spacing : Answer
-spacing = Spacing
+spacing = Refused Spacing
 
 -- "Splitting at any run of spaces, so that a missing field shifts the rest": a TZ with two spaces in a row
 pub run-of-spaces : (κs : _) (x : _) (r : _) (s : _) → read.Post κs (Tz, (x, tt)) r s

@@ -15,7 +15,8 @@ use Rattle.spacing.specs.declared.Counted.the-variants as counted
 use Rattle.spacing.proofs.Laws.{count-known}
 use Rattle.kinds.specs.Field.{plain, leftOf}
 use Rattle.table.specs.Read.{Ready, padded, answerOf, valuesOf, routeIn, routeOf}
-use Rattle.table.specs.declared.Answer.the-variants as answer
+use Rattle.table.specs.declared.Answer.the-variants.{Refused}
+use Rattle.table.specs.declared.Fault.the-variants.{Spacing}
 use Rattle.table.proofs.Ways.{read-wrong, ready, route-no-kinds, route-no-fields, route-later}
 use Rattle.counts.specs.Table.{tableOf, isCount}
 use Rattle.layout.specs.Table.{dotted, kindsOf, countIn, answerBy, valuesBy, routeBy}
@@ -41,11 +42,11 @@ unfolding dotted kindsOf
 dotted-kinds t n e = take-append-le n (tableOf t) _ (count-kinds t n e)
 
 module _ (t : MessageType) (s : List ℕ) where
-  pub by-wrong : countOf s ≡ counted.Wrong → (answer.Spacing ≡ answerBy t s) × (padded [] ≡ padded (valuesBy t s))
+  pub by-wrong : countOf s ≡ counted.Wrong → (Refused Spacing ≡ answerBy t s) × (padded [] ≡ padded (valuesBy t s))
   unfolding answerBy valuesBy
   by-wrong e = go (isCount t (countIn s)) refl
     where
-      go : (b : Bool) → isCount t (countIn s) ≡ b → (answer.Spacing ≡ answerBy t s) × (padded [] ≡ padded (valuesBy t s))
+      go : (b : Bool) → isCount t (countIn s) ≡ b → (Refused Spacing ≡ answerBy t s) × (padded [] ≡ padded (valuesBy t s))
       go true q = let r = read-wrong (kindsOf t (countIn s)) s e in (rw q (r .0), rw q (r .1))
       go false q = (rw q, rw q)
 
@@ -54,7 +55,7 @@ module _ (t : MessageType) (s : List ℕ) where
     unfolding countIn
     count-in = sym (count-known s e .1)
 
-    pub by-not : isCount t n ≡ false → (answer.Spacing ≡ answerBy t s) × (padded [] ≡ padded (valuesBy t s))
+    pub by-not : isCount t n ≡ false → (Refused Spacing ≡ answerBy t s) × (padded [] ≡ padded (valuesBy t s))
     unfolding answerBy valuesBy
     by-not f = (rw (count-in, f), rw (count-in, f))
 

@@ -10,7 +10,8 @@ use Rattle.spacing.specs.Body.{fieldsOf, fieldsIn}
 use Rattle.kinds.specs.declared.Value.{Value}
 use Rattle.table.specs.Read.{answerOf, valuesOf, routeOf}
 use Rattle.table.specs.declared.Answer.{Answer}
-use Rattle.table.specs.declared.Answer.the-variants.{Spacing}
+use Rattle.table.specs.declared.Answer.the-variants.{Refused}
+use Rattle.table.specs.declared.Fault.the-variants.{Spacing}
 use Rattle.counts.specs.Table.{tableOf, isCount, hasFields}
 
 -- nineteen letters: the table, and dots after it
@@ -26,7 +27,7 @@ countIn s = length (fieldsIn (fieldsOf s))
 
 -- a body read by its type's table
 unfoldable pub answerBy : MessageType → List ℕ → Answer
-answerBy t s = cond (isCount t (countIn s)) (answerOf (kindsOf t (countIn s)) s) Spacing
+answerBy t s = cond (isCount t (countIn s)) (answerOf (kindsOf t (countIn s)) s) (Refused Spacing)
 
 unfoldable pub valuesBy : MessageType → List ℕ → List Value
 valuesBy t s = cond (isCount t (countIn s)) (valuesOf (kindsOf t (countIn s)) s) []

@@ -23,6 +23,8 @@ use Rattle.kinds.specs.declared.FieldRead.the-variants as field
 use Rattle.table.specs.Read.{padded}
 use Rattle.table.specs.declared.Answer.{Answer}
 use Rattle.table.specs.declared.Answer.the-variants as answer
+use Rattle.table.specs.declared.Fault.{Fault}
+use Rattle.table.specs.declared.Fault.the-variants as fault
 use Rattle.counts.specs.Table.{hasFields}
 use Rattle.counts.specs.Plan.{isLongPlan}
 use Rattle.counts.proofs.Ways.{each-type}
@@ -32,12 +34,14 @@ use Rattle.bodies.specs.Read.{typedOf, bodyRead}
 use Rattle.bodies.specs.declared.BodyRead.{BodyRead}
 use Rattle.bodies.proofs.Ways.{by-table, kept-whole}
 use Rattle.line.specs.Cases.{Framed, Headed, Case, Taken, Short, Long, Unprintable, NoSequence, NoStamp, NoFacility, NoType, Spacing, Field, Number, LongPlan, Two}
-use Rattle.line.specs.Read.{headOf, withBody, restOf, byHead, readOf, numberOf, placeOf, freeOf}
+use Rattle.line.specs.Read.{headOf, withBody, restOf, byHead, readOf, faultNumber, faultPlace, refusalNumber, refusalPlace, numberOf, placeOf, freeOf}
 use Rattle.line.specs.declared.Head.{Head}
 use Rattle.line.specs.declared.HeadRead.{HeadRead}
 use Rattle.line.specs.declared.HeadRead.the-variants as head
 use Rattle.line.specs.declared.LineRead.{LineRead}
 use Rattle.line.specs.declared.LineRead.the-variants as read
+use Rattle.line.specs.declared.Refusal.{Refusal}
+use Rattle.line.specs.declared.Refusal.the-variants as refusal
 use Rattle.line.proofs.Ways.{line-short, line-long, line-byte, line-head, rest-long}
 use Rattle.line.proofs.Theorems.{reads-allowed, allowed-reads}
 use Rattle.line.proofs.CasesBodies.{faulty-fields, no-fields, fields-none, fault-faulty, faulty-fault}
@@ -64,28 +68,28 @@ module _ (s : List ℕ) where
   framed-reads : Framed s → {h : HeadRead} → headOf s ≡ h → byHead s h ≡ readOf s
   framed-reads f e = line-head s (f .enough) (f .few) (f .printable) e
 
-  no-sequence-reads : Framed s → isSequence (sequencePart s) ≡ false → read.NoSequence ≡ readOf s
+  no-sequence-reads : Framed s → isSequence (sequencePart s) ≡ false → read.Refused refusal.NoSequence ≡ readOf s
   unfolding headOf
-  no-sequence-reads f p = framed-reads f {h = head.NoSequence} (rw p)
+  no-sequence-reads f p = framed-reads f {h = head.Refused refusal.NoSequence} (rw p)
 
-  no-stamp-reads : Framed s → isSequence (sequencePart s) ≡ true → isStamp (stampPart s) ≡ false → read.NoStamp ≡ readOf s
+  no-stamp-reads : Framed s → isSequence (sequencePart s) ≡ true → isStamp (stampPart s) ≡ false → read.Refused refusal.NoStamp ≡ readOf s
   unfolding headOf
-  no-stamp-reads f p q = framed-reads f {h = head.NoStamp} (rw (p, q))
+  no-stamp-reads f p q = framed-reads f {h = head.Refused refusal.NoStamp} (rw (p, q))
 
-  no-facility-reads : Framed s → isSequence (sequencePart s) ≡ true → isStamp (stampPart s) ≡ true → isFacility (facilityPart s) ≡ false → read.NoFacility ≡ readOf s
+  no-facility-reads : Framed s → isSequence (sequencePart s) ≡ true → isStamp (stampPart s) ≡ true → isFacility (facilityPart s) ≡ false → read.Refused refusal.NoFacility ≡ readOf s
   unfolding headOf
-  no-facility-reads f p q r = framed-reads f {h = head.NoFacility} (rw (p, q, r))
+  no-facility-reads f p q r = framed-reads f {h = head.Refused refusal.NoFacility} (rw (p, q, r))
 
-  no-type-reads : Framed s → isSequence (sequencePart s) ≡ true → isStamp (stampPart s) ≡ true → isFacility (facilityPart s) ≡ true → typeOf (typePart s) ≡ type.Nothing → read.NoType ≡ readOf s
+  no-type-reads : Framed s → isSequence (sequencePart s) ≡ true → isStamp (stampPart s) ≡ true → isFacility (facilityPart s) ≡ true → typeOf (typePart s) ≡ type.Nothing → read.Refused refusal.NoType ≡ readOf s
   unfolding headOf
-  no-type-reads f p q r e = framed-reads f {h = head.NoType} (rw (p, q, r, e))
+  no-type-reads f p q r e = framed-reads f {h = head.Refused refusal.NoType} (rw (p, q, r, e))
 
   module _ (t : MessageType) (k : Headed s t) where
     headed-reads : restOf (headFor s t) s ≡ readOf s
     unfolding headOf
     headed-reads = framed-reads (k .framed) {h = head.Read (headFor s t)} (rw (k .sequence, k .stamp, k .facility, k .type, type-complete t))
 
-    long-reads : isLongPlan t (length s) ≡ true → read.LongPlan ≡ readOf s
+    long-reads : isLongPlan t (length s) ≡ true → read.Refused refusal.LongPlan ≡ readOf s
     long-reads e = rest-long (headFor s t) s e ∙ headed-reads
 
     body-reads : isLongPlan t (length s) ≡ false → {r : BodyRead} → bodyRead t (bodyPart s) ≡ r → withBody (headFor s t) r ≡ readOf s
@@ -97,12 +101,12 @@ module _ (s : List ℕ) where
 
   -- ---- each line is in the case of its answer: its tests one after another, in document 01's order
 
-  -- a line that reads as r is in its own case if it is in r's
-  at : {r : LineRead} → r ≡ readOf s → Case s (numberOf r) (placeOf r) → Own s
-  at e c = subst (λ (r : LineRead). Case s (numberOf r) (placeOf r)) e c
+  -- a line that is refused with x is in its own case if it is in x's
+  at : (x : Refusal) → read.Refused x ≡ readOf s → Case s (refusalNumber x) (refusalPlace x) → Own s
+  at x e c = subst (λ (r : LineRead). Case s (numberOf r) (placeOf r)) e c
 
   taken-at : (m : Message) → read.Read m ≡ readOf s → Own s
-  taken-at m e = let a = reads-allowed s m (sym e) in at {r = read.Read m} e (Taken m (freeOf s) (a .0) (a .1))
+  taken-at m e = let a = reads-allowed s m (sym e) in subst (λ (r : LineRead). Case s (numberOf r) (placeOf r)) e (Taken m (freeOf s) (a .0) (a .1))
 
   -- a place is one more than an index
   placed : (n j i : ℕ) → j ≡ suc i → Case s n (suc i) → Case s n j
@@ -111,12 +115,15 @@ module _ (s : List ℕ) where
   body-case : (t : MessageType) → Headed s t → isLongPlan t (length s) ≡ false → Own s
   body-case t k l = go (hasFields t) refl
     where
+      refused : hasFields t ≡ true → (x : Fault) → answerBy t (bodyPart s) ≡ answer.Refused x → Case s (faultNumber x) (faultPlace x)
+      refused h fault.Spacing q = Spacing t k l h (no-fields t (bodyPart s) q)
+      refused h (fault.Field j) q = let (i, z, f) = fault-faulty t (bodyPart s) j field.Nothing refl q in placed 9 j i z (Field t i k l f)
+      refused h (fault.Number j) q = let (i, z, f) = fault-faulty t (bodyPart s) j field.Number refl q in placed 10 j i z (Number t i k l f)
+      refused h (fault.Two j) q = let (i, z, f) = fault-faulty t (bodyPart s) j field.Two refl q in placed 18 j i z (Two t i k l f)
+
       by : hasFields t ≡ true → (a : Answer) → answerBy t (bodyPart s) ≡ a → Own s
       by h (answer.Taken u m) q = taken-at _ (table-reads t k l h q)
-      by h answer.Spacing q = at {r = read.Spacing} (table-reads t k l h q) (Spacing t k l h (no-fields t (bodyPart s) q))
-      by h (answer.Field j) q = let (i, z, f) = fault-faulty t (bodyPart s) j field.Nothing refl q in at {r = read.Field j} (table-reads t k l h q) (placed 9 j i z (Field t i k l f))
-      by h (answer.Number j) q = let (i, z, f) = fault-faulty t (bodyPart s) j field.Number refl q in at {r = read.Number j} (table-reads t k l h q) (placed 10 j i z (Number t i k l f))
-      by h (answer.Two j) q = let (i, z, f) = fault-faulty t (bodyPart s) j field.Two refl q in at {r = read.Two j} (table-reads t k l h q) (placed 18 j i z (Two t i k l f))
+      by h (answer.Refused x) q = at (refusal.Body x) (table-reads t k l h q) (refused h x q)
 
       go : (c : Bool) → hasFields t ≡ c → Own s
       go true h = by h (answerBy t (bodyPart s)) refl
@@ -126,7 +133,7 @@ module _ (s : List ℕ) where
   headed-case t k = go (isLongPlan t (length s)) refl
     where
       go : (c : Bool) → isLongPlan t (length s) ≡ c → Own s
-      go true e = let p = plan-type t (length s) e in at {r = read.LongPlan} (long-reads t k e) (LongPlan (subst (λ (u : MessageType). Headed s u) (p .0) k) (p .1))
+      go true e = let p = plan-type t (length s) e in at refusal.LongPlan (long-reads t k e) (LongPlan (subst (λ (u : MessageType). Headed s u) (p .0) k) (p .1))
       go false e = body-case t k e
 
   framed-case : Framed s → Own s
@@ -135,20 +142,20 @@ module _ (s : List ℕ) where
       typed : isSequence (sequencePart s) ≡ true → isStamp (stampPart s) ≡ true → isFacility (facilityPart s) ≡ true → (d : TypeRead) → typeOf (typePart s) ≡ d → Own s
       typed p q r (type.Read t) e = headed-case t (record { framed = f; sequence = p; stamp = q; facility = r; type = sym (type-sound (typePart s) t e) })
       typed p q r type.Nothing e =
-          at {r = read.NoType} (no-type-reads f p q r e)
+          at refusal.NoType (no-type-reads f p q r e)
           (NoType f p q r (λ t x. let z : type.Nothing ≡ type.Read t = sym e ∙ ap typeOf x ∙ type-complete t in let y : _≡_ {A = ℕ} 0 1 = cc in omega arith))
 
       facility : isSequence (sequencePart s) ≡ true → isStamp (stampPart s) ≡ true → (c : Bool) → isFacility (facilityPart s) ≡ c → Own s
       facility p q true r = typed p q r (typeOf (typePart s)) refl
-      facility p q false r = at {r = read.NoFacility} (no-facility-reads f p q r) (NoFacility f p q r)
+      facility p q false r = at refusal.NoFacility (no-facility-reads f p q r) (NoFacility f p q r)
 
       stamp : isSequence (sequencePart s) ≡ true → (c : Bool) → isStamp (stampPart s) ≡ c → Own s
       stamp p true q = facility p q (isFacility (facilityPart s)) refl
-      stamp p false q = at {r = read.NoStamp} (no-stamp-reads f p q) (NoStamp f p q)
+      stamp p false q = at refusal.NoStamp (no-stamp-reads f p q) (NoStamp f p q)
 
       sequence : (c : Bool) → isSequence (sequencePart s) ≡ c → Own s
       sequence true p = stamp p (isStamp (stampPart s)) refl
-      sequence false p = at {r = read.NoSequence} (no-sequence-reads f p) (NoSequence f p)
+      sequence false p = at refusal.NoSequence (no-sequence-reads f p) (NoSequence f p)
 
   -- THE LAW: each line is in the case of its number and its place
   pub case-of : Case s (numberOf (readOf s)) (placeOf (readOf s))
@@ -156,20 +163,20 @@ module _ (s : List ℕ) where
     where
       printable : headLength ≤ length s → length s ≤ longestLine → (c : Bool) → allIn 32 126 s ≡ c → Own s
       printable h k true e = framed-case (record { enough = h; few = k; printable = e })
-      printable h k false e = at {r = read.Unprintable} (line-byte s h k e) (Unprintable h k e)
+      printable h k false e = at refusal.Unprintable (line-byte s h k e) (Unprintable h k e)
 
       few : headLength ≤ length s → (c : Bool) → ltb longestLine (length s) ≡ c → Own s
-      few h true e = let k = ltb-true longestLine (length s) e in at {r = read.Long} (line-long s h k) (Long k)
+      few h true e = let k = ltb-true longestLine (length s) e in at refusal.Long (line-long s h k) (Long k)
       few h false e = printable h (ltb-false longestLine (length s) e) (allIn 32 126 s) refl
 
       enough : (c : Bool) → ltb (length s) headLength ≡ c → Own s
-      enough true e = let k = ltb-true (length s) headLength e in at {r = read.Short} (line-short s k) (Short k)
+      enough true e = let k = ltb-true (length s) headLength e in at refusal.Short (line-short s k) (Short k)
       enough false e = few (ltb-false (length s) headLength e) (ltb longestLine (length s)) refl
 
   -- ---- and in no other: the facts of a case make the line read as that case's answer
 
-  answered : {r : LineRead} → r ≡ readOf s → (numberOf (readOf s) ≡ numberOf r) × (placeOf (readOf s) ≡ placeOf r)
-  answered e = (ap numberOf (sym e), ap placeOf (sym e))
+  refused : (x : Refusal) → read.Refused x ≡ readOf s → (numberOf (readOf s) ≡ refusalNumber x) × (placeOf (readOf s) ≡ refusalPlace x)
+  refused x e = (ap numberOf (sym e), ap placeOf (sym e))
 
   -- a text that is no type's has no type
   no-type : ((t : MessageType) → typePart s ≡ typeText t → ⊥) → typeOf (typePart s) ≡ type.Nothing
@@ -182,19 +189,19 @@ module _ (s : List ℕ) where
   -- THE LAW: the case that a line is in has its number and its place
   pub case-only : (n p : ℕ) → Case s n p → (numberOf (readOf s) ≡ n) × (placeOf (readOf s) ≡ p)
   unfolding fits isOf
-  case-only n p (Taken m r a e) = answered {r = read.Read m} (sym (allowed-reads m r a .0) ∙ ap readOf e)
-  case-only n p (Short h) = answered {r = read.Short} (line-short s h)
-  case-only n p (Long h) = answered {r = read.Long} (line-long s (omega arith) h)
-  case-only n p (Unprintable h k e) = answered {r = read.Unprintable} (line-byte s h k e)
-  case-only n p (NoSequence f a) = answered {r = read.NoSequence} (no-sequence-reads f a)
-  case-only n p (NoStamp f a b) = answered {r = read.NoStamp} (no-stamp-reads f a b)
-  case-only n p (NoFacility f a b c) = answered {r = read.NoFacility} (no-facility-reads f a b c)
-  case-only n p (NoType f a b c d) = answered {r = read.NoType} (no-type-reads f a b c (no-type d))
-  case-only n p (Spacing t k l h d) = answered {r = read.Spacing} (table-reads t k l h (fields-none t (bodyPart s) d))
-  case-only n p (Field t i k l f) = answered {r = read.Field (suc i)} (table-reads t k l (faulty-fields t (bodyPart s) i field.Nothing f) (faulty-fault t (bodyPart s) i field.Nothing refl f))
-  case-only n p (Number t i k l f) = answered {r = read.Number (suc i)} (table-reads t k l (faulty-fields t (bodyPart s) i field.Number f) (faulty-fault t (bodyPart s) i field.Number refl f))
-  case-only n p (LongPlan k h) = answered {r = read.LongPlan} (long-reads Fz k (lt-ltb 439 (length s - 16) h))
-  case-only n p (Two t i k l f) = answered {r = read.Two (suc i)} (table-reads t k l (faulty-fields t (bodyPart s) i field.Two f) (faulty-fault t (bodyPart s) i field.Two refl f))
+  case-only n p (Taken m r a e) = let q = ap readOf (sym e) ∙ allowed-reads m r a .0 in (ap numberOf q, ap placeOf q)
+  case-only n p (Short h) = refused refusal.Short (line-short s h)
+  case-only n p (Long h) = refused refusal.Long (line-long s (omega arith) h)
+  case-only n p (Unprintable h k e) = refused refusal.Unprintable (line-byte s h k e)
+  case-only n p (NoSequence f a) = refused refusal.NoSequence (no-sequence-reads f a)
+  case-only n p (NoStamp f a b) = refused refusal.NoStamp (no-stamp-reads f a b)
+  case-only n p (NoFacility f a b c) = refused refusal.NoFacility (no-facility-reads f a b c)
+  case-only n p (NoType f a b c d) = refused refusal.NoType (no-type-reads f a b c (no-type d))
+  case-only n p (Spacing t k l h d) = refused (refusal.Body fault.Spacing) (table-reads t k l h (fields-none t (bodyPart s) d))
+  case-only n p (Field t i k l f) = refused (refusal.Body (fault.Field (suc i))) (table-reads t k l (faulty-fields t (bodyPart s) i field.Nothing f) (faulty-fault t (bodyPart s) i field.Nothing refl f))
+  case-only n p (Number t i k l f) = refused (refusal.Body (fault.Number (suc i))) (table-reads t k l (faulty-fields t (bodyPart s) i field.Number f) (faulty-fault t (bodyPart s) i field.Number refl f))
+  case-only n p (LongPlan k h) = refused refusal.LongPlan (long-reads Fz k (lt-ltb 439 (length s - 16) h))
+  case-only n p (Two t i k l f) = refused (refusal.Body (fault.Two (suc i))) (table-reads t k l (faulty-fields t (bodyPart s) i field.Two f) (faulty-fault t (bodyPart s) i field.Two refl f))
 
   -- so no line is in two cases with different numbers or places
   pub one-case : (n p m q : ℕ) → Case s n p → Case s m q → (n ≡ m) × (p ≡ q)

@@ -14,7 +14,8 @@ use Rattle.spacing.specs.Body.{bodyOf, allFields, Fields, fieldsOf}
 use Rattle.spacing.proofs.Laws.{fields-text, fields-body}
 use Rattle.kinds.specs.declared.FieldRead.{FieldRead}
 use Rattle.table.specs.Read.{faultAt, answerOf}
-use Rattle.table.specs.declared.Answer.the-variants.{Spacing}
+use Rattle.table.specs.declared.Answer.the-variants.{Refused}
+use Rattle.table.specs.declared.Fault.the-variants.{Spacing}
 use Rattle.table.proofs.Refusals.{spacing, spacing-only, isFault, Bad, bad-at, bad-only, fault-spacing}
 use Rattle.counts.specs.Table.{tableOf, isCount, hasFields}
 use Rattle.layout.specs.Table.{kindsOf, countIn, answerBy}
@@ -49,22 +50,22 @@ module _ (t : MessageType) (b : List ℕ) where
 
   -- ---- spacing or count wrong
 
-  pub no-fields : answerBy t b ≡ Spacing → (fs : List (List ℕ)) (u : Bool) → allFields fs ≡ true → isCount t (length fs) ≡ true → bodyOf fs u ≡ b → ⊥
+  pub no-fields : answerBy t b ≡ Refused Spacing → (fs : List (List ℕ)) (u : Bool) → allFields fs ≡ true → isCount t (length fs) ≡ true → bodyOf fs u ≡ b → ⊥
   no-fields e fs u every c text =
       let n = kinds-length t (length fs) c in
       spacing (kindsOf t (length fs)) b (rw n (table-few t (length fs) c)) (sym (by-kinds fs u every text c) ∙ e) fs u every (sym n) text
 
-  pub fields-none : ((fs : List (List ℕ)) (u : Bool) → allFields fs ≡ true → isCount t (length fs) ≡ true → bodyOf fs u ≡ b → ⊥) → answerBy t b ≡ Spacing
+  pub fields-none : ((fs : List (List ℕ)) (u : Bool) → allFields fs ≡ true → isCount t (length fs) ≡ true → bodyOf fs u ≡ b → ⊥) → answerBy t b ≡ Refused Spacing
   unfolding answerBy
   fields-none h = go (isCount t (countIn b)) refl
     where
-      go : (c : Bool) → isCount t (countIn b) ≡ c → answerBy t b ≡ Spacing
+      go : (c : Bool) → isCount t (countIn b) ≡ c → answerBy t b ≡ Refused Spacing
       go true q = rw q (spacing-only (kindsOf t (countIn b)) b (λ fs u every n text. h fs u every (rw (count-is fs u every text) at q) text))
       go false q = rw q
 
   -- ---- the first field that is not read, with any fault
 
-  pub fault-faulty : (j : ℕ) (a : FieldRead) → isFault a ≡ true → answerBy t b ≡ faultAt j a → (i : ℕ) × (j ≡ suc i) × Faulty t b i a
+  pub fault-faulty : (j : ℕ) (a : FieldRead) → isFault a ≡ true → answerBy t b ≡ Refused (faultAt j a) → (i : ℕ) × (j ≡ suc i) × Faulty t b i a
   unfolding answerBy
   fault-faulty j a h e = go (isCount t (countIn b)) refl
     where
@@ -87,7 +88,7 @@ module _ (t : MessageType) (b : List ℕ) where
       go true q = from q (bad-at (kindsOf t (countIn b)) b j a h (rw q at e))
       go false q = absurd (fault-spacing j a h (rw q at e))
 
-  pub faulty-fault : (i : ℕ) (a : FieldRead) → isFault a ≡ true → Faulty t b i a → answerBy t b ≡ faultAt (suc i) a
+  pub faulty-fault : (i : ℕ) (a : FieldRead) → isFault a ≡ true → Faulty t b i a → answerBy t b ≡ Refused (faultAt (suc i) a)
   faulty-fault i a h f =
       let n = kinds-length t (length (f .fields)) (f .count) in
       let z : i + 1 ≡ suc i = omega arith in
@@ -100,4 +101,4 @@ module _ (t : MessageType) (b : List ℕ) where
         count = sym n;
         first = f .first;
       })
-      ∙ ap (λ m. faultAt m a) z
+      ∙ ap (λ m. Refused (faultAt m a)) z

@@ -39,6 +39,7 @@ use Rattle.heads.proofs.Messages.{type-sound, type-complete, length-type}
 use Rattle.line.specs.Read.{typed, headOf}
 use Rattle.line.specs.declared.Head.{Head}
 use Rattle.line.specs.declared.HeadRead.the-variants as head
+use Rattle.line.specs.declared.Refusal.the-variants.{NoSequence, NoStamp, NoFacility}
 
 -- ---- a line is its five parts
 
@@ -148,9 +149,9 @@ where-fails false w x r f g e = g refl e
 pub head-sound : (s : List ℕ) (h : Head) → headOf s ≡ head.Read h → IsHeadOf h s
 unfolding headOf
 head-sound s h =
-    where-holds (isSequence (sequencePart s)) _ head.NoSequence (head.Read h) (λ e. let z : _≡_ {A = ℕ} 0 1 = cc in omega arith)
-    (λ p. where-holds (isStamp (stampPart s)) _ head.NoStamp (head.Read h) (λ e. let z : _≡_ {A = ℕ} 0 1 = cc in omega arith)
-    (λ q. where-holds (isFacility (facilityPart s)) _ head.NoFacility (head.Read h) (λ e. let z : _≡_ {A = ℕ} 0 1 = cc in omega arith)
+    where-holds (isSequence (sequencePart s)) _ (head.Refused NoSequence) (head.Read h) (λ e. let z : _≡_ {A = ℕ} 0 1 = cc in omega arith)
+    (λ p. where-holds (isStamp (stampPart s)) _ (head.Refused NoStamp) (head.Read h) (λ e. let z : _≡_ {A = ℕ} 0 1 = cc in omega arith)
+    (λ q. where-holds (isFacility (facilityPart s)) _ (head.Refused NoFacility) (head.Read h) (λ e. let z : _≡_ {A = ℕ} 0 1 = cc in omega arith)
     (λ r. go p q r (typeOf (typePart s)) refl)))
   where
     go : isSequence (sequencePart s) ≡ true → isStamp (stampPart s) ≡ true → isFacility (facilityPart s) ≡ true → (d : TypeRead) → typeOf (typePart s) ≡ d → typed s d ≡ head.Read h → IsHeadOf h s

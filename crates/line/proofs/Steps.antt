@@ -3,9 +3,9 @@
 use mathlib.Core.Path.{_≡_, refl, ap, _∙_}
 use mathlib.Core.Bool.{true, false, not, _&&_}
 use mathlib.Core.List.{List}
-use Prim.Native.Nat.{ℕ, _≤_, _<_}
+use Prim.Native.Nat.{ℕ, _≤_}
 use native.Mathlib.Omega.{arith}
-use lib.Dec.{leb, ltb, lit≤}
+use lib.Dec.{leb, ltb}
 use lib.ListN.{length, drop}
 use borrow.Author.Tests.{ltb-false, leb-true, le-ltb, le-leb, not-true}
 use Rattle.text.specs.Place.{allIn}
@@ -24,12 +24,13 @@ use Rattle.bodies.specs.Read.{bodyRead}
 use Rattle.bodies.specs.declared.BodyRead.{BodyRead}
 use Rattle.bodies.specs.declared.BodyRead.the-variants as body
 use Rattle.line.specs.Line.{lineOf, isHead, hasSize, isAllowed}
-use Rattle.line.specs.Read.{headOf, withBody, restOf, byHead, readOf, numberOf, freeBy, freeOf}
+use Rattle.line.specs.Read.{headOf, withBody, restOf, byHead, readOf, freeBy, freeOf}
 use Rattle.line.specs.declared.Head.{Head}
 use Rattle.line.specs.declared.HeadRead.{HeadRead}
 use Rattle.line.specs.declared.HeadRead.the-variants as head
-use Rattle.line.specs.declared.LineRead.{LineRead}
-use Rattle.line.specs.declared.LineRead.the-variants.{Read, Short, Long, Unprintable, NoSequence, NoStamp, NoFacility, NoType, Spacing, Field, Number, LongPlan, Two}
+use Rattle.line.specs.declared.LineRead.the-variants.{Read, Refused}
+use Rattle.line.specs.declared.Refusal.{Refusal}
+use Rattle.line.specs.declared.Refusal.the-variants.{Short, Long, Unprintable, LongPlan, Body}
 use Rattle.line.proofs.Heads.{five-parts, IsHeadOf, where-holds, where-fails, head-sound, head-complete, headed-parts, headed-is, headed-printable}
 
 -- the head of a message of type k
@@ -54,37 +55,31 @@ passes-reads s m k p = rw (le-ltb (length s) headLength (p .enough), le-ltb long
 -- ---- what reads passes: one law for each step, from the last
 
 module _ (m : Message) where
-  -- an answer with a number over 0 is none that reads
-  refused : (r : LineRead) → 0 < numberOf r → r ≡ Read m → ⊥
-  refused r h e = omega (arith, ap numberOf e)
+  -- what is refused does not read
+  refused : (x : Refusal) → Refused x ≡ Read m → ⊥
+  refused x e = let z : _≡_ {A = ℕ} 0 1 = cc in omega arith
 
   from-body : (h : Head) (r : BodyRead) → withBody h r ≡ Read m → (h ≡ headIn m (h .kind)) × (r ≡ body.Read (m .body) (m .trailing))
   from-body h (body.Read b t) e =
       let z : record { sequence = h .sequence; stamp = h .stamp; facility = h .facility; body = b; trailing = t } ≡ m = cc in
       (ap (λ (n : Message). headIn n (h .kind)) z, ap (λ (n : Message). body.Read (n .body) (n .trailing)) z)
-  from-body h body.Spacing e = absurd (refused Spacing (lit≤ tt) e)
-  from-body h (body.Field i) e = absurd (refused (Field i) (lit≤ tt) e)
-  from-body h (body.Number i) e = absurd (refused (Number i) (lit≤ tt) e)
-  from-body h (body.Two i) e = absurd (refused (Two i) (lit≤ tt) e)
+  from-body h (body.Refused x) e = absurd (refused (Body x) e)
 
   from-head : (s : List ℕ) (r : HeadRead) → byHead s r ≡ Read m → (h : Head) × (r ≡ head.Read h) × (restOf h s ≡ Read m)
   from-head s (head.Read h) e = (h, refl, e)
-  from-head s head.NoSequence e = absurd (refused NoSequence (lit≤ tt) e)
-  from-head s head.NoStamp e = absurd (refused NoStamp (lit≤ tt) e)
-  from-head s head.NoFacility e = absurd (refused NoFacility (lit≤ tt) e)
-  from-head s head.NoType e = absurd (refused NoType (lit≤ tt) e)
+  from-head s (head.Refused x) e = absurd (refused x e)
 
   pub reads-passes : (s : List ℕ) → readOf s ≡ Read m → (k : MessageType) × Passes s m k
   unfolding readOf restOf
   reads-passes s =
-      where-fails (ltb (length s) headLength) Short _ (Read m) (refused Short (lit≤ tt))
-      (λ a. where-fails (ltb longestLine (length s)) Long _ (Read m) (refused Long (lit≤ tt))
-      (λ b. where-holds (allIn 32 126 s) _ Unprintable (Read m) (refused Unprintable (lit≤ tt))
+      where-fails (ltb (length s) headLength) (Refused Short) _ (Read m) (refused Short)
+      (λ a. where-fails (ltb longestLine (length s)) (Refused Long) _ (Read m) (refused Long)
+      (λ b. where-holds (allIn 32 126 s) _ (Refused Unprintable) (Read m) (refused Unprintable)
       (λ c e. headed a b c (from-head s (headOf s) e))))
     where
       headed : ltb (length s) headLength ≡ false → ltb longestLine (length s) ≡ false → allIn 32 126 s ≡ true → (h : Head) × (headOf s ≡ head.Read h) × (restOf h s ≡ Read m) → (k : MessageType) × Passes s m k
       headed a b c (h, d, e) =
-          where-fails (isLongPlan (h .kind) (length s)) LongPlan (withBody h (bodyRead (h .kind) (bodyPart s))) (Read m) (refused LongPlan (lit≤ tt))
+          where-fails (isLongPlan (h .kind) (length s)) (Refused LongPlan) (withBody h (bodyRead (h .kind) (bodyPart s))) (Read m) (refused LongPlan)
           (λ f g. let r = from-body h (bodyRead (h .kind) (bodyPart s)) g in (
             h .kind,
             record {

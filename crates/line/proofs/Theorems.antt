@@ -12,9 +12,12 @@ use Rattle.messages.specs.Allowed.{bodyText, isBody}
 use Rattle.messages.specs.declared.Message.{Message}
 use Rattle.bodies.proofs.Theorems.{body-sound, body-complete}
 use Rattle.line.specs.Line.{lineOf, isAllowed}
-use Rattle.line.specs.Read.{readOf, numberOf, freeBy, freeOf}
+use Rattle.line.specs.Read.{readOf, refusalNumber, numberOf, freeBy, freeOf}
 use Rattle.line.specs.declared.LineRead.{LineRead}
-use Rattle.line.specs.declared.LineRead.the-variants.{Read, Short, Long, Unprintable, NoSequence, NoStamp, NoFacility, NoType, Spacing, Field, Number, LongPlan, Two}
+use Rattle.line.specs.declared.LineRead.the-variants.{Read, Refused}
+use Rattle.line.specs.declared.Refusal.{Refusal}
+use Rattle.line.specs.declared.Refusal.the-variants.{Short, Long, Unprintable, NoSequence, NoStamp, NoFacility, NoType, LongPlan, Body}
+use Rattle.table.specs.declared.Fault.the-variants.{Spacing, Field, Number, Two}
 use Rattle.line.proofs.Heads.{printable-left}
 use Rattle.frame.specs.Frame.{bodyPart}
 use Rattle.line.proofs.Steps.{reads-passes, passes-reads, passes-free, passes-text, passes-allows, allowed-allows, allows-allowed, allows-passes, text-body}
@@ -41,24 +44,28 @@ refused-exactly s = (
   λ none m e. none m (freeOf s) (reads-allowed s m e .0) (reads-allowed s m e .1),
 )
 
+-- no refusal has the number 0, or the 12 of a full board
+pub no-refusal : (x : Refusal) → (refusalNumber x ≡ 0 → ⊥) × (refusalNumber x ≡ 12 → ⊥)
+no-refusal Short = (λ z. omega arith, λ z. omega arith)
+no-refusal Long = (λ z. omega arith, λ z. omega arith)
+no-refusal Unprintable = (λ z. omega arith, λ z. omega arith)
+no-refusal NoSequence = (λ z. omega arith, λ z. omega arith)
+no-refusal NoStamp = (λ z. omega arith, λ z. omega arith)
+no-refusal NoFacility = (λ z. omega arith, λ z. omega arith)
+no-refusal NoType = (λ z. omega arith, λ z. omega arith)
+no-refusal LongPlan = (λ z. omega arith, λ z. omega arith)
+no-refusal (Body Spacing) = (λ z. omega arith, λ z. omega arith)
+no-refusal (Body (Field i)) = (λ z. omega arith, λ z. omega arith)
+no-refusal (Body (Number i)) = (λ z. omega arith, λ z. omega arith)
+no-refusal (Body (Two i)) = (λ z. omega arith, λ z. omega arith)
+
 -- and its answer number is 0 exactly if it reads
 pub number-zero : (s : List ℕ) → numberOf (readOf s) ≡ 0 → (m : Message) × (readOf s ≡ Read m)
 number-zero s e = go (readOf s) e
   where
     go : (r : LineRead) → numberOf r ≡ 0 → (m : Message) × (r ≡ Read m)
     go (Read m) e = (m, refl)
-    go Short e = absurd (omega arith)
-    go Long e = absurd (omega arith)
-    go Unprintable e = absurd (omega arith)
-    go NoSequence e = absurd (omega arith)
-    go NoStamp e = absurd (omega arith)
-    go NoFacility e = absurd (omega arith)
-    go NoType e = absurd (omega arith)
-    go Spacing e = absurd (omega arith)
-    go (Field i) e = absurd (omega arith)
-    go (Number i) e = absurd (omega arith)
-    go LongPlan e = absurd (omega arith)
-    go (Two i) e = absurd (omega arith)
+    go (Refused x) e = absurd (no-refusal x .0 e)
 
 pub zero-number : (s : List ℕ) (m : Message) → readOf s ≡ Read m → numberOf (readOf s) ≡ 0
 zero-number s m e = ap numberOf e

@@ -34,7 +34,8 @@ use Rattle.line.specs.Read.{headOf, withBody, restOf, byHead, readOf, fr
 use Rattle.line.specs.declared.Head.{Head}
 use Rattle.line.specs.declared.HeadRead.{HeadRead}
 use Rattle.line.specs.declared.HeadRead.the-variants as head
-use Rattle.line.specs.declared.LineRead.the-variants.{Short, Long, Unprintable, LongPlan}
+use Rattle.line.specs.declared.LineRead.the-variants.{Refused}
+use Rattle.line.specs.declared.Refusal.the-variants.{Short, Long, Unprintable, NoSequence, NoStamp, NoFacility, NoType, LongPlan}
 
 -- ---- one part of the head
 
@@ -89,22 +90,22 @@ facility-is p x e = go (isFacility p) refl
 -- ---- the head
 
 module _ (s : List ℕ) where
-  pub no-sequence : asSequence (wordOf SEQUENCE (sequencePart s)) ≡ sequence.Nothing → head.NoSequence ≡ headOf s
+  pub no-sequence : asSequence (wordOf SEQUENCE (sequencePart s)) ≡ sequence.Nothing → head.Refused NoSequence ≡ headOf s
   unfolding headOf
   no-sequence e = rw (sequence-none (sequencePart s) e)
 
   module _ (x : Sequence) (e : asSequence (wordOf SEQUENCE (sequencePart s)) ≡ sequence.Read x) where
-    pub no-stamp : asStamp (wordOf STAMP (stampPart s)) ≡ stamp.Nothing → head.NoStamp ≡ headOf s
+    pub no-stamp : asStamp (wordOf STAMP (stampPart s)) ≡ stamp.Nothing → head.Refused NoStamp ≡ headOf s
     unfolding headOf
     no-stamp f = rw (sequence-is (sequencePart s) x e .0, stamp-none (stampPart s) f)
 
     module _ (y : Stamp) (f : asStamp (wordOf STAMP (stampPart s)) ≡ stamp.Read y) where
-      pub no-facility : facilityOf (facilityPart s) ≡ facility.Nothing → head.NoFacility ≡ headOf s
+      pub no-facility : facilityOf (facilityPart s) ≡ facility.Nothing → head.Refused NoFacility ≡ headOf s
       unfolding headOf
       no-facility g = rw (sequence-is (sequencePart s) x e .0, stamp-is (stampPart s) y f .0, facility-none (facilityPart s) g)
 
       module _ (z : Facility) (g : facilityOf (facilityPart s) ≡ facility.Read z) where
-        pub no-type : typeOf (typePart s) ≡ type.Nothing → head.NoType ≡ headOf s
+        pub no-type : typeOf (typePart s) ≡ type.Nothing → head.Refused NoType ≡ headOf s
         unfolding headOf
         no-type h = rw (sequence-is (sequencePart s) x e .0, stamp-is (stampPart s) y f .0, facility-is (facilityPart s) z g .0, h)
 
@@ -124,7 +125,7 @@ module _ (s : List ℕ) where
 -- ---- the body after the head
 
 module _ (h : Head) (s : List ℕ) where
-  pub rest-long : isLongPlan (h .kind) (length s) ≡ true → LongPlan ≡ restOf h s
+  pub rest-long : isLongPlan (h .kind) (length s) ≡ true → Refused LongPlan ≡ restOf h s
   unfolding restOf
   rest-long e = rw e
 
@@ -135,17 +136,17 @@ module _ (h : Head) (s : List ℕ) where
 -- ---- the line
 
 module _ (s : List ℕ) where
-  pub line-short : length s < headLength → Short ≡ readOf s
+  pub line-short : length s < headLength → Refused Short ≡ readOf s
   unfolding readOf
   line-short h = rw (lt-ltb (length s) headLength h)
 
   module _ (enough : headLength ≤ length s) where
-    pub line-long : longestLine < length s → Long ≡ readOf s
+    pub line-long : longestLine < length s → Refused Long ≡ readOf s
     unfolding readOf
     line-long h = rw (le-ltb (length s) headLength enough, lt-ltb longestLine (length s) h)
 
     module _ (few : length s ≤ longestLine) where
-      pub line-byte : allIn 32 126 s ≡ false → Unprintable ≡ readOf s
+      pub line-byte : allIn 32 126 s ≡ false → Refused Unprintable ≡ readOf s
       unfolding readOf
       line-byte e = rw (le-ltb (length s) headLength enough, le-ltb longestLine (length s) few, e)
 

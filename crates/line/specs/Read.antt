@@ -15,6 +15,8 @@ use Rattle.heads.specs.declared.TypeRead.{TypeRead}
 use Rattle.heads.specs.declared.TypeRead.the-variants as type
 use Rattle.counts.specs.Plan.{isLongPlan}
 use Rattle.layout.specs.Table.{freeIn}
+use Rattle.table.specs.declared.Fault.{Fault}
+use Rattle.table.specs.declared.Fault.the-variants.{Spacing, Field, Number, Two}
 use Rattle.bodies.specs.Read.{bodyRead}
 use Rattle.bodies.specs.declared.BodyRead.{BodyRead}
 use Rattle.bodies.specs.declared.BodyRead.the-variants as body
@@ -22,73 +24,81 @@ use Rattle.line.specs.declared.Head.{Head}
 use Rattle.line.specs.declared.HeadRead.{HeadRead}
 use Rattle.line.specs.declared.HeadRead.the-variants as head
 use Rattle.line.specs.declared.LineRead.{LineRead}
-use Rattle.line.specs.declared.LineRead.the-variants.{Read, Short, Long, Unprintable, NoSequence, NoStamp, NoFacility, NoType, Spacing, Field, Number, LongPlan, Two}
+use Rattle.line.specs.declared.LineRead.the-variants.{Read, Refused}
+use Rattle.line.specs.declared.Refusal.{Refusal}
+use Rattle.line.specs.declared.Refusal.the-variants.{Short, Long, Unprintable, NoSequence, NoStamp, NoFacility, NoType, LongPlan, Body}
 
 -- ---- the head: "four characters", "eight digits", "four characters of facility", "two letters of type"
 
 abbrev pub typed : List ℕ → TypeRead → HeadRead
 typed s (type.Read t) =
     head.Read (record { sequence = record { 0 = packed (sequencePart s) }; stamp = record { 0 = packed (stampPart s) }; facility = record { 0 = value 256 4 (facilityPart s) }; kind = t })
-typed s type.Nothing = head.NoType
+typed s type.Nothing = head.Refused NoType
 
 unfoldable pub headOf : List ℕ → HeadRead
 headOf s =
-    cond (isSequence (sequencePart s)) (cond (isStamp (stampPart s)) (cond (isFacility (facilityPart s)) (typed s (typeOf (typePart s))) head.NoFacility) head.NoStamp) head.NoSequence
+    cond (isSequence (sequencePart s)) (cond (isStamp (stampPart s)) (cond (isFacility (facilityPart s)) (typed s (typeOf (typePart s))) (head.Refused NoFacility)) (head.Refused NoStamp)) (head.Refused NoSequence)
 
 -- ---- the body after it
 
 abbrev pub withBody : Head → BodyRead → LineRead
 withBody h (body.Read b t) = Read (record { sequence = h .sequence; stamp = h .stamp; facility = h .facility; body = b; trailing = t })
-withBody h body.Spacing = Spacing
-withBody h (body.Field i) = Field i
-withBody h (body.Number i) = Number i
-withBody h (body.Two i) = Two i
+withBody h (body.Refused x) = Refused (Body x)
 
 unfoldable pub restOf : Head → List ℕ → LineRead
-restOf h s = cond (isLongPlan (h .kind) (length s)) LongPlan (withBody h (bodyRead (h .kind) (bodyPart s)))
+restOf h s = cond (isLongPlan (h .kind) (length s)) (Refused LongPlan) (withBody h (bodyRead (h .kind) (bodyPart s)))
 
 abbrev pub byHead : List ℕ → HeadRead → LineRead
 byHead s (head.Read h) = restOf h s
-byHead s head.NoSequence = NoSequence
-byHead s head.NoStamp = NoStamp
-byHead s head.NoFacility = NoFacility
-byHead s head.NoType = NoType
+byHead s (head.Refused x) = Refused x
 
 -- ---- the line
 
 unfoldable pub readOf : List ℕ → LineRead
-readOf s = cond (ltb (length s) headLength) Short (cond (ltb longestLine (length s)) Long (cond (allIn 32 126 s) (byHead s (headOf s)) Unprintable))
+readOf s = cond (ltb (length s) headLength) (Refused Short) (cond (ltb longestLine (length s)) (Refused Long) (cond (allIn 32 126 s) (byHead s (headOf s)) (Refused Unprintable)))
 
 -- document 01's answer number, and the place that it gives; 0 where it gives none
+abbrev pub faultNumber : Fault → ℕ
+faultNumber Spacing = 8
+faultNumber (Field i) = 9
+faultNumber (Number i) = 10
+faultNumber (Two i) = 18
+
+abbrev pub faultPlace : Fault → ℕ
+faultPlace Spacing = 0
+faultPlace (Field i) = i
+faultPlace (Number i) = i
+faultPlace (Two i) = i
+
+abbrev pub refusalNumber : Refusal → ℕ
+refusalNumber Short = 1
+refusalNumber Long = 2
+refusalNumber Unprintable = 3
+refusalNumber NoSequence = 4
+refusalNumber NoStamp = 5
+refusalNumber NoFacility = 6
+refusalNumber NoType = 7
+refusalNumber LongPlan = 11
+refusalNumber (Body x) = faultNumber x
+
+abbrev pub refusalPlace : Refusal → ℕ
+refusalPlace Short = 0
+refusalPlace Long = 0
+refusalPlace Unprintable = 0
+refusalPlace NoSequence = 0
+refusalPlace NoStamp = 0
+refusalPlace NoFacility = 0
+refusalPlace NoType = 0
+refusalPlace LongPlan = 0
+refusalPlace (Body x) = faultPlace x
+
 abbrev pub numberOf : LineRead → ℕ
 numberOf (Read m) = 0
-numberOf Short = 1
-numberOf Long = 2
-numberOf Unprintable = 3
-numberOf NoSequence = 4
-numberOf NoStamp = 5
-numberOf NoFacility = 6
-numberOf NoType = 7
-numberOf Spacing = 8
-numberOf (Field i) = 9
-numberOf (Number i) = 10
-numberOf LongPlan = 11
-numberOf (Two i) = 18
+numberOf (Refused x) = refusalNumber x
 
 abbrev pub placeOf : LineRead → ℕ
 placeOf (Read m) = 0
-placeOf Short = 0
-placeOf Long = 0
-placeOf Unprintable = 0
-placeOf NoSequence = 0
-placeOf NoStamp = 0
-placeOf NoFacility = 0
-placeOf NoType = 0
-placeOf Spacing = 0
-placeOf (Field i) = i
-placeOf (Number i) = i
-placeOf LongPlan = 0
-placeOf (Two i) = i
+placeOf (Refused x) = refusalPlace x
 
 -- ---- "the reader gives back that part of the line": the body of RT, TO and HB, the route of the others, else nothing
 

@@ -15,6 +15,7 @@ use heads::FacilityRead;
 use heads::MessageType;
 use heads::TypeRead;
 use messages::Message;
+use table::Fault;
 ghost use mathlib.Core.Path.{_≡_};
 ghost use Prim.Native.Nat.{_≤_};
 ghost use lib.ListN.{length};
@@ -22,9 +23,8 @@ ghost use Rattle.frame.specs.Frame.{headLength};
 ghost use Rattle.line.specs.Cases.{Case};
 ghost use Rattle.line.specs.Read.{headOf, restOf, readOf, numberOf, placeOf, freeOf};
 
-// A line that is read, or document 01's answers 1 to 11 and 18, with the place of the field.
-pub enum LineRead {
-    Read(Message),
+// Document 01's answers 1 to 7 and 11; and 8, 9, 10 and 18 as the body's fault.
+pub enum Refusal {
     Short,
     Long,
     Unprintable,
@@ -32,11 +32,13 @@ pub enum LineRead {
     NoStamp,
     NoFacility,
     NoType,
-    Spacing,
-    Field(usize),
-    Number(usize),
     LongPlan,
-    Two(usize),
+    Body(Fault),
+}
+
+pub enum LineRead {
+    Read(Message),
+    Refused(Refusal),
 }
 
 // What stands before the body.
@@ -49,10 +51,7 @@ pub struct Head {
 
 pub enum HeadRead {
     Read(Head),
-    NoSequence,
-    NoStamp,
-    NoFacility,
-    NoType,
+    Refused(Refusal),
 }
 
 fn read_head(line: &[u8]) -> HeadRead
@@ -60,16 +59,16 @@ fn read_head(line: &[u8]) -> HeadRead
     ensures { λ r. ⌜ r ≡ headOf (now (line .entry)) ⌝ }
 {
     let SequenceRead::Read(sequence) = Sequence::read(&line[0..STAMP_AT]) else {
-        return HeadRead::NoSequence;
+        return HeadRead::Refused(Refusal::NoSequence);
     };
     let StampRead::Read(stamp) = Stamp::read(&line[STAMP_AT..FACILITY_AT]) else {
-        return HeadRead::NoStamp;
+        return HeadRead::Refused(Refusal::NoStamp);
     };
     let FacilityRead::Read(facility) = Facility::read(&line[FACILITY_AT..TYPE_AT]) else {
-        return HeadRead::NoFacility;
+        return HeadRead::Refused(Refusal::NoFacility);
     };
     let TypeRead::Read(kind) = MessageType::read(&line[TYPE_AT..BODY_AT]) else {
-        return HeadRead::NoType;
+        return HeadRead::Refused(Refusal::NoType);
     };
     HeadRead::Read(Head {
         sequence,
@@ -86,7 +85,7 @@ fn read_rest(head: Head, line: &[u8]) -> LineRead
 {
     let kind = head.kind;
     if counts::is_long_plan(kind, line.len()) {
-        return LineRead::LongPlan;
+        return LineRead::Refused(Refusal::LongPlan);
     }
     let read = read_body(kind, &line[BODY_AT..]);
     match read {
@@ -102,10 +101,7 @@ fn read_rest(head: Head, line: &[u8]) -> LineRead
                 trailing,
             })
         }
-        BodyRead::Spacing => LineRead::Spacing,
-        BodyRead::Field(place) => LineRead::Field(place),
-        BodyRead::Number(place) => LineRead::Number(place),
-        BodyRead::Two(place) => LineRead::Two(place),
+        BodyRead::Refused(fault) => LineRead::Refused(Refusal::Body(fault)),
     }
 }
 
@@ -116,21 +112,18 @@ pub fn read(line: &[u8]) -> LineRead
     ensures { λ r. ⌜ Case (now (line .entry)) (numberOf r) (placeOf r) ⌝ }
 {
     if line.len() < BODY_AT {
-        return LineRead::Short;
+        return LineRead::Refused(Refusal::Short);
     }
     if line.len() > LONGEST_LINE {
-        return LineRead::Long;
+        return LineRead::Refused(Refusal::Long);
     }
     if !sweeps::each_within(32, 126, line) {
-        return LineRead::Unprintable;
+        return LineRead::Refused(Refusal::Unprintable);
     }
     let head = read_head(line);
     match head {
         HeadRead::Read(head) => read_rest(head, line),
-        HeadRead::NoSequence => LineRead::NoSequence,
-        HeadRead::NoStamp => LineRead::NoStamp,
-        HeadRead::NoFacility => LineRead::NoFacility,
-        HeadRead::NoType => LineRead::NoType,
+        HeadRead::Refused(refusal) => LineRead::Refused(refusal),
     }
 }
 

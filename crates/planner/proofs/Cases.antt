@@ -4,18 +4,14 @@ use mathlib.Core.Path.{_≡_, refl, sym, ap, _∙_, subst}
 use mathlib.Core.Bool.{Bool, true, false, cond}
 use mathlib.Core.List.{List}
 use Prim.Native.Nat.{ℕ}
-use native.Mathlib.Omega.{arith}
 use Rattle.text.specs.Text.{packed}
 use Rattle.text.proofs.Logic.{true-false}
 use Rattle.forms.specs.Kind.{KEY, isForm}
 use Rattle.line.specs.Read.{readOf, numberOf, placeOf}
-use Rattle.line.specs.declared.LineRead.{LineRead}
-use Rattle.line.specs.declared.LineRead.the-variants as read
+use Rattle.line.specs.declared.Refusal.{Refusal}
+use Rattle.line.proofs.Theorems.{no-refusal}
 use Rattle.rows.specs.Rows.{keyOf, lookRow, written, fits, struck, isListed}
-use Rattle.fields.specs.declared.flight.Key.{Key}
 use Rattle.rows.specs.declared.Row.{Row}
-use Rattle.rows.specs.declared.Arrival.{Arrival}
-use Rattle.rows.specs.declared.Track.{Track}
 use Rattle.board.specs.Board.{rowsOf, wordsOf, isAllowed}
 use Rattle.rows.proofs.Twins.{written-full}
 use Rattle.rows.proofs.Boards.{struck-missing}
@@ -24,49 +20,13 @@ use Rattle.history.specs.Steps.{byDz, byAz, byTz, rowsAfter}
 use Rattle.asks.specs.Asked.{askedOf}
 use Rattle.asks.specs.declared.Asked.{Asked}
 use Rattle.asks.specs.declared.Asked.the-variants as asked
-use Rattle.asks.specs.declared.Refusal.{Refusal}
-use Rattle.asks.specs.declared.Refusal.the-variants as refusal
-use Rattle.asks.proofs.Answers.{asks-number}
+use Rattle.asks.proofs.Answers.{asks-read, asks-number}
 use Rattle.planner.specs.Apply.{lineEvent, strikeEvent, keyAsked, room, applyOf, boardAfter, strikeOf, boardStruck, lineNumber, linePlace, strikeNumber, strikePlace}
 use Rattle.planner.specs.Cases.{ApplyCase, Unread, NotAllowed, Full, Taken, StrikeCase, NoKey, StrikeNotAllowed, NotListed, Struck}
 use Rattle.planner.specs.declared.LineAnswer.{LineAnswer}
 use Rattle.planner.specs.declared.LineAnswer.the-variants as line
 use Rattle.planner.specs.declared.StrikeAnswer.{StrikeAnswer}
 use Rattle.planner.proofs.Ways.{stays}
-use Rattle.planner.proofs.Numbers.{refusal-number}
-
--- a line that is not refused is read
-read-zero : (s : List ℕ) → ((x : Refusal) → askedOf s ≡ asked.Refused x → ⊥) → numberOf (readOf s) ≡ 0
-unfolding askedOf
-read-zero s h = go (readOf s) refl
-  where
-    go : (r : LineRead) → readOf s ≡ r → numberOf (readOf s) ≡ 0
-    go (read.Read m) e = rw e
-    go read.Short e = absurd (h refusal.Short (rw e))
-    go read.Long e = absurd (h refusal.Long (rw e))
-    go read.Unprintable e = absurd (h refusal.Unprintable (rw e))
-    go read.NoSequence e = absurd (h refusal.NoSequence (rw e))
-    go read.NoStamp e = absurd (h refusal.NoStamp (rw e))
-    go read.NoFacility e = absurd (h refusal.NoFacility (rw e))
-    go read.NoType e = absurd (h refusal.NoType (rw e))
-    go read.Spacing e = absurd (h refusal.Spacing (rw e))
-    go (read.Field i) e = absurd (h (refusal.Field i) (rw e))
-    go (read.Number i) e = absurd (h (refusal.Number i) (rw e))
-    go read.LongPlan e = absurd (h refusal.LongPlan (rw e))
-    go (read.Two i) e = absurd (h (refusal.Two i) (rw e))
-
--- what asks something is no refusal
-other-refused : (y : Refusal) → asked.Other ≡ asked.Refused y → ⊥
-other-refused y e = let z : _≡_ {A = ℕ} 0 1 = cc in omega arith
-
-dz-refused : (k : Key) (a : Arrival) (y : Refusal) → asked.Dz k a ≡ asked.Refused y → ⊥
-dz-refused k a y e = let z : _≡_ {A = ℕ} 0 1 = cc in omega arith
-
-az-refused : (k : Key) (a : Arrival) (y : Refusal) → asked.Az k a ≡ asked.Refused y → ⊥
-az-refused k a y e = let z : _≡_ {A = ℕ} 0 1 = cc in omega arith
-
-tz-refused : (k : Key) (t : Track) (y : Refusal) → asked.Tz k t ≡ asked.Refused y → ⊥
-tz-refused k t y e = let z : _≡_ {A = ℕ} 0 1 = cc in omega arith
 
 -- the case of what `apply` gives
 abbrev Own : List ℕ → List ℕ → Type 0
@@ -77,7 +37,7 @@ module _ (l s : List ℕ) where
   unfolding applyOf
   refused-own x e =
       let n = asks-number s x e in
-      let c : ApplyCase l s (numberOf (readOf s)) (placeOf (readOf s)) l = Unread (λ z. refusal-number x (n .0 ∙ z)) in
+      let c : ApplyCase l s (numberOf (readOf s)) (placeOf (readOf s)) l = Unread (λ z. no-refusal x .0 (n .0 ∙ z)) in
       rw (e, ← (stays l s x e), n .0, n .1) c
 
   -- a line that asks the row r of the flight k to be written
@@ -109,16 +69,16 @@ module _ (l s : List ℕ) where
     where
       go : (x : Asked) → askedOf s ≡ x → Own l s
       go (asked.Refused x) e = refused-own x e
-      go asked.Other e = other-own e (read-zero s (λ y f. other-refused y (sym e ∙ f)))
+      go asked.Other e = other-own e (ap numberOf (asks-read s asked.Other e .1))
       go (asked.Dz k a) e =
           put-own (k .0) (byDz (k .0) a (lookRow (k .0) (rowsOf l))) refl (subst (λ (x : Asked). keyAsked x (k .0)) (sym e) refl)
-          (λ j a. subst (λ (x : Asked). keyAsked x j) e a) (read-zero s (λ y f. dz-refused k a y (sym e ∙ f))) (rw e) (rw e)
+          (λ j a. subst (λ (x : Asked). keyAsked x j) e a) (ap numberOf (asks-read s (asked.Dz k a) e .1)) (rw e) (rw e)
       go (asked.Az k a) e =
           put-own (k .0) (byAz (k .0) a (lookRow (k .0) (rowsOf l))) refl (subst (λ (x : Asked). keyAsked x (k .0)) (sym e) refl)
-          (λ j a. subst (λ (x : Asked). keyAsked x j) e a) (read-zero s (λ y f. az-refused k a y (sym e ∙ f))) (rw e) (rw e)
+          (λ j a. subst (λ (x : Asked). keyAsked x j) e a) (ap numberOf (asks-read s (asked.Az k a) e .1)) (rw e) (rw e)
       go (asked.Tz k a) e =
           put-own (k .0) (byTz (k .0) a (lookRow (k .0) (rowsOf l))) refl (subst (λ (x : Asked). keyAsked x (k .0)) (sym e) refl)
-          (λ j a. subst (λ (x : Asked). keyAsked x j) e a) (read-zero s (λ y f. tz-refused k a y (sym e ∙ f))) (rw e) (rw e)
+          (λ j a. subst (λ (x : Asked). keyAsked x j) e a) (ap numberOf (asks-read s (asked.Tz k a) e .1)) (rw e) (rw e)
 
 -- so a call that gives this is in its case
 pub in-apply-case : (l s : List ℕ) {r : LineAnswer} {l′ : List ℕ} → (r ≡ applyOf l s) × (l′ ≡ boardAfter l s)

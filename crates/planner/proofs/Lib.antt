@@ -1,5 +1,4 @@
 pub mod Ways
-pub mod Numbers
 pub mod Cases
 pub mod Theorems
 pub mod Unique

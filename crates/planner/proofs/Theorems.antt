@@ -17,7 +17,8 @@ use Rattle.history.specs.Steps.{Answer, Took, Refused, NoRoom, NotListed, rowsA
 use Rattle.history.specs.Promise.{Shows, Taken}
 use Rattle.history.proofs.Boards.{step-board}
 use Rattle.history.proofs.Demand.{demand3}
-use Rattle.asks.specs.Asked.{askedOf, refusalNumber}
+use Rattle.line.proofs.Theorems.{no-refusal}
+use Rattle.asks.specs.Asked.{askedOf}
 use Rattle.asks.specs.declared.Asked.{Asked}
 use Rattle.asks.specs.declared.Asked.the-variants as asked
 use Rattle.planner.specs.Apply.{lineEvent, strikeEvent, room, applyOf, boardAfter, strikeOf, boardStruck, lineNumber, strikeNumber}
@@ -29,7 +30,6 @@ use Rattle.planner.specs.declared.StrikeAnswer.the-variants as strike
 use Rattle.planner.proofs.apply.Reads as apply
 use Rattle.planner.proofs.strike.Reads as struck-off
 use Rattle.planner.proofs.Ways.{line-event}
-use Rattle.planner.proofs.Numbers.{no-refusal}
 
 -- ---- the runs are made of the promises in the source
 
@@ -137,14 +137,14 @@ listed-took e = let z : _≡_ {A = ℕ} 0 1 = cc in omega arith
 line-zero : (r : LineAnswer) → (lineNumber r ≡ 0) ↔ (heardLine r ≡ Took)
 unfolding heardLine
 line-zero line.Taken = (λ e. refl, λ e. refl)
-line-zero (line.Line x) = (λ e. absurd (no-refusal x (refusalNumber x) refl .0 e), λ e. absurd (refused-took e))
+line-zero (line.Line x) = (λ e. absurd (no-refusal x .0 e), λ e. absurd (refused-took e))
 line-zero line.NotAllowed = (λ e. absurd (omega arith), λ e. absurd (refused-took e))
 line-zero line.Full = (λ e. absurd (omega arith), λ e. absurd (room-took e))
 
 line-twelve : (r : LineAnswer) → (lineNumber r ≡ 12) ↔ (heardLine r ≡ NoRoom)
 unfolding heardLine
 line-twelve line.Taken = (λ e. absurd (omega arith), λ e. absurd (room-took (sym e)))
-line-twelve (line.Line x) = (λ e. absurd (no-refusal x (refusalNumber x) refl .1 e), λ e. absurd (refused-room e))
+line-twelve (line.Line x) = (λ e. absurd (no-refusal x .1 e), λ e. absurd (refused-room e))
 line-twelve line.NotAllowed = (λ e. absurd (omega arith), λ e. absurd (refused-room e))
 line-twelve line.Full = (λ e. refl, λ e. refl)
 

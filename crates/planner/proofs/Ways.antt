@@ -33,7 +33,7 @@ use Rattle.rows.proofs.Boards.{looked-arrival, looked-track, fair}
 use Rattle.asks.specs.Asked.{askedOf}
 use Rattle.asks.proofs.Allowed.{asks-dz, asks-az, asks-tz}
 use Rattle.asks.proofs.Asked.{the-type}
-use Rattle.asks.specs.declared.Refusal.{Refusal}
+use Rattle.line.specs.declared.Refusal.{Refusal}
 use Rattle.asks.specs.declared.Asked.{Asked}
 use Rattle.asks.specs.declared.Asked.the-variants as asked
 use Rattle.planner.specs.Apply.{eventOf, lineEvent, toldOf, room, Entered, applyOf, boardAfter, strikeEvent, strikeOf, boardStruck}

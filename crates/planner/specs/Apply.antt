@@ -13,7 +13,8 @@ use Rattle.board.specs.declared.Done.{Done}
 use Rattle.board.specs.declared.Done.the-variants as done
 use Rattle.history.specs.Events.{Event, dz, az, tz, other, unread, strike, misnamed}
 use Rattle.history.specs.Steps.{rowsAfter}
-use Rattle.asks.specs.Asked.{askedOf, refusalNumber, refusalPlace}
+use Rattle.line.specs.Read.{refusalNumber, refusalPlace}
+use Rattle.asks.specs.Asked.{askedOf}
 use Rattle.asks.specs.declared.Asked.{Asked}
 use Rattle.asks.specs.declared.Asked.the-variants as asked
 use Rattle.planner.specs.declared.LineAnswer.{LineAnswer}

@@ -1,11 +1,11 @@
 // A line or a strike on a board: what the ramp office's board does with what comes.
 use asks::Asked;
-use asks::Refusal;
 use board::Done;
 use board::Struck;
 use board::is_allowed;
 use fields::flight::Key;
 use fields::flight::KeyRead;
+use line::Refusal;
 use listing::look;
 use listing::write;
 use rows::Arrival;

@@ -3,10 +3,12 @@
 use libc::STDIN_FILENO;
 use libc::STDOUT_FILENO;
 use line::LineRead;
+use line::Refusal;
 use line::free;
 use line::read;
 use messages::Message;
 use messages::type_in;
+use table::Fault;
 use text::Written;
 use values::values_in;
 use writer::write;
@@ -81,22 +83,34 @@ fn show(m: Message, line: &[u8]) {
     }
 }
 
+fn show_fault(fault: Fault) {
+    match fault {
+        Fault::Spacing => refuse(8, 0),
+        Fault::Field(place) => refuse(9, place),
+        Fault::Number(place) => refuse(10, place),
+        Fault::Two(place) => refuse(18, place),
+    }
+}
+
+fn show_refusal(refusal: Refusal) {
+    match refusal {
+        Refusal::Short => refuse(1, 0),
+        Refusal::Long => refuse(2, 0),
+        Refusal::Unprintable => refuse(3, 0),
+        Refusal::NoSequence => refuse(4, 0),
+        Refusal::NoStamp => refuse(5, 0),
+        Refusal::NoFacility => refuse(6, 0),
+        Refusal::NoType => refuse(7, 0),
+        Refusal::LongPlan => refuse(11, 0),
+        Refusal::Body(fault) => show_fault(fault),
+    }
+}
+
 fn show_line(line: &[u8]) {
     let read = read(line);
     match read {
         LineRead::Read(m) => show(m, line),
-        LineRead::Short => refuse(1, 0),
-        LineRead::Long => refuse(2, 0),
-        LineRead::Unprintable => refuse(3, 0),
-        LineRead::NoSequence => refuse(4, 0),
-        LineRead::NoStamp => refuse(5, 0),
-        LineRead::NoFacility => refuse(6, 0),
-        LineRead::NoType => refuse(7, 0),
-        LineRead::Spacing => refuse(8, 0),
-        LineRead::Field(place) => refuse(9, place),
-        LineRead::Number(place) => refuse(10, place),
-        LineRead::LongPlan => refuse(11, 0),
-        LineRead::Two(place) => refuse(18, place),
+        LineRead::Refused(refusal) => show_refusal(refusal),
     }
 }
 

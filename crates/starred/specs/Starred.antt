@@ -19,7 +19,7 @@ use Rattle.aircraft.specs.declared.AircraftRead.the-variants as aircraft
 use Rattle.heads.specs.Facility.{facilityText}
 use Rattle.heads.specs.Message.{typeText}
 use Rattle.messages.specs.Body.{typeIn}
-use Rattle.line.specs.Read.{readOf, numberOf, freeOf}
+use Rattle.line.specs.Read.{readOf, refusalNumber, freeOf}
 use Rattle.line.specs.declared.LineRead.{LineRead}
 use Rattle.line.specs.declared.LineRead.the-variants as line
 use Rattle.meanings.specs.Meaning.{minutesOf}
@@ -57,18 +57,7 @@ pub data Answer : Type 0 where
 -- sequence number, stamp, facility and type of a line that is read, and its free text
 abbrev ofLine : LineRead → List ℕ → Answer
 ofLine (line.Read m) r = Parts (textOf (m .sequence .0) ∷ textOf (m .stamp .0) ∷ facilityText (m .facility .0) ∷ typeText (typeIn (m .body)) ∷ r ∷ [])
-ofLine line.Short r = Refused (numberOf line.Short)
-ofLine line.Long r = Refused (numberOf line.Long)
-ofLine line.Unprintable r = Refused (numberOf line.Unprintable)
-ofLine line.NoSequence r = Refused (numberOf line.NoSequence)
-ofLine line.NoStamp r = Refused (numberOf line.NoStamp)
-ofLine line.NoFacility r = Refused (numberOf line.NoFacility)
-ofLine line.NoType r = Refused (numberOf line.NoType)
-ofLine line.Spacing r = Refused (numberOf line.Spacing)
-ofLine (line.Field i) r = Refused (numberOf (line.Field i))
-ofLine (line.Number i) r = Refused (numberOf (line.Number i))
-ofLine line.LongPlan r = Refused (numberOf line.LongPlan)
-ofLine (line.Two i) r = Refused (numberOf (line.Two i))
+ofLine (line.Refused x) r = Refused (refusalNumber x)
 
 abbrev ofIdent : IdentRead → Answer
 ofIdent (ident.Read i) = Parts (textOf (i .key .0) ∷ textOf (i .number .0) ∷ [])

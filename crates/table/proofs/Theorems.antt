@@ -25,7 +25,9 @@ use Rattle.kinds.proofs.Laws.{in-sound, in-complete, in-visible}
 use Rattle.table.specs.Read.{valuesFrom, answerFrom, counted, answers, values, answerOf, valuesOf}
 use Rattle.table.specs.Show.{textsFrom, allowedFrom, marksFrom}
 use Rattle.table.specs.declared.Answer.{Answer}
-use Rattle.table.specs.declared.Answer.the-variants.{Taken, Spacing, Field, Number, Two}
+use Rattle.table.specs.declared.Answer.the-variants.{Taken, Refused}
+use Rattle.table.specs.declared.Fault.{Fault}
+use Rattle.table.specs.declared.Fault.the-variants.{Spacing}
 
 -- ---- what the theorems speak of
 
@@ -103,7 +105,7 @@ pub record Parted (ks body : List ℕ) (a : Answer) : Type 0 where
   pub answer : answerFrom 1 trailing ks 0 0 fields ≡ a
   pub values : valuesOf ks body ≡ valuesFrom ks 0 0 fields
 
-pub parted : (ks body : List ℕ) (a : Answer) → answerOf ks body ≡ a → (Spacing ≡ a → ⊥) → Parted ks body a
+pub parted : (ks body : List ℕ) (a : Answer) → answerOf ks body ≡ a → (Refused Spacing ≡ a → ⊥) → Parted ks body a
 unfolding answerOf valuesOf answers values
 parted ks body a e h = go (fieldsOf body) refl
   where
@@ -139,6 +141,10 @@ shows-more : (k : ℕ) (ks : List ℕ) (p m : ℕ) (r : List ℕ) (v : Value) (v
 unfolding allowedFrom textsFrom marksFrom
 shows-more k ks p m r v vs f fs n i g s h = record { allowed = rw (s, i, g, h .allowed); texts = rw (s, h .texts); marks = rw s (h .marks) }
 
+-- what is refused is not taken
+pub not-taken : {X : Type 0} (u : Bool) (n : ℕ) (x : Fault) → Refused x ≡ Taken u n → X
+not-taken u n x e = absurd (let z : _≡_ {A = ℕ} 0 1 = cc in omega arith)
+
 -- where all fields are read, the first is, and all others are
 pub taken-more : (i : ℕ) (t : Bool) (k : ℕ) (ks : List ℕ) (p m : ℕ) (f : List ℕ) (fs : List (List ℕ)) (u : Bool) (n : ℕ) → answerFrom i t (k ∷ ks) p m (f ∷ fs) ≡ Taken u n
     → (v : Value) × (readIn k p m f ≡ field.Read v) × (answerFrom (suc i) t ks (leftOf k f) (marksOf k m f) fs ≡ Taken u n)
@@ -147,9 +153,9 @@ taken-more i t k ks p m f fs u n e = go (readIn k p m f) refl
   where
     go : (a : FieldRead) → readIn k p m f ≡ a → (v : Value) × (readIn k p m f ≡ field.Read v) × (answerFrom (suc i) t ks (leftOf k f) (marksOf k m f) fs ≡ Taken u n)
     go (field.Read v) q = (v, q, rw q at e)
-    go field.Nothing q = let d : Field i ≡ Taken u n = rw q at e in absurd (let z : _≡_ {A = ℕ} 0 1 = cc in omega arith)
-    go field.Number q = let d : Number i ≡ Taken u n = rw q at e in absurd (let z : _≡_ {A = ℕ} 0 1 = cc in omega arith)
-    go field.Two q = let d : Two i ≡ Taken u n = rw q at e in absurd (let z : _≡_ {A = ℕ} 0 1 = cc in omega arith)
+    go field.Nothing q = not-taken u n _ (rw q at e)
+    go field.Number q = not-taken u n _ (rw q at e)
+    go field.Two q = not-taken u n _ (rw q at e)
 
 pub answer-taken : (i : ℕ) (t : Bool) (ks : List ℕ) (p m : ℕ) (fs : List (List ℕ)) (u : Bool) (n : ℕ) → length fs ≡ length ks → answerFrom i t ks p m fs ≡ Taken u n → (u ≡ t) × Reads ks p m fs n
 unfolding answerFrom valuesFrom allowedFrom textsFrom marksFrom allVisible
@@ -202,7 +208,7 @@ allowed-taken (k ∷ ks) p m r (v ∷ vs) e =
 -- 1. what is taken
 pub sound : (ks body : List ℕ) (t : Bool) (m : ℕ) → answerOf ks body ≡ Taken t m → Sound ks body t m
 sound ks body t m e =
-    let s = parted ks body (Taken t m) e (λ d. let z : _≡_ {A = ℕ} 0 1 = cc in omega arith) in
+    let s = parted ks body (Taken t m) e (not-taken t m Spacing) in
     let fs = s .fields in
     let x = answer-taken 1 (s .trailing) ks 0 0 fs t m (s .count) (s .answer) in
     let y = fields-text body fs (s .trailing) (s .split) in

@@ -24,7 +24,8 @@ use Rattle.kinds.specs.declared.FieldRead.the-variants as field
 use Rattle.kinds.proofs.FieldRead.{the-type}
 use Rattle.table.specs.Read.{none, padded, more, valuesFrom, faultAt, orElse, answerFrom, counted, answers, values, answerOf, valuesOf, Ready, routeIn, routeOf}
 use Rattle.table.specs.declared.Answer.{Answer}
-use Rattle.table.specs.declared.Answer.the-variants.{Taken, Spacing}
+use Rattle.table.specs.declared.Answer.the-variants.{Taken, Refused}
+use Rattle.table.specs.declared.Fault.the-variants.{Spacing}
 
 abbrev pub fieldsOn : List ℕ → List (List ℕ)
 fieldsOn body = fieldsIn (fieldsOf body)
@@ -77,11 +78,11 @@ module _ (k : ℕ) (ks : List ℕ) (p m : ℕ) (f : List ℕ) (fs : List (List �
   values-read e = rw e
 
   -- it is not read, of which the code tells only the variant's number: its fault is the answer
-  pub answer-stop : (x : FieldRead) → readIn k p m f ≡ x → OneOf (1 ∷ 2 ∷ 3 ∷ []) (tagOf the-type x) → (i : ℕ) (t : Bool) → faultAt i x ≡ answerFrom i t (k ∷ ks) p m (f ∷ fs)
+  pub answer-stop : (x : FieldRead) → readIn k p m f ≡ x → OneOf (1 ∷ 2 ∷ 3 ∷ []) (tagOf the-type x) → (i : ℕ) (t : Bool) → Refused (faultAt i x) ≡ answerFrom i t (k ∷ ks) p m (f ∷ fs)
   unfolding answerFrom
   answer-stop x e h i t = rw e (go x h (answerFrom (suc i) t ks (leftOf k f) (marksOf k m f) fs))
     where
-      go : (x : FieldRead) → OneOf (1 ∷ 2 ∷ 3 ∷ []) (tagOf the-type x) → (r : Answer) → faultAt i x ≡ orElse i x r
+      go : (x : FieldRead) → OneOf (1 ∷ 2 ∷ 3 ∷ []) (tagOf the-type x) → (r : Answer) → Refused (faultAt i x) ≡ orElse i x r
       go (field.Read v) h r = absurd (not-one h)
       go field.Nothing h r = refl
       go field.Number h r = refl
@@ -128,7 +129,7 @@ pub through : {A B : Type 0} {r a a′ : A} {s b b′ : B} → (r ≡ a) × (s �
 through p q = (p .0 ∙ q .0, p .1 ∙ q .1)
 
 module _ (ks body : List ℕ) where
-  pub read-wrong : countOf body ≡ counting.Wrong → (Spacing ≡ answerOf ks body) × (padded [] ≡ padded (valuesOf ks body))
+  pub read-wrong : countOf body ≡ counting.Wrong → (Refused Spacing ≡ answerOf ks body) × (padded [] ≡ padded (valuesOf ks body))
   unfolding answerOf answers valuesOf values
   read-wrong e = let w = count-wrong body e in (rw w, rw w)
 

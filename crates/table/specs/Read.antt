@@ -11,7 +11,9 @@ use Rattle.kinds.specs.declared.Value.{Value}
 use Rattle.kinds.specs.declared.FieldRead.{FieldRead}
 use Rattle.kinds.specs.declared.FieldRead.the-variants as field
 use Rattle.table.specs.declared.Answer.{Answer}
-use Rattle.table.specs.declared.Answer.the-variants.{Taken, Spacing, Field, Number, Two}
+use Rattle.table.specs.declared.Answer.the-variants.{Taken, Refused}
+use Rattle.table.specs.declared.Fault.{Fault}
+use Rattle.table.specs.declared.Fault.the-variants.{Spacing, Field, Number, Two}
 
 -- ---- the values
 
@@ -37,7 +39,7 @@ valuesFrom (k ∷ ks) p m (f ∷ fs) = more (readIn k p m f) (valuesFrom ks (lef
 -- ---- the answer
 
 -- what a field that is not read makes of the whole body; i is its place
-abbrev pub faultAt : ℕ → FieldRead → Answer
+abbrev pub faultAt : ℕ → FieldRead → Fault
 faultAt i field.Nothing = Field i
 faultAt i field.Number = Number i
 faultAt i field.Two = Two i
@@ -45,9 +47,9 @@ faultAt i (field.Read v) = Spacing
 
 abbrev pub orElse : ℕ → FieldRead → Answer → Answer
 orElse i (field.Read v) rest = rest
-orElse i field.Nothing rest = Field i
-orElse i field.Number rest = Number i
-orElse i field.Two rest = Two i
+orElse i field.Nothing rest = Refused (Field i)
+orElse i field.Number rest = Refused (Number i)
+orElse i field.Two rest = Refused (Two i)
 
 -- "then fields from the left": the first field that is not read; else taken, with the marks that are set in the end
 unfoldable pub answerFrom : ℕ → Bool → List ℕ → ℕ → ℕ → List (List ℕ) → Answer
@@ -60,8 +62,8 @@ unfoldable pub counted : List ℕ → List (List ℕ) → Bool
 counted ks fs = eqb (length fs) (length ks) && leb (length ks) 19
 
 unfoldable pub answers : List ℕ → Split → Answer
-answers ks Wrong = Spacing
-answers ks (Fields fs t) = cond (counted ks fs) (answerFrom 1 t ks 0 0 fs) Spacing
+answers ks Wrong = Refused Spacing
+answers ks (Fields fs t) = cond (counted ks fs) (answerFrom 1 t ks 0 0 fs) (Refused Spacing)
 
 unfoldable pub values : List ℕ → Split → List Value
 values ks Wrong = []

@@ -6,16 +6,22 @@ use spacing::Counted;
 ghost use mathlib.Core.Path.{_≡_};
 ghost use mathlib.Core.List.{[]};
 ghost use Rattle.table.specs.Read.{Ready, padded, faultAt, answerOf, valuesOf, routeOf};
-ghost use Rattle.table.specs.declared.Answer.the-variants.{Spacing};
+ghost use Rattle.table.specs.declared.Answer.the-variants.{Refused};
+ghost use Rattle.table.specs.declared.Fault.the-variants.{Spacing};
 
-// A body that is taken, whether a space stands at its end, and the marks of its amendments; or its spacing or its count of
-// fields is wrong (answer 8); or the place of the first field that is at fault (9, 10, 18).
-pub enum Answer {
-    Taken(bool, u8),
+// What is wrong with a body: its spacing or its count of fields (answer 8), or the first field that is at fault, with its
+// place (9, 10, 18).
+pub enum Fault {
     Spacing,
     Field(usize),
     Number(usize),
     Two(usize),
+}
+
+// A body that is taken, whether a space stands at its end, and the marks of its amendments; or its fault.
+pub enum Answer {
+    Taken(bool, u8),
+    Refused(Fault),
 }
 
 // The answer, and the values of the fields that were read; after these only zeros.
@@ -25,24 +31,24 @@ pub struct TableRead {
 }
 
 // What a field that is not read makes of the whole body.
-fn fault(read: FieldRead, place: usize) -> Answer
+fn as_fault(read: FieldRead, place: usize) -> Fault
     ensures { λ r. ⌜ r ≡ faultAt place read ⌝ }
 {
     match read {
-        FieldRead::Nothing => Answer::Field(place),
-        FieldRead::Number => Answer::Number(place),
-        FieldRead::Two => Answer::Two(place),
-        FieldRead::Read(_) => Answer::Spacing,
+        FieldRead::Nothing => Fault::Field(place),
+        FieldRead::Number => Fault::Number(place),
+        FieldRead::Two => Fault::Two(place),
+        FieldRead::Read(_) => Fault::Spacing,
     }
 }
 
 // The spacing or the count is wrong.
 pub fn refused() -> TableRead
-    ensures { λ r. ⌜ r .answer ≡ Spacing ⌝ }
+    ensures { λ r. ⌜ r .answer ≡ Refused Spacing ⌝ }
     ensures { λ r. ⌜ r .values ≡ padded [] ⌝ }
 {
     TableRead {
-        answer: Answer::Spacing,
+        answer: Answer::Refused(Fault::Spacing),
         values: [Value { a: 0, b: 0, c: 0 }; 19],
     }
 }
@@ -65,7 +71,7 @@ pub fn read(kinds: &[u8], body: &[u8], trailing: bool) -> TableRead
         let read = reading::read_field(kind, left, marks, &body[j..e]);
         let FieldRead::Read(value) = read else {
             return TableRead {
-                answer: fault(read, k + 1),
+                answer: Answer::Refused(as_fault(read, k + 1)),
                 values,
             };
         };

@@ -27,31 +27,10 @@ returns-4 c =
 
 returns-5 : tie.Need-returns-5
 returns-5 c =
-    let h = c .before .before in
+    let h = c .before .before .before in
     let i = h .before in
     let w = i .before in
-    told _ (line-head _ (w .before .before .if1 .left) (w .before .if2 .left) (sym (w .each-within .ensures) ∙ not-false _ (i .if3 .left)) (sym (h .read-head .ensures) ∙ c .enum-told .given .1))
-
-returns-6 : tie.Need-returns-6
-returns-6 c =
-    let h = c .before .before in
-    let i = h .before in
-    let w = i .before in
-    told _ (line-head _ (w .before .before .if1 .left) (w .before .if2 .left) (sym (w .each-within .ensures) ∙ not-false _ (i .if3 .left)) (sym (h .read-head .ensures) ∙ c .enum-told2 .given .1))
-
-returns-7 : tie.Need-returns-7
-returns-7 c =
-    let h = c .before .before in
-    let i = h .before in
-    let w = i .before in
-    told _ (line-head _ (w .before .before .if1 .left) (w .before .if2 .left) (sym (w .each-within .ensures) ∙ not-false _ (i .if3 .left)) (sym (h .read-head .ensures) ∙ c .enum-told3 .given .1))
-
-returns-8 : tie.Need-returns-8
-returns-8 c =
-    let h = c .before .before in
-    let i = h .before in
-    let w = i .before in
-    told _ (line-head _ (w .before .before .if1 .left) (w .before .if2 .left) (sym (w .each-within .ensures) ∙ not-false _ (i .if3 .left)) (sym (h .read-head .ensures) ∙ c .enum-told4 .given .1))
+    told _ (line-head _ (w .before .before .if1 .left) (w .before .if2 .left) (sym (w .each-within .ensures) ∙ not-false _ (i .if3 .left)) (sym (h .read-head .ensures) ∙ c .before .head2 .given .1))
 
 pub read-spec : {M : Type 1} → statement M
 read-spec =
@@ -65,11 +44,5 @@ read-spec =
     (λ c. search needs)
     (λ c κs. search needs)
     (λ c. search needs)
-    (λ c. search needs)
-    (λ c. search needs)
-    (λ c. search needs)
     returns-4
-    returns-5
-    returns-6
-    returns-7
-    returns-8)
+    returns-5)

@@ -17,27 +17,9 @@ returns-2 c =
 
 returns-3 : tie.Need-returns-3
 returns-3 c =
-    let b = c .before .before in
-    let i = b .before .before in
-    rest-body _ _ (sym (i .before .is-long-plan .ensures) ∙ i .if1 .left) (sym (b .read-body .ensures) ∙ c .enum-told .given .1)
-
-returns-4 : tie.Need-returns-4
-returns-4 c =
     let b = c .before .before .before in
     let i = b .before .before in
     rest-body _ _ (sym (i .before .is-long-plan .ensures) ∙ i .if1 .left) (sym (b .read-body .ensures) ∙ c .before .read2 .given .1)
-
-returns-5 : tie.Need-returns-5
-returns-5 c =
-    let b = c .before .before .before in
-    let i = b .before .before in
-    rest-body _ _ (sym (i .before .is-long-plan .ensures) ∙ i .if1 .left) (sym (b .read-body .ensures) ∙ c .before .read3 .given .1)
-
-returns-6 : tie.Need-returns-6
-returns-6 c =
-    let b = c .before .before .before in
-    let i = b .before .before in
-    rest-body _ _ (sym (i .before .is-long-plan .ensures) ∙ i .if1 .left) (sym (b .read-body .ensures) ∙ c .before .read4 .given .1)
 
 pub read-rest-spec : {M : Type 1} → statement M
 read-rest-spec =
@@ -51,11 +33,5 @@ read-rest-spec =
     (λ c κs. search needs)
     (λ c. search needs)
     (λ c. search needs)
-    (λ c. search needs)
-    (λ c. search needs)
-    (λ c. search needs)
     returns-2
-    returns-3
-    returns-4
-    returns-5
-    returns-6)
+    returns-3)

@@ -22,7 +22,8 @@ use Rattle.kinds.specs.declared.FieldRead.the-variants as field
 use Rattle.kinds.proofs.FieldRead.{the-type}
 use Rattle.table.specs.Read.{none, padded, valuesFrom, faultAt, answerFrom, answerOf, valuesOf, Ready}
 use Rattle.table.specs.declared.Answer.{Answer}
-use Rattle.table.specs.declared.Answer.the-variants.{Taken}
+use Rattle.table.specs.declared.Answer.the-variants.{Taken, Refused}
+use Rattle.table.specs.declared.Fault.{Fault}
 use Rattle.table.proofs.Ways.{fieldsOn, At, at-start, fields, goes, inside, at-next, answer-done, values-done, answer-read, values-read, answer-stop, values-stop, values-few, sets-padded, read-ready}
 use Rattle.table.proofs.read.Statement.{statement}
 use Rattle.table.proofs.read.Tie as tie
@@ -70,14 +71,14 @@ module _ {ks body : List ℕ} {t : Bool} {values : List Value} {at k p m : ℕ} 
       is-read : readIn (getD ks k 0) p m (getD (fieldsOn body) k []) ≡ x
       is-read = rw is-field at (sym reads)
 
-      stops : (r : Answer) → OneOf (1 ∷ 2 ∷ 3 ∷ []) (tagOf the-type x) → r ≡ faultAt (k + 1) x → Filled ks body t r values
+      stops : (r : Fault) → OneOf (1 ∷ 2 ∷ 3 ∷ []) (tagOf the-type x) → r ≡ faultAt (k + 1) x → Filled ks body t (Refused r) values
       stops r h g =
           let f = getD (fieldsOn body) k [] in
           let s = values-stop (getD ks k 0) (drop (k + 1) ks) p m f (drop (k + 1) (fieldsOn body)) x is-read h in
           let a = answer-stop (getD ks k 0) (drop (k + 1) ks) p m f (drop (k + 1) (fieldsOn body)) x is-read h (k + 1) t in
           let w : valuesFrom (drop k ks) p m (drop k (fieldsOn body)) ≡ [] = rw (next-byte ks k, fields (v .walk) field-left) s in
-          let z : faultAt (k + 1) x ≡ answerFrom (k + 1) t (drop k ks) p m (drop k (fieldsOn body)) = rw (next-byte ks k, fields (v .walk) field-left) a in
-          (g ∙ z ∙ v .told, rw w at (v .made))
+          let z : Refused (faultAt (k + 1) x) ≡ answerFrom (k + 1) t (drop k ks) p m (drop k (fieldsOn body)) = rw (next-byte ks k, fields (v .walk) field-left) a in
+          (ap Refused g ∙ z ∙ v .told, rw w at (v .made))
 
       again : (y : Value) (p′ m′ : ℕ) → x ≡ field.Read y
           → p′ ≡ leftOf (getD ks k 0) (take (e - (at + 1)) (drop (at + 1) body)) → m′ ≡ marksOf (getD ks k 0) m (take (e - (at + 1)) (drop (at + 1) body))
@@ -132,7 +133,7 @@ returns : tie.Need-returns Inv-loop μ-loop
 returns c =
     let r = c .before .before in
     let f = r .before .before .before in
-    stops (f .before .before .loop .inv) (f .before .loop-test .taken) (f .field-end .result) (f .field-end .ensures) (r .read-field .result) (r .read-field .ensures) (c .fault .result) (c .before .match .keys2) (c .fault .ensures)
+    stops (f .before .before .loop .inv) (f .before .loop-test .taken) (f .field-end .result) (f .field-end .ensures) (r .read-field .result) (r .read-field .ensures) (c .as-fault .result) (c .before .match .keys2) (c .as-fault .ensures)
 
 sub-marks-after : tie.Need-sub-marks-after Inv-loop μ-loop
 sub-marks-after c = omega (arith, starts (c .before .before .before .before .before .before))

@@ -1,7 +1,7 @@
--- `table::fault` meets its contract. Assumes nothing.
+-- `table::as_fault` meets its contract. Assumes nothing.
 use borrow.Author.Needs.{needs}
-use Rattle.table.proofs.fault.Statement.{statement}
-use Rattle.table.proofs.fault.Tie as tie
+use Rattle.table.proofs.as_fault.Statement.{statement}
+use Rattle.table.proofs.as_fault.Tie as tie
 
 returns : tie.Need-returns
 returns c = rw (c .enum-told .given .1)
@@ -12,8 +12,8 @@ returns-2 c = rw (c .enum-told2 .given .1)
 returns-3 : tie.Need-returns-3
 returns-3 c = rw (c .enum-told3 .given .1)
 
-pub fault-spec : {M : Type 1} → statement M
-fault-spec =
+pub as-fault-spec : {M : Type 1} → statement M
+as-fault-spec =
     tie.close
     (tie.spec
     (λ c. search needs)
