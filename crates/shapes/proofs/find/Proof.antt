@@ -30,37 +30,14 @@ Inv-loop b s i₀ i = Inv s b i
 abbrev μ-loop : tie.MeasureT-loop
 μ-loop b s i₀ i = length s - i
 
-loop-holds : tie.Need-loop-holds Inv-loop μ-loop
-loop-holds c = record { at = omega arith; rest = omega arith }
-
-shared-slice-read-if1 : tie.Need-shared-slice-read-if1 Inv-loop μ-loop
-shared-slice-read-if1 c = omega arith
-
-returns : tie.Need-returns Inv-loop μ-loop
-returns c = here (c .before .before .before .loop .inv) (c .before .before .loop-test .taken) (c .if1 .taken)
-
-add-i : tie.Need-add-i Inv-loop μ-loop
-add-i c = omega arith
-
-loop-less : tie.Need-loop-less Inv-loop μ-loop
-loop-less c = omega arith
-
-loop-again : tie.Need-loop-again Inv-loop μ-loop
-loop-again c = again (c .before .before .before .loop .inv) (c .before .before .loop-test .taken) (c .if1 .left)
-
-returns-2 : tie.Need-returns-2 Inv-loop μ-loop
-returns-2 c = done (c .before .loop .inv) (c .loop-test .left)
-
 pub find-spec : {M : Type 1} → statement M
 find-spec =
     tie.close
     (tie.spec
-    Inv-loop
-    μ-loop
-    loop-holds
-    shared-slice-read-if1
-    returns
-    add-i
-    loop-less
-    loop-again
-    returns-2)
+    Inv-loop μ-loop
+    (λ c. record { at = omega arith; rest = omega arith })
+    (λ c. omega arith)
+    (λ c. here (c .before .before .before .loop .inv) (c .before .before .loop-test .taken) (c .if1 .taken))
+    (λ c. omega arith) (λ c. omega arith)
+    (λ c. again (c .before .before .before .loop .inv) (c .before .before .loop-test .taken) (c .if1 .left))
+    (λ c. done (c .before .loop .inv) (c .loop-test .left)))

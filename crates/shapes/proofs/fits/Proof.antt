@@ -43,55 +43,20 @@ Inv-loop picture s i₀ i = Inv picture s i
 abbrev μ-loop : tie.MeasureT-loop
 μ-loop picture s i₀ i = length s - i
 
-returns : tie.Need-returns Inv-loop μ-loop
-returns c = sym (fits-apart _ _ (c .if1 .taken))
-
-loop-holds : tie.Need-loop-holds Inv-loop μ-loop
-loop-holds c = record { same = c .if1 .left; at = omega arith; rest = refl }
-
-shared-slice-read-is-of : tie.Need-shared-slice-read-is-of Inv-loop μ-loop
-shared-slice-read-is-of c = omega (arith, c .before .before .loop .inv .same)
-
-shared-slice-read-is-of-2 : tie.Need-shared-slice-read-is-of-2 Inv-loop μ-loop
-shared-slice-read-is-of-2 c = omega arith
-
-is-of-requires : tie.Need-is-of-requires Inv-loop μ-loop
-is-of-requires c κs = tt
-
-returns-2 : tie.Need-returns-2 Inv-loop μ-loop
-returns-2 c =
-    let c₄ = c .before .before .before .before in
-    let c₅ = c₄ .before in
-    bad (c₅ .loop .inv) (c₄ .loop-test .taken) (not-so (c .before .is-of .ensures) (c .if2 .taken))
-
-add-i : tie.Need-add-i Inv-loop μ-loop
-add-i c = omega arith
-
-loop-less : tie.Need-loop-less Inv-loop μ-loop
-loop-less c = omega arith
-
-loop-again : tie.Need-loop-again Inv-loop μ-loop
-loop-again c =
-    let c₄ = c .before .before .before .before in
-    let c₅ = c₄ .before in
-    again (c₅ .loop .inv) (c₄ .loop-test .taken) (so (c .before .is-of .ensures) (c .if2 .left))
-
-returns-3 : tie.Need-returns-3 Inv-loop μ-loop
-returns-3 c = done (c .before .loop .inv) (c .loop-test .left)
-
 pub fits-spec : {M : Type 1} → statement M
 fits-spec =
     tie.close
     (tie.spec
-    Inv-loop
-    μ-loop
-    returns
-    loop-holds
-    shared-slice-read-is-of
-    shared-slice-read-is-of-2
-    is-of-requires
-    returns-2
-    add-i
-    loop-less
-    loop-again
-    returns-3)
+    Inv-loop μ-loop
+    (λ c. sym (fits-apart _ _ (c .if1 .taken)))
+    (λ c. record { same = c .if1 .left; at = omega arith; rest = refl })
+    (λ c. omega (arith, c .before .before .loop .inv .same))
+    (λ c. omega arith) (λ c κs. tt)
+    (λ c. let c₄ = c .before .before .before .before in
+    let c₅ = c₄ .before in
+    bad (c₅ .loop .inv) (c₄ .loop-test .taken) (not-so (c .before .is-of .ensures) (c .if2 .taken)))
+    (λ c. omega arith) (λ c. omega arith)
+    (λ c. let c₄ = c .before .before .before .before in
+    let c₅ = c₄ .before in
+    again (c₅ .loop .inv) (c₄ .loop-test .taken) (so (c .before .is-of .ensures) (c .if2 .left)))
+    (λ c. done (c .before .loop .inv) (c .loop-test .left)))

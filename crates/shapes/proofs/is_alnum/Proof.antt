@@ -5,19 +5,11 @@ use borrow.Author.Needs.{needs}
 use Rattle.shapes.proofs.is_alnum.Statement.{statement}
 use Rattle.shapes.proofs.is_alnum.Tie as tie
 
-returns : tie.Need-returns
-unfolding isAlnum isDigit isLetter
-returns c = c .if1 .taken ∙ rw (sym (c .before .between .ensures) ∙ c .if1 .taken)
-
-returns-2 : tie.Need-returns-2
-unfolding isAlnum isDigit isLetter
-returns-2 c = c .between2 .ensures ∙ rw (sym (c .before .before .between .ensures) ∙ c .before .if1 .left)
-
 pub is-alnum-spec : {M : Type 1} → statement M
+unfolding isAlnum isDigit isLetter
 is-alnum-spec =
     tie.close
     (tie.spec
-    (λ c κs. search needs)
-    (λ c κs. search needs)
-    returns
-    returns-2)
+    (λ c κs. search needs) (λ c κs. search needs)
+    (λ c. c .if1 .taken ∙ rw (sym (c .before .between .ensures) ∙ c .if1 .taken))
+    (λ c. c .between2 .ensures ∙ rw (sym (c .before .before .between .ensures) ∙ c .before .if1 .left)))

@@ -71,85 +71,31 @@ Inv-loop pictures s from₀ from = Inv pictures s from
 abbrev μ-loop : tie.MeasureT-loop
 μ-loop pictures s from₀ from = length pictures + 1 - from
 
-loop-holds : tie.Need-loop-holds Inv-loop μ-loop
-loop-holds c = record { at = omega arith; rest = λ h. refl; none = λ h. absurd (omega arith) }
-
-sub-find : tie.Need-sub-find Inv-loop μ-loop
-sub-find c = omega arith
-
-part-find-start : tie.Need-part-find-start Inv-loop μ-loop
-part-find-start c = omega arith
-
-part-find-end : tie.Need-part-find-end Inv-loop μ-loop
-part-find-end c = omega arith
-
-find-requires : tie.Need-find-requires Inv-loop μ-loop
-find-requires c κs = tt
-
-add-end : tie.Need-add-end Inv-loop μ-loop
-add-end c = omega (arith, inside (c .before .before .before .loop .inv) (c .before .before .loop-test .taken) (c .find .result) (c .find .ensures))
-
-sub-fits : tie.Need-sub-fits Inv-loop μ-loop
-sub-fits c = omega arith
-
-part-fits-start : tie.Need-part-fits-start Inv-loop μ-loop
-part-fits-start c = omega arith
-
-part-fits-end : tie.Need-part-fits-end Inv-loop μ-loop
-part-fits-end c = omega (arith, inside (c .before .before .before .loop .inv) (c .before .before .loop-test .taken) (c .find .result) (c .find .ensures))
-
-fits-requires : tie.Need-fits-requires Inv-loop μ-loop
-fits-requires c κs = tt
-
-returns : tie.Need-returns Inv-loop μ-loop
-returns c =
-    let c₃ = c .before .before .before in
-    let c₅ = c₃ .before .before in
-    let c₆ = c₅ .before in
-    found (c₆ .loop .inv) (c₅ .loop-test .taken) (c₃ .find .result) (c₃ .find .ensures) (c .before .fits2 .result) (c .before .fits2 .ensures) (c .if1 .taken)
-
-add-from : tie.Need-add-from Inv-loop μ-loop
-add-from c =
-    let c₃ = c .before .before .before in
-    let c₅ = c₃ .before .before in
-    let c₆ = c₅ .before in
-    omega (arith, inside (c₆ .loop .inv) (c₅ .loop-test .taken) (c₃ .find .result) (c₃ .find .ensures))
-
-loop-less : tie.Need-loop-less Inv-loop μ-loop
-loop-less c =
-    let c₃ = c .before .before .before in
-    let c₅ = c₃ .before .before in
-    let c₆ = c₅ .before in
-    omega (arith, inside (c₆ .loop .inv) (c₅ .loop-test .taken) (c₃ .find .result) (c₃ .find .ensures))
-
-loop-again : tie.Need-loop-again Inv-loop μ-loop
-loop-again c =
-    let c₃ = c .before .before .before in
-    let c₅ = c₃ .before .before in
-    let c₆ = c₅ .before in
-    again (c₆ .loop .inv) (c₅ .loop-test .taken) (c₃ .find .result) (c₃ .find .ensures) (c .before .fits2 .result) (c .before .fits2 .ensures) (c .if1 .left)
-
-returns-2 : tie.Need-returns-2 Inv-loop μ-loop
-returns-2 c = sym (c .before .loop .inv .none (c .loop-test .left))
-
 pub one-of-spec : {M : Type 1} → statement M
 one-of-spec =
     tie.close
     (tie.spec
-    Inv-loop
-    μ-loop
-    loop-holds
-    sub-find
-    part-find-start
-    part-find-end
-    find-requires
-    add-end
-    sub-fits
-    part-fits-start
-    part-fits-end
-    fits-requires
-    returns
-    add-from
-    loop-less
-    loop-again
-    returns-2)
+    Inv-loop μ-loop
+    (λ c. record { at = omega arith; rest = λ h. refl; none = λ h. absurd (omega arith) })
+    (λ c. omega arith) (λ c. omega arith) (λ c. omega arith) (λ c κs. tt)
+    (λ c. omega (arith, inside (c .before .before .before .loop .inv) (c .before .before .loop-test .taken) (c .find .result) (c .find .ensures)))
+    (λ c. omega arith) (λ c. omega arith)
+    (λ c. omega (arith, inside (c .before .before .before .loop .inv) (c .before .before .loop-test .taken) (c .find .result) (c .find .ensures)))
+    (λ c κs. tt)
+    (λ c. let c₃ = c .before .before .before in
+    let c₅ = c₃ .before .before in
+    let c₆ = c₅ .before in
+    found (c₆ .loop .inv) (c₅ .loop-test .taken) (c₃ .find .result) (c₃ .find .ensures) (c .before .fits2 .result) (c .before .fits2 .ensures) (c .if1 .taken))
+    (λ c. let c₃ = c .before .before .before in
+    let c₅ = c₃ .before .before in
+    let c₆ = c₅ .before in
+    omega (arith, inside (c₆ .loop .inv) (c₅ .loop-test .taken) (c₃ .find .result) (c₃ .find .ensures)))
+    (λ c. let c₃ = c .before .before .before in
+    let c₅ = c₃ .before .before in
+    let c₆ = c₅ .before in
+    omega (arith, inside (c₆ .loop .inv) (c₅ .loop-test .taken) (c₃ .find .result) (c₃ .find .ensures)))
+    (λ c. let c₃ = c .before .before .before in
+    let c₅ = c₃ .before .before in
+    let c₆ = c₅ .before in
+    again (c₆ .loop .inv) (c₅ .loop-test .taken) (c₃ .find .result) (c₃ .find .ensures) (c .before .fits2 .result) (c .before .fits2 .ensures) (c .if1 .left))
+    (λ c. sym (c .before .loop .inv .none (c .loop-test .left))))

@@ -3,15 +3,5 @@ use borrow.Author.Tests.{eq-eqb, ne-eqb}
 use Rattle.shapes.proofs.one_of_two.Statement.{statement}
 use Rattle.shapes.proofs.one_of_two.Tie as tie
 
-returns : tie.Need-returns
-returns c = rw (eq-eqb _ _ (c .if1 .taken))
-
-returns-2 : tie.Need-returns-2
-returns-2 c = rw (ne-eqb _ _ (c .if1 .left))
-
 pub one-of-two-spec : {M : Type 1} → statement M
-one-of-two-spec =
-    tie.close
-    (tie.spec
-    returns
-    returns-2)
+one-of-two-spec = tie.close (tie.spec (λ c. rw (eq-eqb _ _ (c .if1 .taken))) (λ c. rw (ne-eqb _ _ (c .if1 .left))))

@@ -42,57 +42,21 @@ Inv-loop k least most s i₀ i = Inv k least most s i
 abbrev μ-loop : tie.MeasureT-loop
 μ-loop k least most s i₀ i = length s - i
 
-returns : tie.Need-returns Inv-loop μ-loop
-unfolding running
-returns c = rw (lt-leb _ _ (c .if1 .taken))
-
-returns-2 : tie.Need-returns-2 Inv-loop μ-loop
-unfolding running
-returns-2 c = rw (le-leb _ _ (c .before .if1 .left), lt-leb _ _ (c .if2 .taken))
-
-loop-holds : tie.Need-loop-holds Inv-loop μ-loop
-loop-holds c = record { long = c .before .if1 .left; short = c .if2 .left; at = omega arith; rest = refl }
-
-shared-slice-read-is-of : tie.Need-shared-slice-read-is-of Inv-loop μ-loop
-shared-slice-read-is-of c = omega arith
-
-is-of-requires : tie.Need-is-of-requires Inv-loop μ-loop
-is-of-requires c κs = tt
-
-returns-3 : tie.Need-returns-3 Inv-loop μ-loop
-returns-3 c =
-    let c₃ = c .before .before .before in
-    let c₄ = c₃ .before in
-    bad (c₄ .loop .inv) (c₃ .loop-test .taken) (not-so (c .before .is-of .ensures) (c .if3 .taken))
-
-add-i : tie.Need-add-i Inv-loop μ-loop
-add-i c = omega arith
-
-loop-less : tie.Need-loop-less Inv-loop μ-loop
-loop-less c = omega arith
-
-loop-again : tie.Need-loop-again Inv-loop μ-loop
-loop-again c =
-    let c₃ = c .before .before .before in
-    let c₄ = c₃ .before in
-    again (c₄ .loop .inv) (c₃ .loop-test .taken) (so (c .before .is-of .ensures) (c .if3 .left))
-
-returns-4 : tie.Need-returns-4 Inv-loop μ-loop
-returns-4 c = done (c .before .loop .inv) (c .loop-test .left)
-
 pub run-spec : {M : Type 1} → statement M
+unfolding running
 run-spec =
     tie.close
     (tie.spec
-    Inv-loop
-    μ-loop
-    returns
-    returns-2
-    loop-holds
-    shared-slice-read-is-of
-    is-of-requires
-    returns-3
-    add-i
-    loop-less
-    loop-again
-    returns-4)
+    Inv-loop μ-loop
+    (λ c. rw (lt-leb _ _ (c .if1 .taken)))
+    (λ c. rw (le-leb _ _ (c .before .if1 .left), lt-leb _ _ (c .if2 .taken)))
+    (λ c. record { long = c .before .if1 .left; short = c .if2 .left; at = omega arith; rest = refl })
+    (λ c. omega arith) (λ c κs. tt)
+    (λ c. let c₃ = c .before .before .before in
+    let c₄ = c₃ .before in
+    bad (c₄ .loop .inv) (c₃ .loop-test .taken) (not-so (c .before .is-of .ensures) (c .if3 .taken)))
+    (λ c. omega arith) (λ c. omega arith)
+    (λ c. let c₃ = c .before .before .before in
+    let c₄ = c₃ .before in
+    again (c₄ .loop .inv) (c₃ .loop-test .taken) (so (c .before .is-of .ensures) (c .if3 .left)))
+    (λ c. done (c .before .loop .inv) (c .loop-test .left)))
