@@ -15,50 +15,16 @@ Inv-loop board p i₀ i = (i ≤ length board) × (allZero (drop p board) ≡ al
 abbrev μ-loop : tie.MeasureT-loop
 μ-loop board p i₀ i = length board - i
 
-loop-holds : tie.Need-loop-holds Inv-loop μ-loop
-loop-holds c = (search needs, refl)
-
-mul-if1 : tie.Need-mul-if1 Inv-loop μ-loop
-mul-if1 c = search needs
-
-shared-slice-read-if1 : tie.Need-shared-slice-read-if1 Inv-loop μ-loop
-shared-slice-read-if1 c = search needs
-
-returns : tie.Need-returns Inv-loop μ-loop
-returns c =
-    let a = c .before .before .before .before .args in
-    let o = c .before .before .before .loop in
-    sym (o .inv .1 ∙ zero-not (a .board .now) (o .i) (omega arith) (c .if1 .taken))
-
-add-i : tie.Need-add-i Inv-loop μ-loop
-add-i c = search needs
-
-loop-less : tie.Need-loop-less Inv-loop μ-loop
-loop-less c = search needs
-
-loop-again : tie.Need-loop-again Inv-loop μ-loop
-loop-again c =
-    let a = c .before .before .before .before .args in
-    let o = c .before .before .before .loop in
-    (omega arith, o .inv .1 ∙ zero-more (a .board .now) (o .i) (omega arith) (c .if1 .left))
-
-returns-2 : tie.Need-returns-2 Inv-loop μ-loop
-returns-2 c =
-    let a = c .before .before .args in
-    let o = c .before .loop in
-    sym (o .inv .1 ∙ zero-end (a .board .now) (o .i) (omega arith))
-
 pub all-zero-spec : {M : Type 1} → statement M
 all-zero-spec =
     tie.close
     (tie.spec
-    Inv-loop
-    μ-loop
-    loop-holds
-    mul-if1
-    shared-slice-read-if1
-    returns
-    add-i
-    loop-less
-    loop-again
-    returns-2)
+    Inv-loop μ-loop (λ c. (search needs, refl)) (λ c. search needs) (λ c. search needs)
+    (λ c. let a = c .before .before .before .before .args in
+    let o = c .before .before .before .loop in
+    sym (o .inv .1 ∙ zero-not (a .board .now) (o .i) (omega arith) (c .if1 .taken)))
+    (λ c. search needs) (λ c. search needs)
+    (λ c. let a = c .before .before .before .before .args in
+    let o = c .before .before .before .loop in
+    (omega arith, o .inv .1 ∙ zero-more (a .board .now) (o .i) (omega arith) (c .if1 .left)))
+    (λ c. let a = c .before .before .args in let o = c .before .loop in sym (o .inv .1 ∙ zero-end (a .board .now) (o .i) (omega arith))))

@@ -5,25 +5,24 @@ use Rattle.desks.proofs.Fills.{fills-nothing, fills-none, fills-all, in
 use Rattle.desks.proofs.fill.Statement.{statement}
 use Rattle.desks.proofs.fill.Tie as tie
 
-returns : tie.Need-returns
-returns c =
-    let p = c .before .before .before in
+pub fill-spec : {M : Type 1} → statement M
+fill-spec =
+    tie.close
+    (tie.spec
+    (λ c κs. search needs) (λ c. search needs) (λ c. search needs)
+    (λ c. let p = c .before .before .before in
     let s = p .before .before .before .before in
     let e = p .print .ensures in
-    (omega arith, fills-nothing _ (s .args .day) _ (s .pre .1) _ _ (e .0, e .1 .0) (c .match .keys2))
-
-returns-2 : tie.Need-returns-2
-returns-2 c =
-    let k = c .before .before .before in
+    (omega arith, fills-nothing _ (s .args .day) _ (s .pre .1) _ _ (e .0, e .1 .0) (c .match .keys2)))
+    (λ c. search needs) (λ c. search needs) (λ c κs. search needs) (λ c. search needs) (λ c. search needs)
+    (λ c. let k = c .before .before .before in
     let n = k .before .before .before .before .before in
     let p = n .before .before .before .before in
     let s = p .before .before .before .before in
     let e = p .print .ensures in
-    (omega arith, fills-none _ (s .args .day) _ (s .pre .1) _ _ (e .0, e .1 .0) _ (n .printed .given .1) _ _ (k .print-counts .ensures) (c .match2 .keys2))
-
-returns-3 : tie.Need-returns-3
-returns-3 c =
-    let k = c .before .before .before .before .before in
+    (omega arith, fills-none _ (s .args .day) _ (s .pre .1) _ _ (e .0, e .1 .0) _ (n .printed .given .1) _ _ (k .print-counts .ensures) (c .match2 .keys2)))
+    (λ c. search needs)
+    (λ c. let k = c .before .before .before .before .before in
     let n = k .before .before .before .before .before in
     let p = n .before .before .before .before in
     let s = p .before .before .before .before in
@@ -31,21 +30,4 @@ returns-3 c =
     let m = c .before .counted .given .1 in (
       inside _ (s .args .day) _ (s .pre .1) _ _ (e .0, e .1 .0) _ (n .printed .given .1) _ _ (k .print-counts .ensures) _ m,
       fills-all _ (s .args .day) _ (s .pre .1) _ _ (e .0, e .1 .0) _ (n .printed .given .1) _ _ (k .print-counts .ensures) _ m,
-    )
-
-pub fill-spec : {M : Type 1} → statement M
-fill-spec =
-    tie.close
-    (tie.spec
-    (λ c κs. search needs)
-    (λ c. search needs)
-    (λ c. search needs)
-    returns
-    (λ c. search needs)
-    (λ c. search needs)
-    (λ c κs. search needs)
-    (λ c. search needs)
-    (λ c. search needs)
-    returns-2
-    (λ c. search needs)
-    returns-3)
+    )))

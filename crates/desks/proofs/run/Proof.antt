@@ -6,30 +6,14 @@ use Rattle.desks.proofs.Days.{kept-lines, kept-taken}
 use Rattle.desks.proofs.run.Statement.{statement}
 use Rattle.desks.proofs.run.Tie as tie
 
-fill-requires : tie.Need-fill-requires
-fill-requires c κs =
-    let r = c .before .before .before .before .before .read-all in
-    ((kept-lines _ _ (r .result) (r .ensures), kept-taken _ _ (r .result) (r .ensures)), search needs)
-
-report-part : tie.Need-slice-aggregate-write-all
-report-part c = let f = c .before .before .fill in sym (length-take-le _ _ (f .ensures .0))
-
 pub run-spec : {M : Type 1} → statement M
 run-spec =
     tie.close
     (tie.spec
-    (λ c κs. search needs)
+    (λ c κs. search needs) (λ c. search needs) (λ c. search needs) (λ c. search needs) (λ c κs. search needs)
+    (λ c. search needs) (λ c. search needs)
+    (λ c κs. let r = c .before .before .before .before .before .read-all in
+    ((kept-lines _ _ (r .result) (r .ensures), kept-taken _ _ (r .result) (r .ensures)), search needs))
     (λ c. search needs)
-    (λ c. search needs)
-    (λ c. search needs)
-    (λ c κs. search needs)
-    (λ c. search needs)
-    (λ c. search needs)
-    fill-requires
-    (λ c. search needs)
-    report-part
-    (λ c κs. search needs)
-    (λ c. search needs)
-    (λ c κs. search needs)
-    (λ c. search needs)
-    (λ c. search needs))
+    (λ c. let f = c .before .before .fill in sym (length-take-le _ _ (f .ensures .0)))
+    (λ c κs. search needs) (λ c. search needs) (λ c κs. search needs) (λ c. search needs) (λ c. search needs))

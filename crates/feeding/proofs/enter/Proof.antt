@@ -4,31 +4,15 @@ use borrow.Author.Needs.{needs}
 use Rattle.feeding.proofs.enter.Statement.{statement}
 use Rattle.feeding.proofs.enter.Tie as tie
 
-returns : tie.Need-returns
-returns c =
-    let e = c .before .before in
-    buffer-entered _ _ _ _ _ (e .before .line .ensures) _ _ (e .apply-line .ensures) _ (e .before .before .before .enum-told .given .1)
-
-returns-2 : tie.Need-returns-2
-returns-2 c =
-    let e = c .before .before in
-    part-entered _ _ _ _ _ (e .before .line2 .ensures) _ _ (e .apply-line2 .ensures) _ (e .before .before .before .enum-told2 .given .1)
-
-returns-3 : tie.Need-returns-3
-returns-3 c = none-entered _ _ _ _ (c .before .before .before .before .pre) (c .match .keys3)
-
 pub enter-spec : {M : Type 1} → statement M
 enter-spec =
     tie.close
     (tie.spec
+    (λ c. search needs) (λ c κs. search needs) (λ c κs. search needs) (λ c. search needs) (λ c κs. search needs)
+    (λ c κs. search needs) (λ c. search needs)
+    (λ c. let e = c .before .before in
+    buffer-entered _ _ _ _ _ (e .before .line .ensures) _ _ (e .apply-line .ensures) _ (e .before .before .before .enum-told .given .1))
     (λ c. search needs)
-    (λ c κs. search needs)
-    (λ c κs. search needs)
-    (λ c. search needs)
-    (λ c κs. search needs)
-    (λ c κs. search needs)
-    (λ c. search needs)
-    returns
-    (λ c. search needs)
-    returns-2
-    returns-3)
+    (λ c. let e = c .before .before in
+    part-entered _ _ _ _ _ (e .before .line2 .ensures) _ _ (e .apply-line2 .ensures) _ (e .before .before .before .enum-told2 .given .1))
+    (λ c. none-entered _ _ _ _ (c .before .before .before .before .pre) (c .match .keys3)))

@@ -5,37 +5,17 @@ use borrow.Author.Needs.{needs}
 use Rattle.feeding.proofs.feed.Statement.{statement}
 use Rattle.feeding.proofs.feed.Tie as tie
 
-returns : tie.Need-returns
-returns c =
-    let t = c .before in
-    no-board _ _ _ _ _ _ (c .refused .ensures) (not-so (t .before .is-allowed .ensures) (t .if1 .taken))
-
-returns-2 : tie.Need-returns-2
-returns-2 c =
-    let t = c .before in
-    let b = t .before .before .before in
-    no-state _ _ _ _ _ _ (c .refused2 .ensures) (so (b .before .is-allowed .ensures) (b .if1 .left)) (not-so (t .before .is-allowed2 .ensures) (t .if2 .taken))
-
-feed-allowed-requires : tie.Need-feed-allowed-requires
-feed-allowed-requires c κs =
-    let t = c .before .before in
-    let b = t .before .before .before in
-    (so (b .before .is-allowed .ensures) (b .if1 .left), so (t .before .is-allowed2 .ensures) (t .if2 .left))
-
 pub feed-spec : {M : Type 1} → statement M
 feed-spec =
     tie.close
     (tie.spec
-    (λ c κs. search needs)
-    (λ c κs. search needs)
-    (λ c. search needs)
-    returns
-    (λ c κs. search needs)
-    (λ c κs. search needs)
-    (λ c. search needs)
-    (λ c. search needs)
-    returns-2
-    feed-allowed-requires
-    (λ c. search needs)
-    (λ c. search needs)
-    (λ c. search needs))
+    (λ c κs. search needs) (λ c κs. search needs) (λ c. search needs)
+    (λ c. let t = c .before in no-board _ _ _ _ _ _ (c .refused .ensures) (not-so (t .before .is-allowed .ensures) (t .if1 .taken)))
+    (λ c κs. search needs) (λ c κs. search needs) (λ c. search needs) (λ c. search needs)
+    (λ c. let t = c .before in
+    let b = t .before .before .before in
+    no-state _ _ _ _ _ _ (c .refused2 .ensures) (so (b .before .is-allowed .ensures) (b .if1 .left)) (not-so (t .before .is-allowed2 .ensures) (t .if2 .taken)))
+    (λ c κs. let t = c .before .before in
+    let b = t .before .before .before in
+    (so (b .before .is-allowed .ensures) (b .if1 .left), so (t .before .is-allowed2 .ensures) (t .if2 .left)))
+    (λ c. search needs) (λ c. search needs) (λ c. search needs))

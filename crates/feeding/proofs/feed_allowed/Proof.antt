@@ -118,96 +118,42 @@ Inv-loop board₀ held₀ most part fed₀ board held fed = Inv board₀ held₀
 abbrev μ-loop : tie.MeasureT-loop
 μ-loop board₀ held₀ most part fed₀ board held fed = length part - fed .used
 
-loop-holds : tie.Need-loop-holds Inv-loop μ-loop
-loop-holds c = let s = c .before .before .before in start _ _ _ _ _ (s .pre .0) (s .pre .1)
-
-same-length : tie.Need-same-length Inv-loop μ-loop
-same-length c = c .before .before .before .before .loop .inv .board-size
-
-same-length-2 : tie.Need-same-length-2 Inv-loop μ-loop
-same-length-2 c = c .before .before .before .before .loop .inv .held-size
-
-returns : tie.Need-returns Inv-loop μ-loop
-returns c = let v = c .before .before .before .before .loop .inv in done v (read-most v (omega (arith, c .if2 .taken)))
-
 -- a line may still be read
 fewer-lines : (l : tie.Else2 Inv-loop μ-loop) → l .before .before .before .before .loop .fed .lines < l .before .before .before .before .before .before .before .before .args .most
 fewer-lines l = omega (arith, l .before .before .before .before .loop .inv .few, l .if2 .left)
-
-sub-step : tie.Need-sub-step Inv-loop μ-loop
-sub-step c = c .before .before .before .before .before .before .loop .inv .at
-
-part-step-start : tie.Need-part-step-start Inv-loop μ-loop
-part-step-start c = omega (arith, c .before .before .before .before .before .before .loop .inv .at)
-
-part-step-end : tie.Need-part-step-end Inv-loop μ-loop
-part-step-end c = search needs
-
-step-requires : tie.Need-step-requires Inv-loop μ-loop
-step-requires c κs = let v = c .before .before .before .before .before .before .before .loop .inv in (v .good, v .begins)
-
-add-t12 : tie.Need-add-t12 Inv-loop μ-loop
-add-t12 c =
-    let p = c .before .before .before .before .before in
-    let l = p .before .before .before .before in
-    let n = again (l .before .before .before .before .loop .inv) (l .before .before .if1 .taken) (fewer-lines l) _ _ _ (p .step .ensures) in
-    omega (arith, n .at, l .before .before .before .before .before .before .before .before .good .1 .1 .1 .1 .0 .0)
-
-add-t22 : tie.Need-add-t22 Inv-loop μ-loop
-add-t22 c =
-    let p = c .before .before .before .before .before .before .before in
-    let l = p .before .before .before .before in
-    let n = again (l .before .before .before .before .loop .inv) (l .before .before .if1 .taken) (fewer-lines l) _ _ _ (p .step .ensures) in
-    omega (arith, n .at, n .counted, l .before .before .before .before .before .before .before .before .good .1 .1 .1 .1 .0 .0)
-
-add-t23 : tie.Need-add-t23 Inv-loop μ-loop
-add-t23 c =
-    let p = c .before .before .before .before .before .before .before .before .before in
-    let l = p .before .before .before .before in
-    let n = again (l .before .before .before .before .loop .inv) (l .before .before .if1 .taken) (fewer-lines l) _ _ _ (p .step .ensures) in
-    omega (arith, n .at, n .counted, n .less, l .before .before .before .before .before .before .before .before .good .1 .1 .1 .1 .0 .0)
-
-loop-less : tie.Need-loop-less Inv-loop μ-loop
-loop-less c =
-    let p = c .before .before .before .before .before .before .before .before .before in
-    let l = p .before .before .before .before in
-    let g = goes-on (l .before .before .before .before .loop .inv) (l .before .before .if1 .taken) (fewer-lines l) _ _ _ (p .step .ensures) in
-    omega (arith, g .0, g .1)
-
-loop-again : tie.Need-loop-again Inv-loop μ-loop
-loop-again c =
-    let p = c .before .before .before .before .before .before .before .before .before in
-    let l = p .before .before .before .before in
-    again (l .before .before .before .before .loop .inv) (l .before .before .if1 .taken) (fewer-lines l) _ _ _ (p .step .ensures)
-
-same-length-3 : tie.Need-same-length-3 Inv-loop μ-loop
-same-length-3 c = c .before .before .loop .inv .board-size
-
-same-length-4 : tie.Need-same-length-4 Inv-loop μ-loop
-same-length-4 c = c .before .before .loop .inv .held-size
-
-returns-2 : tie.Need-returns-2 Inv-loop μ-loop
-returns-2 c = let v = c .before .before .loop .inv in done v (read-all v (c .if1 .left))
 
 pub feed-allowed-spec : {M : Type 1} → statement M
 feed-allowed-spec =
     tie.close
     (tie.spec
-    Inv-loop
-    μ-loop
-    loop-holds
-    same-length
-    same-length-2
-    returns
-    sub-step
-    part-step-start
-    part-step-end
-    step-requires
-    add-t12
-    add-t22
-    add-t23
-    loop-less
-    loop-again
-    same-length-3
-    same-length-4
-    returns-2)
+    Inv-loop μ-loop
+    (λ c. let s = c .before .before .before in start _ _ _ _ _ (s .pre .0) (s .pre .1))
+    (λ c. c .before .before .before .before .loop .inv .board-size)
+    (λ c. c .before .before .before .before .loop .inv .held-size)
+    (λ c. let v = c .before .before .before .before .loop .inv in done v (read-most v (omega (arith, c .if2 .taken))))
+    (λ c. c .before .before .before .before .before .before .loop .inv .at)
+    (λ c. omega (arith, c .before .before .before .before .before .before .loop .inv .at))
+    (λ c. search needs)
+    (λ c κs. let v = c .before .before .before .before .before .before .before .loop .inv in (v .good, v .begins))
+    (λ c. let p = c .before .before .before .before .before in
+    let l = p .before .before .before .before in
+    let n = again (l .before .before .before .before .loop .inv) (l .before .before .if1 .taken) (fewer-lines l) _ _ _ (p .step .ensures) in
+    omega (arith, n .at, l .before .before .before .before .before .before .before .before .good .1 .1 .1 .1 .0 .0))
+    (λ c. let p = c .before .before .before .before .before .before .before in
+    let l = p .before .before .before .before in
+    let n = again (l .before .before .before .before .loop .inv) (l .before .before .if1 .taken) (fewer-lines l) _ _ _ (p .step .ensures) in
+    omega (arith, n .at, n .counted, l .before .before .before .before .before .before .before .before .good .1 .1 .1 .1 .0 .0))
+    (λ c. let p = c .before .before .before .before .before .before .before .before .before in
+    let l = p .before .before .before .before in
+    let n = again (l .before .before .before .before .loop .inv) (l .before .before .if1 .taken) (fewer-lines l) _ _ _ (p .step .ensures) in
+    omega (arith, n .at, n .counted, n .less, l .before .before .before .before .before .before .before .before .good .1 .1 .1 .1 .0 .0))
+    (λ c. let p = c .before .before .before .before .before .before .before .before .before in
+    let l = p .before .before .before .before in
+    let g = goes-on (l .before .before .before .before .loop .inv) (l .before .before .if1 .taken) (fewer-lines l) _ _ _ (p .step .ensures) in
+    omega (arith, g .0, g .1))
+    (λ c. let p = c .before .before .before .before .before .before .before .before .before in
+    let l = p .before .before .before .before in
+    again (l .before .before .before .before .loop .inv) (l .before .before .if1 .taken) (fewer-lines l) _ _ _ (p .step .ensures))
+    (λ c. c .before .before .loop .inv .board-size)
+    (λ c. c .before .before .loop .inv .held-size)
+    (λ c. let v = c .before .before .loop .inv in done v (read-all v (c .if1 .left))))

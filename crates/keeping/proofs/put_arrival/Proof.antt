@@ -6,23 +6,12 @@ use borrow.Author.Needs.{needs}
 use Rattle.keeping.proofs.put_arrival.Statement.{statement}
 use Rattle.keeping.proofs.put_arrival.Tie as tie
 
-returns : tie.Need-returns
-unfolding arrivalWords
-returns c = c .before .before .put-five .ensures ∙ rw (c .before .before .before .before .enum-told .given .1)
-
-returns-2 : tie.Need-returns-2
-unfolding arrivalWords
-returns-2 c = c .before .before .put-five2 .ensures ∙ rw (c .before .before .before .before .before .arrival .given .1)
-
 pub put-arrival-spec : {M : Type 1} → statement M
+unfolding arrivalWords
 put-arrival-spec =
     tie.close
     (tie.spec
+    (λ c. search needs) (λ c κs. search needs) (λ c. search needs) (λ c κs. search needs) (λ c. search needs)
+    (λ c. c .before .before .put-five .ensures ∙ rw (c .before .before .before .before .enum-told .given .1))
     (λ c. search needs)
-    (λ c κs. search needs)
-    (λ c. search needs)
-    (λ c κs. search needs)
-    (λ c. search needs)
-    returns
-    (λ c. search needs)
-    returns-2)
+    (λ c. c .before .before .put-five2 .ensures ∙ rw (c .before .before .before .before .before .arrival .given .1)))

@@ -5,19 +5,12 @@ use borrow.Author.Needs.{needs}
 use Rattle.keeping.proofs.put_row.Statement.{statement}
 use Rattle.keeping.proofs.put_row.Tie as tie
 
-returns : tie.Need-returns
-returns c =
-    let q = c .before .before in
-    let p = q .before .before .before .before in
-    let s = p .before .before .before in
-    row-stores _ _ _ _ (s .args .row) (s .pre) (p .put-arrival .ensures) (q .put-track .ensures)
-
 pub put-row-spec : {M : Type 1} → statement M
 put-row-spec =
     tie.close
     (tie.spec
-    (λ c κs. search needs)
-    (λ c. search needs)
-    (λ c κs. search needs)
-    (λ c. search needs)
-    returns)
+    (λ c κs. search needs) (λ c. search needs) (λ c κs. search needs) (λ c. search needs)
+    (λ c. let q = c .before .before in
+    let p = q .before .before .before .before in
+    let s = p .before .before .before in
+    row-stores _ _ _ _ (s .args .row) (s .pre) (p .put-arrival .ensures) (q .put-track .ensures)))

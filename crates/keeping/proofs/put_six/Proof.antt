@@ -6,44 +6,19 @@ use borrow.Author.Needs.{needs}
 use Rattle.keeping.proofs.put_six.Statement.{statement}
 use Rattle.keeping.proofs.put_six.Tie as tie
 
-slice-write-words-2 : tie.Need-slice-write-words-2
-slice-write-words-2 c = simp length-set (omega arith)
-
-slice-write-words-3 : tie.Need-slice-write-words-3
-slice-write-words-3 c = simp length-set (omega arith)
-
-slice-write-words-4 : tie.Need-slice-write-words-4
-slice-write-words-4 c = simp length-set (omega arith)
-
-slice-write-words-5 : tie.Need-slice-write-words-5
-slice-write-words-5 c = simp length-set (omega arith)
-
-slice-write-words-6 : tie.Need-slice-write-words-6
-slice-write-words-6 c = simp length-set (omega arith)
-
-returns : tie.Need-returns
-returns c = six-stores _ _ _ _ _ _ _ _ (c .pre)
-
 pub put-six-spec : {M : Type 1} → statement M
 put-six-spec =
     tie.close
     (tie.spec
+    (λ c. search needs) (λ c. search needs) (λ c. search needs) (λ c. search needs)
+    (λ c. simp length-set (omega arith))
+    (λ c. search needs) (λ c. search needs)
+    (λ c. simp length-set (omega arith))
+    (λ c. search needs) (λ c. search needs)
+    (λ c. simp length-set (omega arith))
+    (λ c. search needs) (λ c. search needs)
+    (λ c. simp length-set (omega arith))
+    (λ c. search needs) (λ c. search needs)
+    (λ c. simp length-set (omega arith))
     (λ c. search needs)
-    (λ c. search needs)
-    (λ c. search needs)
-    (λ c. search needs)
-    slice-write-words-2
-    (λ c. search needs)
-    (λ c. search needs)
-    slice-write-words-3
-    (λ c. search needs)
-    (λ c. search needs)
-    slice-write-words-4
-    (λ c. search needs)
-    (λ c. search needs)
-    slice-write-words-5
-    (λ c. search needs)
-    (λ c. search needs)
-    slice-write-words-6
-    (λ c. search needs)
-    returns)
+    (λ c. six-stores _ _ _ _ _ _ _ _ (c .pre)))

@@ -5,23 +5,12 @@ use borrow.Author.Needs.{needs}
 use Rattle.keeping.proofs.put_track.Statement.{statement}
 use Rattle.keeping.proofs.put_track.Tie as tie
 
-returns : tie.Need-returns
-unfolding trackWords
-returns c = c .before .before .put-six .ensures ∙ rw (c .before .before .before .before .enum-told .given .1)
-
-returns-2 : tie.Need-returns-2
-unfolding trackWords
-returns-2 c = c .before .before .put-six2 .ensures ∙ rw (c .before .before .before .before .before .track .given .1)
-
 pub put-track-spec : {M : Type 1} → statement M
+unfolding trackWords
 put-track-spec =
     tie.close
     (tie.spec
+    (λ c. search needs) (λ c κs. search needs) (λ c. search needs) (λ c κs. search needs) (λ c. search needs)
+    (λ c. c .before .before .put-six .ensures ∙ rw (c .before .before .before .before .enum-told .given .1))
     (λ c. search needs)
-    (λ c κs. search needs)
-    (λ c. search needs)
-    (λ c κs. search needs)
-    (λ c. search needs)
-    returns
-    (λ c. search needs)
-    returns-2)
+    (λ c. c .before .before .put-six2 .ensures ∙ rw (c .before .before .before .before .before .track .given .1)))

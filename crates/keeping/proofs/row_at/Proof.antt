@@ -4,20 +4,12 @@ use borrow.Author.Needs.{needs}
 use Rattle.keeping.proofs.row_at.Statement.{statement}
 use Rattle.keeping.proofs.row_at.Tie as tie
 
-returns : tie.Need-returns
-returns c =
-    let a = c .before in
-    let s = a .before .before .before in
-    row-there (s .args .words .now) (s .args .p) (a .arrival-at .ensures) (c .track-at .ensures)
-
 pub row-at-spec : {M : Type 1} → statement M
 row-at-spec =
     tie.close
     (tie.spec
-    (λ c. search needs)
-    (λ c. search needs)
-    (λ c. search needs)
+    (λ c. search needs) (λ c. search needs) (λ c. search needs) (λ c κs. search needs) (λ c. search needs)
     (λ c κs. search needs)
-    (λ c. search needs)
-    (λ c κs. search needs)
-    returns)
+    (λ c. let a = c .before in
+    let s = a .before .before .before in
+    row-there (s .args .words .now) (s .args .p) (a .arrival-at .ensures) (c .track-at .ensures)))

@@ -5,18 +5,11 @@ use borrow.Author.Needs.{needs}
 use Rattle.kinds.proofs.marks_after.Statement.{statement}
 use Rattle.kinds.proofs.marks_after.Tie as tie
 
-returns : tie.Need-returns
-unfolding marksOf
-returns c = rw (eq-eqb _ _ (c .before .if1 .taken), c .mark .ensures)
-
-returns-2 : tie.Need-returns-2
-unfolding marksOf
-returns-2 c = rw (ne-eqb _ _ (c .if1 .left))
-
 pub marks-after-spec : {M : Type 1} → statement M
+unfolding marksOf
 marks-after-spec =
     tie.close
     (tie.spec
     (λ c κs. search needs)
-    returns
-    returns-2)
+    (λ c. rw (eq-eqb _ _ (c .before .if1 .taken), c .mark .ensures))
+    (λ c. rw (ne-eqb _ _ (c .if1 .left))))

@@ -7,36 +7,19 @@ use borrow.Author.Needs.{needs}
 use Rattle.planner.proofs.apply.Statement.{statement}
 use Rattle.planner.proofs.apply.Tie as tie
 
-returns : tie.Need-returns
-returns c = let a = c .before in in-apply-case _ _ (apply-refused _ _ _ _ (a .before .before .read .ensures) (a .asked .given .1))
-
-returns-2 : tie.Need-returns-2
-returns-2 c =
-    let m = c .before .before .before in
-    in-apply-case _ _ (apply-damaged _ _ _ (m .before .read .ensures) (m .match .keys2) (sym (c .before .is-allowed .ensures) ∙ not-true _ (c .if1 .taken)))
-
-enter-requires : tie.Need-enter-requires
-enter-requires c κs =
-    let e = c .before in
-    (sym (e .before .is-allowed .ensures) ∙ not-false _ (e .if1 .left), line-event _ _ (e .before .before .before .before .read .ensures))
-
-returns-3 : tie.Need-returns-3
-returns-3 c =
-    let n = c .before .before in
-    let e = n .before .before in
-    let m = e .before .before .before in
-    in-apply-case _ _ (apply-entered _ _ _ (m .before .read .ensures) (m .match .keys2) (sym (e .before .is-allowed .ensures) ∙ not-false _ (e .if1 .left)) _ _ (n .enter .ensures))
-
 pub apply-spec : {M : Type 1} → statement M
 apply-spec =
     tie.close
     (tie.spec
-    (λ c κs. search needs)
+    (λ c κs. search needs) (λ c. search needs)
+    (λ c. let a = c .before in in-apply-case _ _ (apply-refused _ _ _ _ (a .before .before .read .ensures) (a .asked .given .1)))
+    (λ c κs. search needs) (λ c. search needs)
+    (λ c. let m = c .before .before .before in
+    in-apply-case _ _ (apply-damaged _ _ _ (m .before .read .ensures) (m .match .keys2) (sym (c .before .is-allowed .ensures) ∙ not-true _ (c .if1 .taken))))
+    (λ c κs. let e = c .before in
+    (sym (e .before .is-allowed .ensures) ∙ not-false _ (e .if1 .left), line-event _ _ (e .before .before .before .before .read .ensures)))
     (λ c. search needs)
-    returns
-    (λ c κs. search needs)
-    (λ c. search needs)
-    returns-2
-    enter-requires
-    (λ c. search needs)
-    returns-3)
+    (λ c. let n = c .before .before in
+    let e = n .before .before in
+    let m = e .before .before .before in
+    in-apply-case _ _ (apply-entered _ _ _ (m .before .read .ensures) (m .match .keys2) (sym (e .before .is-allowed .ensures) ∙ not-false _ (e .if1 .left)) _ _ (n .enter .ensures))))

@@ -7,46 +7,23 @@ use borrow.Author.Needs.{needs}
 use Rattle.planner.proofs.strike.Statement.{statement}
 use Rattle.planner.proofs.strike.Tie as tie
 
-returns : tie.Need-returns
-returns c = in-strike-case _ _ (strike-no-key _ _ _ (c .before .before .read .ensures) (c .enum-told .given .1))
-
-returns-2 : tie.Need-returns-2
-returns-2 c =
-    let k = c .before .before .before .before in
-    in-strike-case _ _ (strike-damaged _ _ _ (k .before .before .read .ensures) _ (k .key .given .1) (sym (c .before .is-allowed .ensures) ∙ not-true _ (c .if1 .taken)))
-
-strike-requires : tie.Need-strike-requires
-strike-requires c κs = sym (c .before .before .is-allowed .ensures) ∙ not-false _ (c .before .if1 .left)
-
-returns-3 : tie.Need-returns-3
-returns-3 c =
-    let t = c .before .before .before .before in
-    let e = t .before .before in
-    let k = e .before .before .before .before in
-    in-strike-case _ _ (strike-gone _ _ _ (k .before .before .read .ensures) _ (k .key .given .1) (sym (e .before .is-allowed .ensures) ∙ not-false _ (e .if1 .left)) _ _ (t .strike .ensures) (c .enum-told2 .given .1))
-
-returns-4 : tie.Need-returns-4
-returns-4 c =
-    let t = c .before .before .before .before in
-    let e = t .before .before in
-    let k = e .before .before .before .before in
-    in-strike-case _ _ (strike-missing _ _ _ (k .before .before .read .ensures) _ (k .key .given .1) (sym (e .before .is-allowed .ensures) ∙ not-false _ (e .if1 .left)) _ _ (t .strike .ensures) (c .enum-told3 .given .1))
-
 pub strike-spec : {M : Type 1} → statement M
 strike-spec =
     tie.close
     (tie.spec
-    (λ c κs. search needs)
+    (λ c κs. search needs) (λ c. search needs) (λ c. search needs)
+    (λ c. in-strike-case _ _ (strike-no-key _ _ _ (c .before .before .read .ensures) (c .enum-told .given .1)))
+    (λ c κs. search needs) (λ c. search needs)
+    (λ c. let k = c .before .before .before .before in
+    in-strike-case _ _ (strike-damaged _ _ _ (k .before .before .read .ensures) _ (k .key .given .1) (sym (c .before .is-allowed .ensures) ∙ not-true _ (c .if1 .taken))))
+    (λ c κs. sym (c .before .before .is-allowed .ensures) ∙ not-false _ (c .before .if1 .left))
+    (λ c. search needs) (λ c. search needs) (λ c. search needs)
+    (λ c. let t = c .before .before .before .before in
+    let e = t .before .before in
+    let k = e .before .before .before .before in
+    in-strike-case _ _ (strike-gone _ _ _ (k .before .before .read .ensures) _ (k .key .given .1) (sym (e .before .is-allowed .ensures) ∙ not-false _ (e .if1 .left)) _ _ (t .strike .ensures) (c .enum-told2 .given .1)))
     (λ c. search needs)
-    (λ c. search needs)
-    returns
-    (λ c κs. search needs)
-    (λ c. search needs)
-    returns-2
-    strike-requires
-    (λ c. search needs)
-    (λ c. search needs)
-    (λ c. search needs)
-    returns-3
-    (λ c. search needs)
-    returns-4)
+    (λ c. let t = c .before .before .before .before in
+    let e = t .before .before in
+    let k = e .before .before .before .before in
+    in-strike-case _ _ (strike-missing _ _ _ (k .before .before .read .ensures) _ (k .key .given .1) (sym (e .before .is-allowed .ensures) ∙ not-false _ (e .if1 .left)) _ _ (t .strike .ensures) (c .enum-told3 .given .1))))

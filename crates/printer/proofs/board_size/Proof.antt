@@ -42,44 +42,18 @@ Inv-loop board flights rows₀ total₀ p₀ rows total p = Inv board rows total
 abbrev μ-loop : tie.MeasureT-loop
 μ-loop board flights rows₀ total₀ p₀ rows total p = rows
 
-shared-slice-read-flights : tie.Need-shared-slice-read-flights Inv-loop μ-loop
-shared-slice-read-flights c = let s = c .before .before in omega (arith, board-long (s .args .board .now) (s .pre))
-
-add-total : tie.Need-add-total Inv-loop μ-loop
-add-total c = omega (arith, c .size .ensures, decimal-short (getD (c .before .before .before .args .board .now) 0 0))
-
-loop-holds : tie.Need-loop-holds Inv-loop μ-loop
-loop-holds c = start _ (c .before .before .before .pre) (c .size .ensures)
-
-size-requires-2 : tie.Need-size-requires-2 Inv-loop μ-loop
-size-requires-2 c κs = let w = c .before .loop .inv .walk in (row-whole w (omega (arith, c .loop-test .taken)), row-good w (omega (arith, c .loop-test .taken)))
-
-add-total-2 : tie.Need-add-total-2 Inv-loop μ-loop
-add-total-2 c = let l = c .before in omega (arith, c .size2 .ensures, small (l .before .loop .inv) (omega (arith, l .loop-test .taken)))
-
-add-p : tie.Need-add-p Inv-loop μ-loop
-add-p c = let l = c .before in omega (arith, inside (l .before .loop .inv) (omega (arith, l .loop-test .taken)))
-
-loop-again : tie.Need-loop-again Inv-loop μ-loop
-loop-again c = let l = c .before in again (l .before .loop .inv) (omega (arith, l .loop-test .taken)) (c .size2 .ensures)
-
-returns : tie.Need-returns Inv-loop μ-loop
-returns c = done (c .before .loop .inv) (omega (arith, c .loop-test .left))
-
 pub board-size-spec : {M : Type 1} → statement M
 board-size-spec =
     tie.close
     (tie.spec
-    Inv-loop
-    μ-loop
-    shared-slice-read-flights
+    Inv-loop μ-loop
+    (λ c. let s = c .before .before in omega (arith, board-long (s .args .board .now) (s .pre)))
     (λ c κs. search needs)
-    add-total
-    loop-holds
-    size-requires-2
-    add-total-2
-    add-p
-    (λ c. search needs)
-    (λ c. search needs)
-    loop-again
-    returns)
+    (λ c. omega (arith, c .size .ensures, decimal-short (getD (c .before .before .before .args .board .now) 0 0)))
+    (λ c. start _ (c .before .before .before .pre) (c .size .ensures))
+    (λ c κs. let w = c .before .loop .inv .walk in (row-whole w (omega (arith, c .loop-test .taken)), row-good w (omega (arith, c .loop-test .taken))))
+    (λ c. let l = c .before in omega (arith, c .size2 .ensures, small (l .before .loop .inv) (omega (arith, l .loop-test .taken))))
+    (λ c. let l = c .before in omega (arith, inside (l .before .loop .inv) (omega (arith, l .loop-test .taken))))
+    (λ c. search needs) (λ c. search needs)
+    (λ c. let l = c .before in again (l .before .loop .inv) (omega (arith, l .loop-test .taken)) (c .size2 .ensures))
+    (λ c. done (c .before .loop .inv) (omega (arith, c .loop-test .left))))

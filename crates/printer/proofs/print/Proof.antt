@@ -45,48 +45,25 @@ module _ (l out : List ℕ) (at : ℕ) {n : ℕ} (size : n ≡ length (textIn l)
 allowed : (c : tie.Else1) → isAllowed (c .before .before .before .before .args .board .now) ≡ true
 allowed c = so (c .before .is-allowed .ensures) (c .if1 .left)
 
-returns : tie.Need-returns
-returns c = in-print-case _ _ _ (not-allowed _ _ _ (not-so (c .before .is-allowed .ensures) (c .if1 .taken)))
-
-board-size-requires : tie.Need-board-size-requires
-board-size-requires c κs = allowed c
-
-returns-2 : tie.Need-returns-2
-returns-2 c =
-    let z = c .before .before in
-    in-print-case _ _ _ (refuses _ _ _ (z .board-size .ensures) (allowed (z .before)) (c .before .has-room .ensures) (c .if2 .taken))
-
-put-board-requires : tie.Need-put-board-requires
-put-board-requires c κs =
-    let e = c .before in
-    let z = e .before .before in
-    let a = z .before .before .before .before .before .args in
-    asks (a .board .now) (a .out .now) (a .at) (z .board-size .ensures) (allowed (z .before)) (e .before .has-room .ensures) (e .if2 .left)
-
-add-t7 : tie.Need-add-t7
-add-t7 c =
-    let e = c .before .before .before .before in
-    let z = e .before .before in
-    let a = z .before .before .before .before .before .args in
-    omega (arith, roomy (a .board .now) (a .out .now) (a .at) (z .board-size .ensures) (allowed (z .before)) (e .before .has-room .ensures) (e .if2 .left))
-
-returns-3 : tie.Need-returns-3
-returns-3 c =
-    let p = c .before .before in
-    let e = p .before .before in
-    let z = e .before .before in
-    in-print-case _ _ _ (puts _ _ _ (z .board-size .ensures) (allowed (z .before)) (e .before .has-room .ensures) (e .if2 .left) (p .put-board .ensures))
-
 pub print-spec : {M : Type 1} → statement M
 print-spec =
     tie.close
     (tie.spec
     (λ c κs. search needs)
-    returns
-    board-size-requires
-    (λ c κs. search needs)
-    returns-2
-    put-board-requires
-    add-t7
+    (λ c. in-print-case _ _ _ (not-allowed _ _ _ (not-so (c .before .is-allowed .ensures) (c .if1 .taken))))
+    (λ c κs. allowed c) (λ c κs. search needs)
+    (λ c. let z = c .before .before in
+    in-print-case _ _ _ (refuses _ _ _ (z .board-size .ensures) (allowed (z .before)) (c .before .has-room .ensures) (c .if2 .taken)))
+    (λ c κs. let e = c .before in
+    let z = e .before .before in
+    let a = z .before .before .before .before .before .args in
+    asks (a .board .now) (a .out .now) (a .at) (z .board-size .ensures) (allowed (z .before)) (e .before .has-room .ensures) (e .if2 .left))
+    (λ c. let e = c .before .before .before .before in
+    let z = e .before .before in
+    let a = z .before .before .before .before .before .args in
+    omega (arith, roomy (a .board .now) (a .out .now) (a .at) (z .board-size .ensures) (allowed (z .before)) (e .before .has-room .ensures) (e .if2 .left)))
     (λ c. search needs)
-    returns-3)
+    (λ c. let p = c .before .before in
+    let e = p .before .before in
+    let z = e .before .before in
+    in-print-case _ _ _ (puts _ _ _ (z .board-size .ensures) (allowed (z .before)) (e .before .has-room .ensures) (e .if2 .left) (p .put-board .ensures))))

@@ -38,47 +38,24 @@ roomy c =
     let a = z .before .before .before .args in
     room-told (countsText (a .lines) (a .taken)) (a .out .now) (a .at) (size (a .lines) (a .taken) (z .before .size .ensures) (z .size2 .ensures)) (c .before .has-room .ensures) (c .if1 .left)
 
-add-n : tie.Need-add-n
-add-n c = omega (arith, c .size .ensures, decimal-short (c .before .before .args .lines))
-
-add-n-2 : tie.Need-add-n-2
-add-n-2 c =
-    let a = c .before .before .before .args in
-    omega (arith, small (a .lines) (a .taken) (c .before .size .ensures) (c .size2 .ensures))
-
-returns : tie.Need-returns
-returns c =
-    let z = c .before .before in
-    no-room-told _ _ _ (size _ _ (z .before .size .ensures) (z .size2 .ensures)) (c .before .has-room .ensures) refl (c .if1 .taken)
-
-put-counts-requires : tie.Need-put-counts-requires
-put-counts-requires c κs = roomy (c .before)
-
-add-t6 : tie.Need-add-t6
-add-t6 c =
-    let e = c .before .before .before .before in
-    let z = e .before .before in
-    let a = z .before .before .before .args in
-    omega (arith, roomy e, size (a .lines) (a .taken) (z .before .size .ensures) (z .size2 .ensures))
-
-returns-2 : tie.Need-returns-2
-returns-2 c =
-    let p = c .before .before in
-    let e = p .before .before in
-    let z = e .before .before in
-    puts _ _ (z .before .size .ensures) (z .size2 .ensures) _ _ (roomy e) (p .put-counts .ensures)
-
 pub print-counts-spec : {M : Type 1} → statement M
 print-counts-spec =
     tie.close
     (tie.spec
     (λ c κs. search needs)
-    add-n
+    (λ c. omega (arith, c .size .ensures, decimal-short (c .before .before .args .lines)))
     (λ c κs. search needs)
-    add-n-2
+    (λ c. let a = c .before .before .before .args in omega (arith, small (a .lines) (a .taken) (c .before .size .ensures) (c .size2 .ensures)))
     (λ c κs. search needs)
-    returns
-    put-counts-requires
-    add-t6
+    (λ c. let z = c .before .before in
+    no-room-told _ _ _ (size _ _ (z .before .size .ensures) (z .size2 .ensures)) (c .before .has-room .ensures) refl (c .if1 .taken))
+    (λ c κs. roomy (c .before))
+    (λ c. let e = c .before .before .before .before in
+    let z = e .before .before in
+    let a = z .before .before .before .args in
+    omega (arith, roomy e, size (a .lines) (a .taken) (z .before .size .ensures) (z .size2 .ensures)))
     (λ c. search needs)
-    returns-2)
+    (λ c. let p = c .before .before in
+    let e = p .before .before in
+    let z = e .before .before in
+    puts _ _ (z .before .size .ensures) (z .size2 .ensures) _ _ (roomy e) (p .put-counts .ensures)))

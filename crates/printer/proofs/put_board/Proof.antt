@@ -36,35 +36,18 @@ module _ (l out : List ℕ) (at : ℕ) (a : BoardAsks l out at) where
     whole : {o′ : List ℕ} → o′ ≡ spliced o j rows → o′ ≡ spliced out at (textIn l)
     whole w = next-wrote out first rows at fits ends is w ∙ ap (spliced out at) (sym (text-parts l))
 
-shared-slice-read-flights : tie.Need-shared-slice-read-flights
-shared-slice-read-flights c = let s = c .before .before .before in omega (arith, board-long (s .args .board .now) (s .pre .good))
-
-put-count-requires : tie.Need-put-count-requires
-put-count-requires c κs =
-    let s = c .before .before .before .before .before in
-    let a = s .args in
-    first-room (a .board .now) (a .out .now) (a .at) (s .pre)
-
-put-rows-requires : tie.Need-put-rows-requires
-put-rows-requires c κs =
-    let p = c .before .before .before in
-    let s = p .before .before .before .before .before .before in
-    rows-ask _ _ _ (s .pre) (p .put-count .ensures .0) (p .put-count .ensures .1)
-
-returns : tie.Need-returns
-returns c =
-    let q = c .before .before in
-    let p = q .before .before .before .before in
-    let s = p .before .before .before .before .before .before in
-    whole _ _ _ (s .pre) (p .put-count .ensures .0) (p .put-count .ensures .1) (q .put-rows .ensures)
-
 pub put-board-spec : {M : Type 1} → statement M
 put-board-spec =
     tie.close
     (tie.spec
-    shared-slice-read-flights
+    (λ c. let s = c .before .before .before in omega (arith, board-long (s .args .board .now) (s .pre .good)))
     (λ c. search needs)
-    put-count-requires
-    put-rows-requires
+    (λ c κs. let s = c .before .before .before .before .before in let a = s .args in first-room (a .board .now) (a .out .now) (a .at) (s .pre))
+    (λ c κs. let p = c .before .before .before in
+    let s = p .before .before .before .before .before .before in
+    rows-ask _ _ _ (s .pre) (p .put-count .ensures .0) (p .put-count .ensures .1))
     (λ c. search needs)
-    returns)
+    (λ c. let q = c .before .before in
+    let p = q .before .before .before .before in
+    let s = p .before .before .before .before .before .before in
+    whole _ _ _ (s .pre) (p .put-count .ensures .0) (p .put-count .ensures .1) (q .put-rows .ensures)))

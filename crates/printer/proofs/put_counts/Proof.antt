@@ -33,32 +33,18 @@ module _ (lines taken : ℕ) (out : List ℕ) (at : ℕ) (room : at + length (co
     whole : {o′ : List ℕ} → o′ ≡ spliced o j second → o′ ≡ spliced out at (countsText lines taken)
     whole w = next-wrote out first second at fits ends is w ∙ ap (spliced out at) (sym (counts-line lines taken))
 
-put-count-requires : tie.Need-put-count-requires
-put-count-requires c κs =
-    let s = c .before .before .before in
-    let a = s .args in
-    first-room (a .lines) (a .taken) (a .out .now) (a .at) (s .pre)
-
-put-count-requires-2 : tie.Need-put-count-requires-2
-put-count-requires-2 c κs =
-    let p = c .before .before .before .before in
-    let s = p .before .before .before .before in
-    second-room _ _ _ _ (s .pre) (p .put-count .ensures .0) (p .put-count .ensures .1)
-
-returns : tie.Need-returns
-returns c =
-    let q = c .before .before in
-    let p = q .before .before .before .before .before in
-    let s = p .before .before .before .before in
-    whole _ _ _ _ (s .pre) (p .put-count .ensures .0) (p .put-count .ensures .1) (q .put-count2 .ensures .1)
-
 pub put-counts-spec : {M : Type 1} → statement M
 put-counts-spec =
     tie.close
     (tie.spec
     (λ c. search needs)
-    put-count-requires
+    (λ c κs. let s = c .before .before .before in let a = s .args in first-room (a .lines) (a .taken) (a .out .now) (a .at) (s .pre))
     (λ c. search needs)
-    put-count-requires-2
+    (λ c κs. let p = c .before .before .before .before in
+    let s = p .before .before .before .before in
+    second-room _ _ _ _ (s .pre) (p .put-count .ensures .0) (p .put-count .ensures .1))
     (λ c. search needs)
-    returns)
+    (λ c. let q = c .before .before in
+    let p = q .before .before .before .before .before in
+    let s = p .before .before .before .before in
+    whole _ _ _ _ (s .pre) (p .put-count .ensures .0) (p .put-count .ensures .1) (q .put-count2 .ensures .1)))

@@ -69,61 +69,26 @@ Inv-loop board out₀ at left₀ p₀ j₀ out left p j = Inv board out₀ at ou
 abbrev μ-loop : tie.MeasureT-loop
 μ-loop board out₀ at left₀ p₀ j₀ out left p j = left
 
-shared-slice-read-left : tie.Need-shared-slice-read-left Inv-loop μ-loop
-shared-slice-read-left c = let s = c .before .before .before in omega (arith, board-long (s .args .board .now) (s .pre .good))
-
-loop-holds : tie.Need-loop-holds Inv-loop μ-loop
-loop-holds c = start _ _ _ (c .before .before .before .pre)
-
-sub-put : tie.Need-sub-put Inv-loop μ-loop
-sub-put c = omega (arith, fits (c .before .loop .inv) (omega (arith, c .loop-test .taken)))
-
-part-put-start : tie.Need-part-put-start Inv-loop μ-loop
-part-put-start c = omega (arith, fits (c .before .loop .inv) (omega (arith, c .loop-test .taken)))
-
-put-requires : tie.Need-put-requires Inv-loop μ-loop
-put-requires c κs =
-    let l = c .before in
-    let v = l .before .loop .inv in
-    (row-whole (v .walk) (omega (arith, l .loop-test .taken)), (row-good (v .walk) (omega (arith, l .loop-test .taken)), rest-fits v (omega (arith, l .loop-test .taken))))
-
-add-j : tie.Need-add-j Inv-loop μ-loop
-add-j c =
-    let q = c .before .before in
-    let l = q .before .before in
-    omega (arith, q .put .ensures .0, fits (l .before .loop .inv) (omega (arith, l .loop-test .taken)))
-
-add-p : tie.Need-add-p Inv-loop μ-loop
-add-p c = let l = c .before .before .before .before in omega (arith, inside (l .before .loop .inv) (omega (arith, l .loop-test .taken)))
-
-loop-again : tie.Need-loop-again Inv-loop μ-loop
-loop-again c =
-    let q = c .before .before in
-    let l = q .before .before in
-    again (l .before .loop .inv) (omega (arith, l .loop-test .taken)) (q .put .ensures .0) (q .put .ensures .1)
-
-same-length : tie.Need-same-length Inv-loop μ-loop
-same-length c = c .before .loop .inv .same
-
-returns : tie.Need-returns Inv-loop μ-loop
-returns c = done (c .before .loop .inv) (omega (arith, c .loop-test .left))
-
 pub put-rows-spec : {M : Type 1} → statement M
 put-rows-spec =
     tie.close
     (tie.spec
-    Inv-loop
-    μ-loop
-    shared-slice-read-left
-    loop-holds
-    sub-put
-    part-put-start
+    Inv-loop μ-loop
+    (λ c. let s = c .before .before .before in omega (arith, board-long (s .args .board .now) (s .pre .good)))
+    (λ c. start _ _ _ (c .before .before .before .pre))
+    (λ c. omega (arith, fits (c .before .loop .inv) (omega (arith, c .loop-test .taken))))
+    (λ c. omega (arith, fits (c .before .loop .inv) (omega (arith, c .loop-test .taken))))
     (λ c. search needs)
-    put-requires
-    add-j
-    add-p
-    (λ c. search needs)
-    (λ c. search needs)
-    loop-again
-    same-length
-    returns)
+    (λ c κs. let l = c .before in
+    let v = l .before .loop .inv in
+    (row-whole (v .walk) (omega (arith, l .loop-test .taken)), (row-good (v .walk) (omega (arith, l .loop-test .taken)), rest-fits v (omega (arith, l .loop-test .taken)))))
+    (λ c. let q = c .before .before in
+    let l = q .before .before in
+    omega (arith, q .put .ensures .0, fits (l .before .loop .inv) (omega (arith, l .loop-test .taken))))
+    (λ c. let l = c .before .before .before .before in omega (arith, inside (l .before .loop .inv) (omega (arith, l .loop-test .taken))))
+    (λ c. search needs) (λ c. search needs)
+    (λ c. let q = c .before .before in
+    let l = q .before .before in
+    again (l .before .loop .inv) (omega (arith, l .loop-test .taken)) (q .put .ensures .0) (q .put .ensures .1))
+    (λ c. c .before .loop .inv .same)
+    (λ c. done (c .before .loop .inv) (omega (arith, c .loop-test .left))))

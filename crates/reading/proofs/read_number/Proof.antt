@@ -10,20 +10,12 @@ use Rattle.reading.proofs.read_number.Tie as tie
 returns : tie.Need-returns
 returns c = number-none _ _ (sym (c .before .mark .ensures) ∙ c .if1 .taken)
 
-returns-2 : tie.Need-returns-2
-unfolding readIn readMark follows barred
-returns-2 c = rw (← (c .before .before .mark .ensures), ne-eqb _ _ (c .if2 .taken))
-
-returns-3 : tie.Need-returns-3
-unfolding readIn readMark follows barred
-returns-3 c = rw (← (c .before .before .mark .ensures), eq-eqb _ _ (c .if2 .left), ne-eqb _ _ (c .before .if1 .left))
-
 pub read-number-spec : {M : Type 1} → statement M
+unfolding readIn readMark follows barred
 read-number-spec =
     tie.close
     (tie.spec
-    (λ c κs. search needs)
-    returns
-    returns-2
+    (λ c κs. search needs) returns
+    (λ c. rw (← (c .before .before .mark .ensures), ne-eqb _ _ (c .if2 .taken)))
     (λ c. search needs)
-    returns-3)
+    (λ c. rw (← (c .before .before .mark .ensures), eq-eqb _ _ (c .if2 .left), ne-eqb _ _ (c .before .if1 .left))))

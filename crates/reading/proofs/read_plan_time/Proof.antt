@@ -6,26 +6,14 @@ use borrow.Author.Needs.{needs}
 use Rattle.reading.proofs.read_plan_time.Statement.{statement}
 use Rattle.reading.proofs.read_plan_time.Tie as tie
 
-returns : tie.Need-returns
-returns c = plan-time-none _ _ (sym (c .enum-told .given .1) ∙ c .before .before .read .ensures)
-
-returns-2 : tie.Need-returns-2
-returns-2 c = plan-time-barred _ _ (not-so (c .before .follows .ensures) (c .if1 .taken))
-
-returns-3 : tie.Need-returns-3
-returns-3 c =
-    let c₃ = c .before .before .before in
-    let c₅ = c₃ .before .before in
-    plan-time-read _ _ (sym (c₃ .time .given .1) ∙ c₅ .read .ensures) (so (c .before .follows .ensures) (c .if1 .left))
-
 pub read-plan-time-spec : {M : Type 1} → statement M
 read-plan-time-spec =
     tie.close
     (tie.spec
+    (λ c κs. search needs) (λ c. search needs) (λ c. search needs)
+    (λ c. plan-time-none _ _ (sym (c .enum-told .given .1) ∙ c .before .before .read .ensures))
     (λ c κs. search needs)
-    (λ c. search needs)
-    (λ c. search needs)
-    returns
-    (λ c κs. search needs)
-    returns-2
-    returns-3)
+    (λ c. plan-time-barred _ _ (not-so (c .before .follows .ensures) (c .if1 .taken)))
+    (λ c. let c₃ = c .before .before .before in
+    let c₅ = c₃ .before .before in
+    plan-time-read _ _ (sym (c₃ .time .given .1) ∙ c₅ .read .ensures) (so (c .before .follows .ensures) (c .if1 .left))))

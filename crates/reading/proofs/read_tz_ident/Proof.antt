@@ -9,8 +9,6 @@ pub read-tz-ident-spec : {M : Type 1} → statement M
 read-tz-ident-spec =
     tie.close
     (tie.spec
-    (λ c κs. search needs)
-    (λ c. search needs)
-    (λ c. search needs)
+    (λ c κs. search needs) (λ c. search needs) (λ c. search needs)
     (λ c. ap ofIdent (sym (c .enum-told .given .1) ∙ c .before .before .read-tz .ensures))
     (λ c. ap ofIdent (sym (c .before .ident .given .1) ∙ c .before .before .before .read-tz .ensures)))

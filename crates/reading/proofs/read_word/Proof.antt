@@ -9,8 +9,6 @@ pub read-word-spec : {M : Type 1} → statement M
 read-word-spec =
     tie.close
     (tie.spec
-    (λ c κs. search needs)
-    (λ c. search needs)
-    (λ c. search needs)
+    (λ c κs. search needs) (λ c. search needs) (λ c. search needs)
     (λ c. ap ofWord (sym (c .enum-told .given .1) ∙ c .before .before .read .ensures))
     (λ c. ap ofWord (sym (c .before .word .given .1) ∙ c .before .before .before .read .ensures)))

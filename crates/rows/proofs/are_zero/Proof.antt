@@ -3,14 +3,10 @@ use borrow.Author.Tests.{eq-eqb, ne-eqb}
 use Rattle.rows.proofs.are_zero.Statement.{statement}
 use Rattle.rows.proofs.are_zero.Tie as tie
 
-returns : tie.Need-returns
-returns c = rw (ne-eqb _ _ (c .if1 .taken))
-
-returns-2 : tie.Need-returns-2
-returns-2 c = rw (eq-eqb _ _ (c .before .if1 .left), ne-eqb _ _ (c .if2 .taken))
-
-returns-3 : tie.Need-returns-3
-returns-3 c = rw (eq-eqb _ _ (c .before .if1 .left), eq-eqb _ _ (c .if2 .left))
-
 pub are-zero-spec : {M : Type 1} → statement M
-are-zero-spec = tie.close (tie.spec returns returns-2 returns-3)
+are-zero-spec =
+    tie.close
+    (tie.spec
+    (λ c. rw (ne-eqb _ _ (c .if1 .taken)))
+    (λ c. rw (eq-eqb _ _ (c .before .if1 .left), ne-eqb _ _ (c .if2 .taken)))
+    (λ c. rw (eq-eqb _ _ (c .before .if1 .left), eq-eqb _ _ (c .if2 .left))))

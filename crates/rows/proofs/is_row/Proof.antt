@@ -6,41 +6,22 @@ use borrow.Author.Needs.{needs}
 use Rattle.rows.proofs.is_row.Statement.{statement}
 use Rattle.rows.proofs.is_row.Tie as tie
 
-returns : tie.Need-returns
-returns c = rw (test-there, not-so (c .before .holds .ensures) (c .if1 .taken))
-
-returns-2 : tie.Need-returns-2
-returns-2 c =
-    let k = c .before .before in
-    rw (test-there, so (k .before .holds .ensures) (k .if1 .left), not-so (c .before .is-arrival-at .ensures) (c .if2 .taken))
-
-returns-3 : tie.Need-returns-3
-returns-3 c =
-    let a = c .before .before in
-    let k = a .before .before in
-    rw (test-there, so (k .before .holds .ensures) (k .if1 .left), so (a .before .is-arrival-at .ensures) (a .if2 .left), not-so (c .before .is-track-at .ensures) (c .if3 .taken))
-
-returns-4 : tie.Need-returns-4
-returns-4 c =
-    let t = c .before in
-    let a = t .before .before in
-    let k = a .before .before in
-    c .is-whole .ensures
-    ∙ rw (test-there, so (k .before .holds .ensures) (k .if1 .left), so (a .before .is-arrival-at .ensures) (a .if2 .left), so (t .before .is-track-at .ensures) (t .if3 .left))
-
 pub is-row-spec : {M : Type 1} → statement M
 is-row-spec =
     tie.close
     (tie.spec
-    (λ c. search needs)
-    (λ c. search needs)
+    (λ c. search needs) (λ c. search needs) (λ c κs. search needs)
+    (λ c. rw (test-there, not-so (c .before .holds .ensures) (c .if1 .taken)))
+    (λ c. search needs) (λ c κs. search needs)
+    (λ c. let k = c .before .before in
+    rw (test-there, so (k .before .holds .ensures) (k .if1 .left), not-so (c .before .is-arrival-at .ensures) (c .if2 .taken)))
+    (λ c. search needs) (λ c κs. search needs)
+    (λ c. let a = c .before .before in
+    let k = a .before .before in
+    rw (test-there, so (k .before .holds .ensures) (k .if1 .left), so (a .before .is-arrival-at .ensures) (a .if2 .left), not-so (c .before .is-track-at .ensures) (c .if3 .taken)))
     (λ c κs. search needs)
-    returns
-    (λ c. search needs)
-    (λ c κs. search needs)
-    returns-2
-    (λ c. search needs)
-    (λ c κs. search needs)
-    returns-3
-    (λ c κs. search needs)
-    returns-4)
+    (λ c. let t = c .before in
+    let a = t .before .before in
+    let k = a .before .before in
+    c .is-whole .ensures
+    ∙ rw (test-there, so (k .before .holds .ensures) (k .if1 .left), so (a .before .is-arrival-at .ensures) (a .if2 .left), so (t .before .is-track-at .ensures) (t .if3 .left))))

@@ -5,36 +5,14 @@ use borrow.Author.Needs.{needs}
 use Rattle.rows.proofs.is_whole.Statement.{statement}
 use Rattle.rows.proofs.is_whole.Tie as tie
 
-returns : tie.Need-returns
-returns c = rw (not-so (c .before .has-entry .ensures) (c .if1 .taken))
-
-returns-2 : tie.Need-returns-2
-returns-2 c =
-    let h = c .before .before in
-    rw (so (h .before .has-entry .ensures) (h .if1 .left), ne-eqb _ _ (c .if2 .taken))
-
-returns-3 : tie.Need-returns-3
-returns-3 c =
-    let h = c .before .before .before in
-    rw (so (h .before .has-entry .ensures) (h .if1 .left), eq-eqb _ _ (c .before .if2 .left))
-
 pub is-whole-spec : {M : Type 1} → statement M
 is-whole-spec =
     tie.close
     (tie.spec
-    (λ c. search needs)
-    (λ c. search needs)
-    (λ c. search needs)
-    (λ c. search needs)
-    (λ c. search needs)
-    (λ c. search needs)
-    (λ c κs. search needs)
-    returns
-    (λ c. search needs)
-    (λ c. search needs)
-    (λ c. search needs)
-    returns-2
-    (λ c. search needs)
-    (λ c. search needs)
-    (λ c. search needs)
-    returns-3)
+    (λ c. search needs) (λ c. search needs) (λ c. search needs) (λ c. search needs) (λ c. search needs)
+    (λ c. search needs) (λ c κs. search needs)
+    (λ c. rw (not-so (c .before .has-entry .ensures) (c .if1 .taken)))
+    (λ c. search needs) (λ c. search needs) (λ c. search needs)
+    (λ c. let h = c .before .before in rw (so (h .before .has-entry .ensures) (h .if1 .left), ne-eqb _ _ (c .if2 .taken)))
+    (λ c. search needs) (λ c. search needs) (λ c. search needs)
+    (λ c. let h = c .before .before .before in rw (so (h .before .has-entry .ensures) (h .if1 .left), eq-eqb _ _ (c .before .if2 .left))))

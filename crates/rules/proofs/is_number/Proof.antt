@@ -8,28 +8,13 @@ use Rattle.rules.proofs.Runs.{number-runs}
 use Rattle.rules.proofs.is_number.Statement.{statement}
 use Rattle.rules.proofs.is_number.Tie as tie
 
-returns : tie.Need-returns
-returns c = sym (fits-apart _ _ (λ e. c .if1 .taken (sym e)))
-
-slice-aggregate-run : tie.Need-slice-aggregate-run
-slice-aggregate-run c = simp length-take (omega arith)
-
-returns-2 : tie.Need-returns-2
-returns-2 c =
-    let c₃ = c .before .before .before in
-    c .is-of .ensures ∙ rw (number-runs _ (c₃ .before .before .if1 .left), sym (c₃ .run .ensures) ∙ c .before .before .if2 .taken)
-
-returns-3 : tie.Need-returns-3
-returns-3 c = c .if2 .left ∙ rw (number-runs _ (c .before .before .before .if1 .left), sym (c .before .run .ensures) ∙ c .if2 .left)
-
 pub is-number-spec : {M : Type 1} → statement M
 is-number-spec =
     tie.close
     (tie.spec
-    returns
-    slice-aggregate-run
-    (λ c κs. search needs)
-    (λ c. search needs)
-    (λ c κs. search needs)
-    returns-2
-    returns-3)
+    (λ c. sym (fits-apart _ _ (λ e. c .if1 .taken (sym e))))
+    (λ c. simp length-take (omega arith))
+    (λ c κs. search needs) (λ c. search needs) (λ c κs. search needs)
+    (λ c. let c₃ = c .before .before .before in
+    c .is-of .ensures ∙ rw (number-runs _ (c₃ .before .before .if1 .left), sym (c₃ .run .ensures) ∙ c .before .before .if2 .taken))
+    (λ c. c .if2 .left ∙ rw (number-runs _ (c .before .before .before .if1 .left), sym (c .before .run .ensures) ∙ c .if2 .left)))

@@ -7,41 +7,20 @@ use borrow.Author.Needs.{needs}
 use Rattle.showing.proofs.put_field.Statement.{statement}
 use Rattle.showing.proofs.put_field.Tie as tie
 
-returns : tie.Need-returns
-unfolding isValue shown
-returns c =
-    let c₂ = c .before .before in
-    let c₄ = c₂ .before .before in
-    rw (ne-eqb _ _ (c₄ .before .if1 .taken), ← (c₄ .plain .ensures)) (c₂ .put-kind .ensures)
-
-returns-2 : tie.Need-returns-2
-unfolding isValue isOne
-returns-2 c = no-text _ _ _ (rw (c .before .before .if1 .left, ne-eqb _ _ (c .if2 .taken), and-false))
-
-returns-3 : tie.Need-returns-3
-unfolding isValue isOne
-returns-3 c =
-    let c₂ = c .before .before in
-    no-text _ _ _ (rw (c₂ .before .before .if1 .left, eq-eqb _ _ (c₂ .if2 .left), ne-eqb _ _ (c .if3 .taken), and-false))
-
-returns-4 : tie.Need-returns-4
-unfolding isValue shown isOne
-returns-4 c =
-    let c₂ = c .before .before in
-    let c₄ = c₂ .before .before in
-    let c₆ = c₄ .before .before in
-    rw (c₆ .before .before .if1 .left, eq-eqb _ _ (c₆ .if2 .left), eq-eqb _ _ (c₄ .if3 .left), and-true) (c₂ .put-mark .ensures)
-
 pub put-field-spec : {M : Type 1} → statement M
+unfolding isValue shown isOne
 put-field-spec =
     tie.close
     (tie.spec
-    (λ c κs. search needs)
-    (λ c κs. search needs)
-    (λ c. search needs)
-    returns
-    returns-2
-    returns-3
-    (λ c κs. search needs)
-    (λ c. search needs)
-    returns-4)
+    (λ c κs. search needs) (λ c κs. search needs) (λ c. search needs)
+    (λ c. let c₂ = c .before .before in
+    let c₄ = c₂ .before .before in
+    rw (ne-eqb _ _ (c₄ .before .if1 .taken), ← (c₄ .plain .ensures)) (c₂ .put-kind .ensures))
+    (λ c. no-text _ _ _ (rw (c .before .before .if1 .left, ne-eqb _ _ (c .if2 .taken), and-false)))
+    (λ c. let c₂ = c .before .before in
+    no-text _ _ _ (rw (c₂ .before .before .if1 .left, eq-eqb _ _ (c₂ .if2 .left), ne-eqb _ _ (c .if3 .taken), and-false)))
+    (λ c κs. search needs) (λ c. search needs)
+    (λ c. let c₂ = c .before .before in
+    let c₄ = c₂ .before .before in
+    let c₆ = c₄ .before .before in
+    rw (c₆ .before .before .if1 .left, eq-eqb _ _ (c₆ .if2 .left), eq-eqb _ _ (c₄ .if3 .left), and-true) (c₂ .put-mark .ensures)))

@@ -33,24 +33,14 @@ some m d e n = go (isMark m) refl
     go true q = (q, rw q at e)
     go false q = absurd (n (ap (λ (s : List ℕ). getD s 0 0) (rw q at e)))
 
-returns : tie.Need-returns
-returns c = no-text _ _ _ (none _ _ (c .before .number .ensures) (c .if1 .taken))
-
-returns-2 : tie.Need-returns-2
-returns-2 c =
-    let c₂ = c .before .before in
-    let c₅ = c₂ .before .before .before in
-    let p = some _ _ (c₅ .before .number .ensures) (c₅ .if1 .left) in
-    rw (p .0, ← (p .1)) (c₂ .put-bytes .ensures)
-
 pub put-mark-spec : {M : Type 1} → statement M
 put-mark-spec =
     tie.close
     (tie.spec
-    (λ c κs. search needs)
-    (λ c. search needs)
-    returns
-    (λ c. search needs)
-    (λ c κs. search needs)
-    (λ c. search needs)
-    returns-2)
+    (λ c κs. search needs) (λ c. search needs)
+    (λ c. no-text _ _ _ (none _ _ (c .before .number .ensures) (c .if1 .taken)))
+    (λ c. search needs) (λ c κs. search needs) (λ c. search needs)
+    (λ c. let c₂ = c .before .before in
+    let c₅ = c₂ .before .before .before in
+    let p = some _ _ (c₅ .before .number .ensures) (c₅ .if1 .left) in
+    rw (p .0, ← (p .1)) (c₂ .put-bytes .ensures)))

@@ -7,48 +7,25 @@ use borrow.Author.Needs.{needs}
 use Rattle.showing.proofs.put_route.Statement.{statement}
 use Rattle.showing.proofs.put_route.Tie as tie
 
-returns : tie.Need-returns
-returns c = no-text _ _ _ (rw (not-so (c .before .is-route .ensures) (c .if1 .taken)))
-
-returns-2 : tie.Need-returns-2
-returns-2 c =
-    let c₂ = c .before .before in
-    no-text _ _ _ (rw (so (c₂ .before .is-route .ensures) (c₂ .if1 .left), ne-eqb _ _ (c .if2 .taken)))
-
-returns-3 : tie.Need-returns-3
-unfolding isOne
-returns-3 c =
-    let c₂ = c .before .before in
-    let c₄ = c₂ .before .before in
-    no-text _ _ _ (rw (so (c₄ .before .is-route .ensures) (c₄ .if1 .left), eq-eqb _ _ (c₂ .if2 .left), ne-eqb _ _ (c .if3 .taken)))
-
-returns-4 : tie.Need-returns-4
-unfolding isOne
-returns-4 c =
-    let c₂ = c .before .before in
-    let c₄ = c₂ .before .before in
-    let c₆ = c₄ .before .before in
-    no-text _ _ _ (rw (so (c₆ .before .is-route .ensures) (c₆ .if1 .left), eq-eqb _ _ (c₄ .if2 .left), eq-eqb _ _ (c₂ .if3 .left), ne-eqb _ _ (c .if4 .taken)))
-
-returns-5 : tie.Need-returns-5
-unfolding isOne
-returns-5 c =
-    let c₂ = c .before .before in
-    let c₄ = c₂ .before .before in
-    let c₆ = c₄ .before .before in
-    let c₈ = c₆ .before .before in
-    let c₁₀ = c₈ .before .before in
-    rw (so (c₁₀ .before .is-route .ensures) (c₁₀ .if1 .left), eq-eqb _ _ (c₈ .if2 .left), eq-eqb _ _ (c₆ .if3 .left), eq-eqb _ _ (c₄ .if4 .left)) (c₂ .put-bytes .ensures)
-
 pub put-route-spec : {M : Type 1} → statement M
+unfolding isOne
 put-route-spec =
     tie.close
     (tie.spec
     (λ c κs. search needs)
-    returns
-    returns-2
-    returns-3
-    returns-4
-    (λ c κs. search needs)
-    (λ c. search needs)
-    returns-5)
+    (λ c. no-text _ _ _ (rw (not-so (c .before .is-route .ensures) (c .if1 .taken))))
+    (λ c. let c₂ = c .before .before in no-text _ _ _ (rw (so (c₂ .before .is-route .ensures) (c₂ .if1 .left), ne-eqb _ _ (c .if2 .taken))))
+    (λ c. let c₂ = c .before .before in
+    let c₄ = c₂ .before .before in
+    no-text _ _ _ (rw (so (c₄ .before .is-route .ensures) (c₄ .if1 .left), eq-eqb _ _ (c₂ .if2 .left), ne-eqb _ _ (c .if3 .taken))))
+    (λ c. let c₂ = c .before .before in
+    let c₄ = c₂ .before .before in
+    let c₆ = c₄ .before .before in
+    no-text _ _ _ (rw (so (c₆ .before .is-route .ensures) (c₆ .if1 .left), eq-eqb _ _ (c₄ .if2 .left), eq-eqb _ _ (c₂ .if3 .left), ne-eqb _ _ (c .if4 .taken))))
+    (λ c κs. search needs) (λ c. search needs)
+    (λ c. let c₂ = c .before .before in
+    let c₄ = c₂ .before .before in
+    let c₆ = c₄ .before .before in
+    let c₈ = c₆ .before .before in
+    let c₁₀ = c₈ .before .before in
+    rw (so (c₁₀ .before .is-route .ensures) (c₁₀ .if1 .left), eq-eqb _ _ (c₈ .if2 .left), eq-eqb _ _ (c₆ .if3 .left), eq-eqb _ _ (c₄ .if4 .left)) (c₂ .put-bytes .ensures)))

@@ -7,27 +7,14 @@ use borrow.Author.Needs.{needs}
 use Rattle.showing.proofs.put_word.Statement.{statement}
 use Rattle.showing.proofs.put_word.Tie as tie
 
-returns : tie.Need-returns
-unfolding isOne
-returns c = no-text _ _ _ (rw (ne-eqb _ _ (c .if1 .taken), and-false))
-
-returns-2 : tie.Need-returns-2
-unfolding isOne
-returns-2 c = no-text _ _ _ (rw (eq-eqb _ _ (c .before .before .if1 .left), ne-eqb _ _ (c .if2 .taken), and-false))
-
-returns-3 : tie.Need-returns-3
-unfolding isOne
-returns-3 c =
-    let c₂ = c .before .before in
-    let c₄ = c₂ .before .before in
-    rw (eq-eqb _ _ (c₄ .before .before .if1 .left), eq-eqb _ _ (c₄ .if2 .left), and-true) (c₂ .put .ensures)
-
 pub put-word-spec : {M : Type 1} → statement M
+unfolding isOne
 put-word-spec =
     tie.close
     (tie.spec
-    returns
-    returns-2
-    (λ c κs. search needs)
-    (λ c. search needs)
-    returns-3)
+    (λ c. no-text _ _ _ (rw (ne-eqb _ _ (c .if1 .taken), and-false)))
+    (λ c. no-text _ _ _ (rw (eq-eqb _ _ (c .before .before .if1 .left), ne-eqb _ _ (c .if2 .taken), and-false)))
+    (λ c κs. search needs) (λ c. search needs)
+    (λ c. let c₂ = c .before .before in
+    let c₄ = c₂ .before .before in
+    rw (eq-eqb _ _ (c₄ .before .before .if1 .left), eq-eqb _ _ (c₄ .if2 .left), and-true) (c₂ .put .ensures)))

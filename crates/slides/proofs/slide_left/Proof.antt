@@ -15,36 +15,6 @@ Inv-loop s₀ p n w j₀ s j = (j ≤ n) × (length s ≡ length s₀) × (s ≡
 abbrev μ-loop : tie.MeasureT-loop
 μ-loop s₀ p n w j₀ s j = n - j
 
-loop-holds : tie.Need-loop-holds Inv-loop μ-loop
-loop-holds c = (search needs, refl, slid-left-none _ _ _)
-
-add-s : tie.Need-add-s Inv-loop μ-loop
-add-s c = search needs
-
-add-s-2 : tie.Need-add-s-2 Inv-loop μ-loop
-add-s-2 c = search needs
-
-mul-s : tie.Need-mul-s Inv-loop μ-loop
-mul-s c = search needs
-
-slice-read-s : tie.Need-slice-read-s Inv-loop μ-loop
-slice-read-s c = search needs
-
-add-s-3 : tie.Need-add-s-3 Inv-loop μ-loop
-add-s-3 c = search needs
-
-mul-s-2 : tie.Need-mul-s-2 Inv-loop μ-loop
-mul-s-2 c = search needs
-
-slice-write-s : tie.Need-slice-write-s Inv-loop μ-loop
-slice-write-s c = search needs
-
-add-j : tie.Need-add-j Inv-loop μ-loop
-add-j c = search needs
-
-loop-less : tie.Need-loop-less Inv-loop μ-loop
-loop-less c = search needs
-
 loop-again : tie.Need-loop-again Inv-loop μ-loop
 loop-again c = (
   omega arith,
@@ -52,30 +22,12 @@ loop-again c = (
   slid-left-turn _ _ _ _ _ (omega arith) (c .before .before .loop .inv .2),
 )
 
-same-length : tie.Need-same-length Inv-loop μ-loop
-same-length c = search needs
-
-returns : tie.Need-returns Inv-loop μ-loop
-returns c =
-    let e : c .before .loop .j ≡ c .before .before .args .n = omega arith in
-    rw e at (c .before .loop .inv .2)
-
 pub slide-left-spec : {M : Type 1} → statement M
 slide-left-spec =
     tie.close
     (tie.spec
-    Inv-loop
-    μ-loop
-    loop-holds
-    add-s
-    add-s-2
-    mul-s
-    slice-read-s
-    add-s-3
-    mul-s-2
-    slice-write-s
-    add-j
-    loop-less
-    loop-again
-    same-length
-    returns)
+    Inv-loop μ-loop
+    (λ c. (search needs, refl, slid-left-none _ _ _))
+    (λ c. search needs) (λ c. search needs) (λ c. search needs) (λ c. search needs) (λ c. search needs)
+    (λ c. search needs) (λ c. search needs) (λ c. search needs) (λ c. search needs) loop-again (λ c. search needs)
+    (λ c. let e : c .before .loop .j ≡ c .before .before .args .n = omega arith in rw e at (c .before .loop .inv .2)))

@@ -51,65 +51,19 @@ Inv-loop words n₀ k₀ n k = Inv words n k
 abbrev μ-loop : tie.MeasureT-loop
 μ-loop words n₀ k₀ n k = 7 - k
 
-loop-holds : tie.Need-loop-holds Inv-loop μ-loop
-loop-holds c = start _ (c .before .pre)
-
-mul-part-size : tie.Need-mul-part-size Inv-loop μ-loop
-mul-part-size c = omega arith
-
-shared-slice-read-part-size : tie.Need-shared-slice-read-part-size Inv-loop μ-loop
-shared-slice-read-part-size c = let l = c .before in omega (arith, l .before .loop .inv .eight .count)
-
-part-size-requires : tie.Need-part-size-requires Inv-loop μ-loop
-part-size-requires c κs = packed (c .before .before .loop .inv)
-
-add-n : tie.Need-add-n Inv-loop μ-loop
-add-n c = let l = c .before .before in omega (arith, c .part-size .ensures, next (l .before .loop .inv) (l .loop-test .taken), short (l .before .loop .inv))
-
-add-n-2 : tie.Need-add-n-2 Inv-loop μ-loop
-add-n-2 c = let l = c .before .before in omega (arith, c .part-size .ensures, next (l .before .loop .inv) (l .loop-test .taken), short (l .before .loop .inv))
-
-add-k : tie.Need-add-k Inv-loop μ-loop
-add-k c = omega arith
-
-loop-less : tie.Need-loop-less Inv-loop μ-loop
-loop-less c = omega arith
-
-loop-again : tie.Need-loop-again Inv-loop μ-loop
-loop-again c = let l = c .before .before in again (l .before .loop .inv) (l .loop-test .taken) (c .part-size .ensures)
-
-shared-slice-read-part-size-2 : tie.Need-shared-slice-read-part-size-2 Inv-loop μ-loop
-shared-slice-read-part-size-2 c = let l = c .before in omega (arith, l .before .loop .inv .eight .count)
-
-part-size-requires-2 : tie.Need-part-size-requires-2 Inv-loop μ-loop
-part-size-requires-2 c κs = let l = c .before in packed-last (l .before .loop .inv) (l .loop-test .left)
-
-add-result : tie.Need-add-result Inv-loop μ-loop
-add-result c = let l = c .before .before in omega (arith, c .part-size2 .ensures, done (l .before .loop .inv) (l .loop-test .left), short (l .before .loop .inv))
-
-add-result-2 : tie.Need-add-result-2 Inv-loop μ-loop
-add-result-2 c = let l = c .before .before in omega (arith, c .part-size2 .ensures, done (l .before .loop .inv) (l .loop-test .left), short (l .before .loop .inv))
-
-returns : tie.Need-returns Inv-loop μ-loop
-returns c = let l = c .before .before in omega (arith, c .part-size2 .ensures, done (l .before .loop .inv) (l .loop-test .left))
-
 pub line-size-spec : {M : Type 1} → statement M
 line-size-spec =
     tie.close
     (tie.spec
-    Inv-loop
-    μ-loop
-    loop-holds
-    mul-part-size
-    shared-slice-read-part-size
-    part-size-requires
-    add-n
-    add-n-2
-    add-k
-    loop-less
-    loop-again
-    shared-slice-read-part-size-2
-    part-size-requires-2
-    add-result
-    add-result-2
-    returns)
+    Inv-loop μ-loop (λ c. start _ (c .before .pre)) (λ c. omega arith)
+    (λ c. let l = c .before in omega (arith, l .before .loop .inv .eight .count))
+    (λ c κs. packed (c .before .before .loop .inv))
+    (λ c. let l = c .before .before in omega (arith, c .part-size .ensures, next (l .before .loop .inv) (l .loop-test .taken), short (l .before .loop .inv)))
+    (λ c. let l = c .before .before in omega (arith, c .part-size .ensures, next (l .before .loop .inv) (l .loop-test .taken), short (l .before .loop .inv)))
+    (λ c. omega arith) (λ c. omega arith)
+    (λ c. let l = c .before .before in again (l .before .loop .inv) (l .loop-test .taken) (c .part-size .ensures))
+    (λ c. let l = c .before in omega (arith, l .before .loop .inv .eight .count))
+    (λ c κs. let l = c .before in packed-last (l .before .loop .inv) (l .loop-test .left))
+    (λ c. let l = c .before .before in omega (arith, c .part-size2 .ensures, done (l .before .loop .inv) (l .loop-test .left), short (l .before .loop .inv)))
+    (λ c. let l = c .before .before in omega (arith, c .part-size2 .ensures, done (l .before .loop .inv) (l .loop-test .left), short (l .before .loop .inv)))
+    (λ c. let l = c .before .before in omega (arith, c .part-size2 .ensures, done (l .before .loop .inv) (l .loop-test .left))))

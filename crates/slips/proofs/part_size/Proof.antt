@@ -6,26 +6,12 @@ use Rattle.slips.proofs.Lines.{part-none, size-some, size-never}
 use Rattle.slips.proofs.part_size.Statement.{statement}
 use Rattle.slips.proofs.part_size.Tie as tie
 
-returns : tie.Need-returns
-returns c = sym (ap length (part-none _ (c .if1 .taken)))
-
-returns-2 : tie.Need-returns-2
-returns-2 c =
-    let e = c .before .before .before in
-    size-some _ (e .before .before .pre) (e .before .if1 .left) (sym (e .size .ensures) ∙ c .before .found .given .1)
-
-returns-3 : tie.Need-returns-3
-returns-3 c =
-    let e = c .before .before in
-    size-never _ (e .before .before .pre) (e .before .if1 .left) (sym (e .size .ensures) ∙ c .enum-told .given .1)
-
 pub part-size-spec : {M : Type 1} → statement M
 part-size-spec =
     tie.close
     (tie.spec
-    returns
-    (λ c κs. search needs)
-    (λ c. search needs)
-    (λ c. search needs)
-    returns-2
-    returns-3)
+    (λ c. sym (ap length (part-none _ (c .if1 .taken))))
+    (λ c κs. search needs) (λ c. search needs) (λ c. search needs)
+    (λ c. let e = c .before .before .before in
+    size-some _ (e .before .before .pre) (e .before .if1 .left) (sym (e .size .ensures) ∙ c .before .found .given .1))
+    (λ c. let e = c .before .before in size-never _ (e .before .before .pre) (e .before .if1 .left) (sym (e .size .ensures) ∙ c .enum-told .given .1)))

@@ -7,26 +7,17 @@ use Rattle.slips.proofs.Rows.{eight-there, slip-there, room-there}
 use Rattle.slips.proofs.put.Statement.{statement}
 use Rattle.slips.proofs.put.Tie as tie
 
-put-line-requires : tie.Need-put-line-requires
-put-line-requires c κs =
-    let p = c .before .before in
-    let s = p .before .before .before in
-    (eight-there _ _ (s .pre .0) (s .pre .1 .0) (p .parts .ensures), room-there _ _ (s .pre .0) (s .pre .1 .0) (p .parts .ensures) (s .pre .1 .1))
-
-returns : tie.Need-returns
-returns c =
-    let q = c .before .before in
-    let p = q .before .before .before in
-    let s = p .before .before .before in
-    let e = slip-there _ _ (s .pre .0) (s .pre .1 .0) (p .parts .ensures) in
-    (q .put-line .ensures .0 ∙ ap length e, q .put-line .ensures .1 ∙ ap (spliced _ 0) e)
-
 pub put-spec : {M : Type 1} → statement M
 put-spec =
     tie.close
     (tie.spec
-    (λ c κs. search needs)
+    (λ c κs. search needs) (λ c. search needs)
+    (λ c κs. let p = c .before .before in
+    let s = p .before .before .before in
+    (eight-there _ _ (s .pre .0) (s .pre .1 .0) (p .parts .ensures), room-there _ _ (s .pre .0) (s .pre .1 .0) (p .parts .ensures) (s .pre .1 .1)))
     (λ c. search needs)
-    put-line-requires
-    (λ c. search needs)
-    returns)
+    (λ c. let q = c .before .before in
+    let p = q .before .before .before in
+    let s = p .before .before .before in
+    let e = slip-there _ _ (s .pre .0) (s .pre .1 .0) (p .parts .ensures) in
+    (q .put-line .ensures .0 ∙ ap length e, q .put-line .ensures .1 ∙ ap (spliced _ 0) e)))

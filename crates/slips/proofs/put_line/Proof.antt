@@ -77,61 +77,22 @@ Inv-loop words out₀ at₀ k₀ out at k = Inv words out₀ out at k
 abbrev μ-loop : tie.MeasureT-loop
 μ-loop words out₀ at₀ k₀ out at k = 7 - k
 
-loop-holds : tie.Need-loop-holds Inv-loop μ-loop
-loop-holds c = let s = c .before .before in start _ _ (s .pre .0) (s .pre .1)
-
-mul-put-part : tie.Need-mul-put-part Inv-loop μ-loop
-mul-put-part c = omega arith
-
-shared-slice-read-put-part : tie.Need-shared-slice-read-put-part Inv-loop μ-loop
-shared-slice-read-put-part c = omega (arith, c .before .before .loop .inv .eight .count)
-
-put-part-requires : tie.Need-put-part-requires Inv-loop μ-loop
-put-part-requires c κs = let l = c .before .before in (packed (l .before .loop .inv), roomy (l .before .loop .inv) (l .loop-test .taken))
-
-add-k : tie.Need-add-k Inv-loop μ-loop
-add-k c = omega arith
-
-loop-less : tie.Need-loop-less Inv-loop μ-loop
-loop-less c = omega arith
-
-loop-again : tie.Need-loop-again Inv-loop μ-loop
-loop-again c =
-    let p = c .before .before in
-    let l = p .before .before .before in
-    again (l .before .loop .inv) (l .loop-test .taken) (p .put-part .ensures .0) (p .put-part .ensures .1)
-
-shared-slice-read-put-part-2 : tie.Need-shared-slice-read-put-part-2 Inv-loop μ-loop
-shared-slice-read-put-part-2 c = omega (arith, c .before .before .loop .inv .eight .count)
-
-put-part-requires-2 : tie.Need-put-part-requires-2 Inv-loop μ-loop
-put-part-requires-2 c κs = let l = c .before .before in (packed-last (l .before .loop .inv) (l .loop-test .left), roomy-last (l .before .loop .inv) (l .loop-test .left))
-
-same-length : tie.Need-same-length Inv-loop μ-loop
-same-length c =
-    let p = c .before .before in
-    p .put-part2 .kept .1 .1 .0 ∙ p .before .before .before .before .loop .inv .same
-
-returns : tie.Need-returns Inv-loop μ-loop
-returns c =
-    let p = c .before .before in
-    let l = p .before .before .before in
-    (p .put-part2 .ensures .0 ∙ done (l .before .loop .inv) (l .loop-test .left), wrote (l .before .loop .inv) (l .loop-test .left) (p .put-part2 .ensures .1))
-
 pub put-line-spec : {M : Type 1} → statement M
 put-line-spec =
     tie.close
     (tie.spec
-    Inv-loop
-    μ-loop
-    loop-holds
-    mul-put-part
-    shared-slice-read-put-part
-    put-part-requires
-    add-k
-    loop-less
-    loop-again
-    shared-slice-read-put-part-2
-    put-part-requires-2
-    same-length
-    returns)
+    Inv-loop μ-loop
+    (λ c. let s = c .before .before in start _ _ (s .pre .0) (s .pre .1))
+    (λ c. omega arith)
+    (λ c. omega (arith, c .before .before .loop .inv .eight .count))
+    (λ c κs. let l = c .before .before in (packed (l .before .loop .inv), roomy (l .before .loop .inv) (l .loop-test .taken)))
+    (λ c. omega arith) (λ c. omega arith)
+    (λ c. let p = c .before .before in
+    let l = p .before .before .before in
+    again (l .before .loop .inv) (l .loop-test .taken) (p .put-part .ensures .0) (p .put-part .ensures .1))
+    (λ c. omega (arith, c .before .before .loop .inv .eight .count))
+    (λ c κs. let l = c .before .before in (packed-last (l .before .loop .inv) (l .loop-test .left), roomy-last (l .before .loop .inv) (l .loop-test .left)))
+    (λ c. let p = c .before .before in p .put-part2 .kept .1 .1 .0 ∙ p .before .before .before .before .loop .inv .same)
+    (λ c. let p = c .before .before in
+    let l = p .before .before .before in
+    (p .put-part2 .ensures .0 ∙ done (l .before .loop .inv) (l .loop-test .left), wrote (l .before .loop .inv) (l .loop-test .left) (p .put-part2 .ensures .1))))

@@ -6,19 +6,12 @@ use Rattle.slips.proofs.Lines.{put-after}
 use Rattle.slips.proofs.put_part.Statement.{statement}
 use Rattle.slips.proofs.put_part.Tie as tie
 
-returns : tie.Need-returns
-returns c =
-    let p = c .before .before in
-    let s = p .before .before .before in
-    let o = p .put-text .ensures in
-    (ap (λ (n : ℕ). n + 1) (o .0), put-after _ _ _ _ (s .pre .1) (o .0) (o .1))
-
 pub put-part-spec : {M : Type 1} → statement M
 put-part-spec =
     tie.close
     (tie.spec
-    (λ c κs. search needs)
-    (λ c. search needs)
-    (λ c. search needs)
-    (λ c. search needs)
-    returns)
+    (λ c κs. search needs) (λ c. search needs) (λ c. search needs) (λ c. search needs)
+    (λ c. let p = c .before .before in
+    let s = p .before .before .before in
+    let o = p .put-text .ensures in
+    (ap (λ (n : ℕ). n + 1) (o .0), put-after _ _ _ _ (s .pre .1) (o .0) (o .1))))

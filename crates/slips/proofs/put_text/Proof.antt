@@ -7,48 +7,25 @@ use Rattle.slips.proofs.Lines.{part-none, put-none, put-some, put-roomy
 use Rattle.slips.proofs.put_text.Statement.{statement}
 use Rattle.slips.proofs.put_text.Tie as tie
 
-slice-write-out : tie.Need-slice-write-out
-slice-write-out c = omega (arith, ap length (part-none _ (c .if1 .taken)))
-
-returns : tie.Need-returns
-returns c = let s = c .before .before in put-none _ _ _ (s .pre .0) (s .pre .1) (c .if1 .taken)
-
-returns-2 : tie.Need-returns-2
-returns-2 c =
-    let p = c .before .before .before .before .before in
-    let e = p .before .before in
-    let s = e .before .before in
-    put-some _ _ _ (s .pre .0) (s .pre .1) (e .if1 .left) (sym (p .put .ensures .0) ∙ c .before .written .given .1) (p .put .ensures .1)
-
-returns-3 : tie.Need-returns-3
-returns-3 c =
-    let p = c .before .before .before .before in
-    let e = p .before .before in
-    let s = e .before .before in
-    put-roomy _ _ _ (s .pre .0) (s .pre .1) (e .if1 .left) (sym (p .put .ensures .0) ∙ c .enum-told .given .1)
-
-returns-4 : tie.Need-returns-4
-returns-4 c =
-    let p = c .before .before .before .before in
-    let e = p .before .before in
-    let s = e .before .before in
-    put-text _ _ _ (s .pre .0) (s .pre .1) (e .if1 .left) (sym (p .put .ensures .0) ∙ c .enum-told2 .given .1)
-
 pub put-text-spec : {M : Type 1} → statement M
 put-text-spec =
     tie.close
     (tie.spec
-    slice-write-out
+    (λ c. omega (arith, ap length (part-none _ (c .if1 .taken))))
+    (λ c. search needs) (λ c. search needs)
+    (λ c. let s = c .before .before in put-none _ _ _ (s .pre .0) (s .pre .1) (c .if1 .taken))
+    (λ c κs. search needs) (λ c. search needs) (λ c. search needs) (λ c. search needs) (λ c. search needs)
+    (λ c. let p = c .before .before .before .before .before in
+    let e = p .before .before in
+    let s = e .before .before in
+    put-some _ _ _ (s .pre .0) (s .pre .1) (e .if1 .left) (sym (p .put .ensures .0) ∙ c .before .written .given .1) (p .put .ensures .1))
     (λ c. search needs)
+    (λ c. let p = c .before .before .before .before in
+    let e = p .before .before in
+    let s = e .before .before in
+    put-roomy _ _ _ (s .pre .0) (s .pre .1) (e .if1 .left) (sym (p .put .ensures .0) ∙ c .enum-told .given .1))
     (λ c. search needs)
-    returns
-    (λ c κs. search needs)
-    (λ c. search needs)
-    (λ c. search needs)
-    (λ c. search needs)
-    (λ c. search needs)
-    returns-2
-    (λ c. search needs)
-    returns-3
-    (λ c. search needs)
-    returns-4)
+    (λ c. let p = c .before .before .before .before in
+    let e = p .before .before in
+    let s = e .before .before in
+    put-text _ _ _ (s .pre .0) (s .pre .1) (e .if1 .left) (sym (p .put .ensures .0) ∙ c .enum-told2 .given .1)))

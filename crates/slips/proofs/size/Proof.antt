@@ -6,23 +6,12 @@ use Rattle.slips.proofs.Rows.{eight-there, slip-there}
 use Rattle.slips.proofs.size.Statement.{statement}
 use Rattle.slips.proofs.size.Tie as tie
 
-line-size-requires : tie.Need-line-size-requires
-line-size-requires c κs =
-    let p = c .before in
-    let s = p .before .before in
-    eight-there _ _ (s .pre .0) (s .pre .1) (p .parts .ensures)
-
-returns : tie.Need-returns
-returns c =
-    let p = c .before .before in
-    let s = p .before .before in
-    c .line-size .ensures ∙ ap length (slip-there _ _ (s .pre .0) (s .pre .1) (p .parts .ensures))
-
 pub size-spec : {M : Type 1} → statement M
 size-spec =
     tie.close
     (tie.spec
-    (λ c κs. search needs)
-    (λ c. search needs)
-    line-size-requires
-    returns)
+    (λ c κs. search needs) (λ c. search needs)
+    (λ c κs. let p = c .before in let s = p .before .before in eight-there _ _ (s .pre .0) (s .pre .1) (p .parts .ensures))
+    (λ c. let p = c .before .before in
+    let s = p .before .before in
+    c .line-size .ensures ∙ ap length (slip-there _ _ (s .pre .0) (s .pre .1) (p .parts .ensures))))

@@ -5,15 +5,9 @@ use borrow.Author.Needs.{needs}
 use Rattle.heads.proofs.Facility.bytes.Statement.{statement}
 use Rattle.heads.proofs.Facility.bytes.Tie as tie
 
-returns : tie.Need-returns
-returns c = places-four _ (omega arith)
-
 pub bytes-spec : {M : Type 1} → statement M
 bytes-spec =
     tie.close
     (tie.spec
-    (λ c. search needs)
-    (λ c. search needs)
-    (λ c. search needs)
-    (λ c. search needs)
-    returns)
+    (λ c. search needs) (λ c. search needs) (λ c. search needs) (λ c. search needs)
+    (λ c. places-four _ (omega arith)))

@@ -8,15 +8,10 @@ use borrow.Author.Needs.{needs}
 use Rattle.heads.proofs.Facility.holds.Statement.{statement}
 use Rattle.heads.proofs.Facility.holds.Tie as tie
 
-returns : tie.Need-returns
-unfolding isFacilityValue
-returns c = c .is-facility .ensures ∙ rw (c .before .before .bytes .ensures, lt-ltb (c .before .before .before .args .self .0) (256 ^ 4) (omega arith))
-
 pub holds-spec : {M : Type 1} → statement M
+unfolding isFacilityValue
 holds-spec =
     tie.close
     (tie.spec
-    (λ c κs. search needs)
-    (λ c. search needs)
-    (λ c κs. search needs)
-    returns)
+    (λ c κs. search needs) (λ c. search needs) (λ c κs. search needs)
+    (λ c. c .is-facility .ensures ∙ rw (c .before .before .bytes .ensures, lt-ltb (c .before .before .before .args .self .0) (256 ^ 4) (omega arith))))

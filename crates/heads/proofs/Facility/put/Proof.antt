@@ -5,23 +5,13 @@ use borrow.Author.Needs.{needs}
 use Rattle.heads.proofs.Facility.put.Statement.{statement}
 use Rattle.heads.proofs.Facility.put.Tie as tie
 
-returns : tie.Need-returns
-returns c = no-text _ _ _ (not-so (c .before .holds .ensures) (c .if1 .taken))
-
-returns-2 : tie.Need-returns-2
-returns-2 c =
-    let p = c .before .before in
-    let b = p .before .before .before in
-    rw (so (b .before .before .holds .ensures) (b .before .if1 .left), ← (b .bytes .ensures)) (p .put-bytes .ensures)
-
 pub put-spec : {M : Type 1} → statement M
 put-spec =
     tie.close
     (tie.spec
     (λ c κs. search needs)
-    returns
-    (λ c κs. search needs)
-    (λ c. search needs)
-    (λ c κs. search needs)
-    (λ c. search needs)
-    returns-2)
+    (λ c. no-text _ _ _ (not-so (c .before .holds .ensures) (c .if1 .taken)))
+    (λ c κs. search needs) (λ c. search needs) (λ c κs. search needs) (λ c. search needs)
+    (λ c. let p = c .before .before in
+    let b = p .before .before .before in
+    rw (so (b .before .before .holds .ensures) (b .before .if1 .left), ← (b .bytes .ensures)) (p .put-bytes .ensures)))

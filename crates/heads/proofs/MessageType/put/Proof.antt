@@ -4,19 +4,10 @@ use borrow.Author.Needs.{needs}
 use Rattle.heads.proofs.MessageType.put.Statement.{statement}
 use Rattle.heads.proofs.MessageType.put.Tie as tie
 
-returns : tie.Need-returns
-returns c =
-    let p = c .before .before in
-    rw (← (type-letters _ (p .before .before .before .letters .ensures))) (p .put-bytes .ensures)
-
 pub put-spec : {M : Type 1} → statement M
 put-spec =
     tie.close
     (tie.spec
-    (λ c κs. search needs)
+    (λ c κs. search needs) (λ c. search needs) (λ c. search needs) (λ c. search needs) (λ c κs. search needs)
     (λ c. search needs)
-    (λ c. search needs)
-    (λ c. search needs)
-    (λ c κs. search needs)
-    (λ c. search needs)
-    returns)
+    (λ c. let p = c .before .before in rw (← (type-letters _ (p .before .before .before .letters .ensures))) (p .put-bytes .ensures)))
