@@ -37,7 +37,7 @@ planLevel p = cond (eqb (getD (textOf (p .time .0)) 0 0) (code "P")) (level.Requ
 abbrev pub at : List Value → ℕ → Value
 at w i = getD w i none
 
--- an amendment's content by its number's mark
+-- "An amendment is two fields: a number and its content": the content by its number's mark
 unfoldable pub amendedIn : Amendment → Amended
 amendedIn x =
     cond (eqb (x .mark) 1) (amended.Ident (identIn (x .content)))
@@ -154,10 +154,10 @@ abbrev pub pairsOf : List Amendment → List Value
 pairsOf [] = []
 pairsOf (x ∷ xs) = valueOfWord (x .mark) ∷ x .content ∷ pairsOf xs
 
--- nineteen values, of which the first are the fields'
 abbrev pub nones : ℕ → List Value
 nones n = replicate n none
 
+-- nineteen values, of which the first are the fields'; a plan's seventh field is its route, of which nothing is held
 abbrev pub afSlots : Af → List Value
 afSlots m = valueOfIdent (m .ident) ∷ valueOfWord (m .from .0) ∷ valueOfWord (m .to .0) ∷ pairsOf (slotsOf m)
 
@@ -167,7 +167,6 @@ shortSlots i a b c = valueOfIdent i ∷ valueOfWord a ∷ valueOfWord b ∷ valu
 abbrev pub longSlots : Ident → Aircraft → ℕ → ℕ → ℕ → ℕ → List Value
 longSlots i x a b c d = valueOfIdent i ∷ valueOfAircraft x ∷ valueOfWord a ∷ valueOfWord b ∷ valueOfWord c ∷ valueOfWord d ∷ nones 13
 
--- a plan's seventh field is its route, of which nothing is held
 unfoldable pub slots : Body → List Value
 slots (body.Af m) = afSlots m
 slots (body.Az m) = shortSlots (m .ident) (m .from .0) (m .to .0) (m .clock .0)
