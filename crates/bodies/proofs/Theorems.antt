@@ -2,7 +2,7 @@
 -- text of every such body reads as it. Assumes nothing.
 use mathlib.Core.Path.{_≡_, refl, sym, ap, _∙_}
 use mathlib.Core.Bool.{Bool, true, false, cond, not, _&&_, _||_}
-use mathlib.Core.List.{List, [], _∷_}
+use mathlib.Core.List.{List, [], _∷_, map}
 use Prim.Native.Nat.{ℕ, _+_, _*_, _≤_}
 use native.Mathlib.Omega.{arith}
 use lib.Count.{ones}
@@ -28,12 +28,13 @@ use Rattle.counts.specs.Table.{tableOf, countWith, isCount, hasFields}
 use Rattle.layout.specs.Table.{kindsOf, countIn, answerBy, valuesBy, routeBy, freeIn}
 use Rattle.layout.proofs.Ways.{kinds-length}
 use Rattle.layout.proofs.Tables.{table-few, table-one}
-use Rattle.messages.specs.Body.{typeIn, marksIn, fieldCount, valuesIn, spare, bodyFrom}
+use Rattle.messages.specs.Body.{amendedIn, heldOf, slotsOf, typeIn, marksIn, fieldCount, valuesIn, spare, bodyFrom}
 use Rattle.messages.specs.Allowed.{isWhole, hasRoute, kindsIn, bodyText, allNone, isFielded, isBody}
+use Rattle.messages.specs.declared.Amendment.{Amendment}
 use Rattle.messages.specs.declared.Af.{Af}
 use Rattle.messages.specs.declared.Body.{Body}
 use Rattle.messages.specs.declared.Body.the-variants as body
-use Rattle.messages.proofs.Bodies.{type-from, body-back, values-back}
+use Rattle.messages.proofs.Bodies.{type-from, body-back, amendments-kept, values-back}
 use Rattle.messages.proofs.Tables.{count-from, marks-kept, has-route}
 use Rattle.bodies.specs.Read.{typedOf, bodyRead}
 use Rattle.bodies.specs.declared.BodyRead.the-variants as read
@@ -276,6 +277,14 @@ module _ (b : Body) (r : List ℕ) (u : Bool) (e : isFielded b r ≡ true) where
 
   shown-printable : allIn 32 126 s ≡ true
   shown-printable = body-printable ks 0 0 r vs u allowed
+
+-- an AF that is read keeps its amendments by their types: what each is held as is what its type keeps
+pub amendments-typed : (s : List ℕ) (a : Af) (u : Bool) → bodyRead type.Af s ≡ read.Read (body.Af a) u
+    → map (λ (x : Amendment). heldOf (amendedIn x)) (take (ones (a .marks)) (slotsOf a)) ≡ take (ones (a .marks)) (slotsOf a)
+unfolding kindsIn
+amendments-typed s a u e =
+    let g = fields-held type.Af s (body.Af a) u (sym (by-table type.Af s refl) ∙ e) .good in
+    amendments-kept a (routeBy type.Af s) (counted (body.Af a) (routeBy type.Af s) u g) (allowed (body.Af a) (routeBy type.Af s) u g)
 
 -- a body that is kept whole
 whole-complete : (r : List ℕ) (u : Bool) → (allIn 32 126 r && not u) ≡ true → (u ≡ false) × (allIn 32 126 r ≡ true)

@@ -39,10 +39,11 @@ pub enum BodyRead {
 fn af_from(marks: u8, w: [Value; 19]) -> Af
     ensures { λ r. ⌜ r ≡ afFrom marks w ⌝ }
 {
+    let i = w[0];
     Af {
         ident: Ident {
-            key: Key(w[0].a),
-            number: Number(w[0].b),
+            key: Key(i.a),
+            number: Number(i.b),
         },
         from: Point(w[1].a),
         to: Point(w[2].a),
@@ -85,10 +86,11 @@ fn af_from(marks: u8, w: [Value; 19]) -> Af
 fn az_from(w: [Value; 19]) -> Az
     ensures { λ r. ⌜ r ≡ azFrom w ⌝ }
 {
+    let i = w[0];
     Az {
         ident: Ident {
-            key: Key(w[0].a),
-            number: Number(w[0].b),
+            key: Key(i.a),
+            number: Number(i.b),
         },
         from: Point(w[1].a),
         to: Point(w[2].a),
@@ -99,15 +101,17 @@ fn az_from(w: [Value; 19]) -> Az
 fn dz_from(w: [Value; 19]) -> Dz
     ensures { λ r. ⌜ r ≡ dzFrom w ⌝ }
 {
+    let i = w[0];
+    let x = w[1];
     Dz {
         ident: Ident {
-            key: Key(w[0].a),
-            number: Number(w[0].b),
+            key: Key(i.a),
+            number: Number(i.b),
         },
         aircraft: Aircraft {
-            prefix: w[1].a,
-            model: w[1].b,
-            letter: w[1].c,
+            prefix: x.a,
+            model: x.b,
+            letter: x.c,
         },
         from: Point(w[2].a),
         time: Time(w[3].a),
@@ -119,10 +123,11 @@ fn dz_from(w: [Value; 19]) -> Dz
 fn rz_from(w: [Value; 19]) -> Rz
     ensures { λ r. ⌜ r ≡ rzFrom w ⌝ }
 {
+    let i = w[0];
     Rz {
         ident: Ident {
-            key: Key(w[0].a),
-            number: Number(w[0].b),
+            key: Key(i.a),
+            number: Number(i.b),
         },
         from: Point(w[1].a),
         to: Point(w[2].a),
@@ -132,10 +137,11 @@ fn rz_from(w: [Value; 19]) -> Rz
 fn tz_from(w: [Value; 19]) -> Tz
     ensures { λ r. ⌜ r ≡ tzFrom w ⌝ }
 {
+    let i = w[0];
     Tz {
         ident: Ident {
-            key: Key(w[0].a),
-            number: Number(w[0].b),
+            key: Key(i.a),
+            number: Number(i.b),
         },
         speed: GroundSpeed(w[1].a),
         level: TrackLevel(w[2].a),
@@ -146,15 +152,17 @@ fn tz_from(w: [Value; 19]) -> Tz
 fn plan_from(w: [Value; 19]) -> Plan
     ensures { λ r. ⌜ r ≡ planFrom w ⌝ }
 {
+    let i = w[0];
+    let x = w[1];
     Plan {
         ident: Ident {
-            key: Key(w[0].a),
-            number: Number(w[0].b),
+            key: Key(i.a),
+            number: Number(i.b),
         },
         aircraft: Aircraft {
-            prefix: w[1].a,
-            model: w[1].b,
-            letter: w[1].c,
+            prefix: x.a,
+            model: x.b,
+            letter: x.c,
         },
         speed: FiledSpeed(w[2].a),
         fix: Fix(w[3].a),

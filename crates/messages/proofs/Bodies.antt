@@ -2,10 +2,11 @@
 -- some text gives to a body and back. Assumes nothing.
 use mathlib.Core.Path.{_≡_, refl, sym, ap, _∙_, subst}
 use mathlib.Core.Bool.{Bool, true, false, cond, not, _&&_}
-use mathlib.Core.List.{List, [], _∷_, _++_}
-use Prim.Native.Nat.{ℕ, zero, suc, _+_, _-_, _/_, _%_, _≤_}
+use mathlib.Core.List.{List, [], _∷_, _++_, map}
+use Prim.Native.Nat.{ℕ, zero, suc, _+_, _-_, _*_, _/_, _%_, _≤_}
 use native.Mathlib.Nat.{le-of-suc-le-suc}
 use native.Mathlib.Omega.{arith}
+use lib.Count.{ones}
 use lib.Dec.{eqb, leb}
 use lib.ListN.{length, take, drop, replicate, length-append, length-take, length-drop, length-replicate, take-append-drop}
 use lib.Seq.{take-at, drop-at}
@@ -20,16 +21,19 @@ use Rattle.heads.specs.declared.MessageType.{MessageType}
 use Rattle.heads.specs.declared.MessageType.the-variants as type
 use Rattle.kinds.specs.Field.{IDENT, TZ-IDENT, AIRCRAFT, ROUTE, PLAN-TIME, CONTENT, valued, identIn, aircraftIn, isOne, isTwo, isMark, contentOf, plain, leftOf, marksOf, follows, isKindValue, isValue, shown}
 use Rattle.kinds.specs.declared.Value.{Value}
+use Rattle.kinds.proofs.Marks.{each-mark, mark-text}
 use Rattle.table.specs.Read.{none, padded}
 use Rattle.table.specs.Show.{allowedFrom}
 use Rattle.counts.specs.Table.{amendments, countWith, isCount}
 use Rattle.layout.specs.Table.{kindsOf}
 use Rattle.layout.proofs.Ways.{kinds-length}
 use Rattle.layout.proofs.Tables.{marksKept}
-use Rattle.messages.specs.Body.{at, amendedIn, afFrom, bodyFrom, typeIn, heldOf, valueOfWord, slots, fieldCount, valuesIn, spare, marksIn}
+use Rattle.messages.specs.Body.{at, amendedIn, afFrom, bodyFrom, typeIn, heldFrom, heldOf, valueOfWord, valueOfIdent, slotsOf, pairsOf, slots, fieldCount, valuesIn, spare, marksIn}
 use Rattle.messages.specs.Allowed.{allNone}
 use Rattle.messages.specs.declared.Amended.{Amended}
 use Rattle.messages.specs.declared.Amended.the-variants as amended
+use Rattle.messages.specs.declared.Amendment.{Amendment}
+use Rattle.messages.specs.declared.Af.{Af}
 use Rattle.messages.specs.declared.Body.{Body}
 use Rattle.messages.specs.declared.Body.the-variants as body
 
@@ -83,6 +87,20 @@ amended-back (amended.Assigned x) = refl
 amended-back (amended.Requested x) = refl
 amended-back amended.Route = refl
 amended-back amended.Nothing = refl
+
+-- and the type of an amendment that some text gives keeps its mark and its content
+amended-on : (v : Value) (r : List ℕ) (m : ℕ) → isMark m ≡ true → isKindValue (contentOf m) r v ≡ true → heldOf (amendedIn (heldFrom (valueOfWord m) v)) ≡ heldFrom (valueOfWord m) v
+unfolding amendedIn contentOf
+amended-on v r =
+    each-mark (λ (m : ℕ). isKindValue (contentOf m) r v ≡ true → heldOf (amendedIn (heldFrom (valueOfWord m) v)) ≡ heldFrom (valueOfWord m) v)
+    (λ q. ap (heldFrom (valueOfWord 1)) (is-canon (contentOf 1) r v q))
+    (λ q. ap (heldFrom (valueOfWord 2)) (is-canon (contentOf 2) r v q))
+    (λ q. ap (heldFrom (valueOfWord 4)) (is-canon (contentOf 4) r v q))
+    (λ q. ap (heldFrom (valueOfWord 8)) (is-canon (contentOf 8) r v q))
+    (λ q. ap (heldFrom (valueOfWord 16)) (is-canon (contentOf 16) r v q))
+    (λ q. ap (heldFrom (valueOfWord 32)) (is-canon (contentOf 32) r v q))
+    (λ q. ap (heldFrom (valueOfWord 64)) (is-canon (contentOf 64) r v q))
+    (λ q. ap (heldFrom (valueOfWord 128)) (is-canon (contentOf 128) r v q))
 
 -- ---- nineteen values
 
@@ -264,10 +282,12 @@ pairs-none (suc t) (n ∷ v ∷ l) h e =
     let i = pairs-none t l (omega arith) (none-rest v l (none-rest n (v ∷ l) e)) in
     λ x. p x ∷ v ∷ i x
 
--- a number's value is a mark alone
-mark-one : (p : ℕ) (r : List ℕ) (n : Value) → isValue AMENDMENT p r n ≡ true → valueOfWord (n .a) ≡ n
-unfolding isValue
-mark-one p r n e = one-is n (and-right (isMark (n .a)) (isOne n) e)
+-- a number's value is a mark alone, and what it leaves is that mark
+mark-value : (p : ℕ) (r : List ℕ) (n : Value) → isValue AMENDMENT p r n ≡ true → (isMark (n .a) ≡ true) × (isOne n ≡ true) × (leftOf AMENDMENT (shown AMENDMENT p r n) ≡ n .a)
+unfolding isValue leftOf shown
+mark-value p r n e =
+    let m = and-left (isMark (n .a)) (isOne n) e in
+    (m, and-right (isMark (n .a)) (isOne n) e, mark-text (n .a) m)
 
 -- the pairs that some body gives, and none after them
 pairs-back : (t j p m : ℕ) (r : List ℕ) (vs more : List Value) → length (vs ++ more) ≡ double t → allNone more ≡ true → allowedFrom (amendments j) p m r vs ≡ true → pairsFrom t (at (vs ++ more)) ≡ vs ++ more
@@ -279,7 +299,7 @@ pairs-back t (suc j) p m r (n ∷ []) more h q e = true-false (allowed-rest AMEN
 pairs-back zero (suc j) p m r (n ∷ v ∷ vs) more h q e = absurd (omega arith)
 pairs-back (suc t) (suc j) p m r (n ∷ v ∷ vs) more h q e =
     let f = allowed-rest AMENDMENT (CONTENT ∷ amendments j) p m r n (v ∷ vs) e in
-    let g = mark-one p r n (allowed-first AMENDMENT (CONTENT ∷ amendments j) p m r n (v ∷ vs) e) in
+    let g = one-is n (mark-value p r n (allowed-first AMENDMENT (CONTENT ∷ amendments j) p m r n (v ∷ vs) e) .1) in
     let i = pairs-back t j _ _ r vs more (omega arith) q (allowed-rest CONTENT (amendments j) _ _ r v vs f) in
     λ x. g x ∷ v ∷ i x
 
@@ -293,6 +313,44 @@ count-pairs n c =
     let o : n % 2 ≡ 1 = eqb-true (n % 2) 1 (and-right (leb 5 n && leb n 19) (eqb (n % 2) 1) c) in
     let d = double-is ((n - 3) / 2) in
     (omega arith, omega arith)
+
+-- of amendments whose values some text gives
+amended-all : (j p m : ℕ) (r : List ℕ) (xs : List Amendment) → allowedFrom (amendments j) p m r (pairsOf xs) ≡ true → map (λ (x : Amendment). heldOf (amendedIn x)) xs ≡ xs
+unfolding allowedFrom isValue plain
+amended-all j p m r [] e = refl
+amended-all zero p m r (x ∷ xs) e = true-false e refl
+amended-all (suc j) p m r (x ∷ xs) e =
+    let n = valueOfWord (x .mark) in
+    let vs = x .content ∷ pairsOf xs in
+    let k = mark-value p r n (allowed-first AMENDMENT (CONTENT ∷ amendments j) p m r n vs e) in
+    let f = allowed-rest AMENDMENT (CONTENT ∷ amendments j) p m r n vs e in
+    let g = subst (λ (q : ℕ). isKindValue (contentOf q) r (x .content) ≡ true) (k .2) (allowed-first CONTENT (amendments j) _ _ r (x .content) (pairsOf xs) f) in
+    let h = amended-on (x .content) r (x .mark) (k .0) g in
+    let i = amended-all j _ _ r xs (allowed-rest CONTENT (amendments j) _ _ r (x .content) (pairsOf xs) f) in
+    λ z. h z ∷ i z
+
+take-pairs : (j : ℕ) (xs : List Amendment) → take (double j) (pairsOf xs) ≡ pairsOf (take j xs)
+take-pairs zero xs = refl
+take-pairs (suc j) [] = refl
+take-pairs (suc j) (x ∷ xs) = ap (λ (l : List Value). valueOfWord (x .mark) ∷ x .content ∷ l) (take-pairs j xs)
+
+-- THE LAW of typed amendments: those of an AF that a line can have are what their types keep
+pub amendments-kept : (a : Af) (r : List ℕ) → isCount type.Af (fieldCount (body.Af a)) ≡ true → allowedFrom (kindsOf type.Af (fieldCount (body.Af a))) 0 0 r (valuesIn (body.Af a)) ≡ true
+    → map (λ (x : Amendment). heldOf (amendedIn x)) (take (ones (a .marks)) (slotsOf a)) ≡ take (ones (a .marks)) (slotsOf a)
+unfolding fieldCount countWith kindsOf valuesIn slots
+amendments-kept a r c e =
+    let o = ones (a .marks) in
+    let n : 3 + 2 * o ≡ suc (suc (suc (double o))) = omega (arith, double-is o) in
+    let l : o ≤ 8 = omega (arith, count-pairs (3 + 2 * o) c .1) in
+    let i = valueOfIdent (a .ident) in
+    let f = valueOfWord (a .from .0) in
+    let t = valueOfWord (a .to .0) in
+    let x = subst (λ (k : ℕ). allowedFrom (take k (IDENT ∷ POINT ∷ POINT ∷ amendments 8)) 0 0 r (take k (i ∷ f ∷ t ∷ pairsOf (slotsOf a))) ≡ true) n e in
+    let y = subst (λ (ks : List ℕ). allowedFrom (IDENT ∷ POINT ∷ POINT ∷ ks) 0 0 r (i ∷ f ∷ t ∷ take (double o) (pairsOf (slotsOf a))) ≡ true) (take-amendments o 8 l) x in
+    let z = subst (λ (vs : List Value). allowedFrom (IDENT ∷ POINT ∷ POINT ∷ amendments o) 0 0 r (i ∷ f ∷ t ∷ vs) ≡ true) (take-pairs o (slotsOf a)) y in
+    let ps = pairsOf (take o (slotsOf a)) in
+    let u = allowed-rest POINT (POINT ∷ amendments o) _ _ r f (t ∷ ps) (allowed-rest IDENT (POINT ∷ POINT ∷ amendments o) 0 0 r i (f ∷ t ∷ ps) z) in
+    amended-all o _ _ r (take o (slotsOf a)) (allowed-rest POINT (amendments o) _ _ r t ps u)
 
 -- of values by the kinds of three fields and j pairs
 af-slots : (j m : ℕ) (r : List ℕ) (vs : List Value) → j ≤ 8 → allowedFrom (IDENT ∷ POINT ∷ POINT ∷ amendments j) 0 0 r vs ≡ true → slots (body.Af (afFrom m (padded vs))) ≡ padded vs

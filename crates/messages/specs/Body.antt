@@ -37,7 +37,7 @@ planLevel p = cond (eqb (getD (textOf (p .time .0)) 0 0) (code "P")) (level.Requ
 abbrev pub at : List Value → ℕ → Value
 at w i = getD w i none
 
--- an amendment's content by its number's mark
+-- "An amendment is two fields: a number and its content": the content by its number's mark
 unfoldable pub amendedIn : Amendment → Amended
 amendedIn x =
     cond (eqb (x .mark) 1) (amended.Ident (identIn (x .content)))
@@ -154,39 +154,27 @@ abbrev pub pairsOf : List Amendment → List Value
 pairsOf [] = []
 pairsOf (x ∷ xs) = valueOfWord (x .mark) ∷ x .content ∷ pairsOf xs
 
--- nineteen values, of which the first are the fields'
 abbrev pub nones : ℕ → List Value
 nones n = replicate n none
 
+-- nineteen values, of which the first are the fields'; a plan's seventh field is its route, of which nothing is held
 abbrev pub afSlots : Af → List Value
 afSlots m = valueOfIdent (m .ident) ∷ valueOfWord (m .from .0) ∷ valueOfWord (m .to .0) ∷ pairsOf (slotsOf m)
 
-abbrev pub azSlots : Az → List Value
-azSlots m = valueOfIdent (m .ident) ∷ valueOfWord (m .from .0) ∷ valueOfWord (m .to .0) ∷ valueOfWord (m .clock .0) ∷ nones 15
+abbrev pub shortSlots : Ident → ℕ → ℕ → ℕ → List Value
+shortSlots i a b c = valueOfIdent i ∷ valueOfWord a ∷ valueOfWord b ∷ valueOfWord c ∷ nones 15
 
-abbrev pub dzSlots : Dz → List Value
-dzSlots m =
-    valueOfIdent (m .ident) ∷ valueOfAircraft (m .aircraft) ∷ valueOfWord (m .from .0) ∷ valueOfWord (m .time .0) ∷ valueOfWord (m .to .0) ∷ valueOfWord (m .clock .0) ∷ nones 13
-
-abbrev pub rzSlots : Rz → List Value
-rzSlots m = valueOfIdent (m .ident) ∷ valueOfWord (m .from .0) ∷ valueOfWord (m .to .0) ∷ nones 16
-
-abbrev pub tzSlots : Tz → List Value
-tzSlots m = valueOfIdent (m .ident) ∷ valueOfWord (m .speed .0) ∷ valueOfWord (m .level .0) ∷ valueOfWord (m .position .0) ∷ nones 15
-
--- a plan's seventh field is its route, of which nothing is held
-abbrev pub planSlots : Plan → List Value
-planSlots p =
-    valueOfIdent (p .ident) ∷ valueOfAircraft (p .aircraft) ∷ valueOfWord (p .speed .0) ∷ valueOfWord (p .fix .0) ∷ valueOfWord (p .time .0) ∷ valueOfWord (p .level .0) ∷ nones 13
+abbrev pub longSlots : Ident → Aircraft → ℕ → ℕ → ℕ → ℕ → List Value
+longSlots i x a b c d = valueOfIdent i ∷ valueOfAircraft x ∷ valueOfWord a ∷ valueOfWord b ∷ valueOfWord c ∷ valueOfWord d ∷ nones 13
 
 unfoldable pub slots : Body → List Value
 slots (body.Af m) = afSlots m
-slots (body.Az m) = azSlots m
-slots (body.Dz m) = dzSlots m
-slots (body.Fz p) = planSlots p
-slots (body.Rz m) = rzSlots m
-slots (body.Tz m) = tzSlots m
-slots (body.Uz p) = planSlots p
+slots (body.Az m) = shortSlots (m .ident) (m .from .0) (m .to .0) (m .clock .0)
+slots (body.Dz m) = longSlots (m .ident) (m .aircraft) (m .from .0) (m .time .0) (m .to .0) (m .clock .0)
+slots (body.Fz p) = longSlots (p .ident) (p .aircraft) (p .speed .0) (p .fix .0) (p .time .0) (p .level .0)
+slots (body.Rz m) = shortSlots (m .ident) (m .from .0) (m .to .0) 0
+slots (body.Tz m) = shortSlots (m .ident) (m .speed .0) (m .level .0) (m .position .0)
+slots (body.Uz p) = longSlots (p .ident) (p .aircraft) (p .speed .0) (p .fix .0) (p .time .0) (p .level .0)
 slots body.Rt = nones 19
 slots body.To = nones 19
 slots body.Hb = nones 19

@@ -1,15 +1,12 @@
 // What the writer must know of a body: the values of its fields. Its type and its marks are asked of `messages`, and what
 // follows from these alone stands in `layout`.
+use aircraft::Aircraft;
+use idents::Ident;
 use kinds::Value;
 use messages::Af;
-use messages::Az;
 use messages::Body;
-use messages::Dz;
-use messages::Plan;
-use messages::Rz;
-use messages::Tz;
 ghost use mathlib.Core.Path.{_≡_};
-ghost use Rattle.messages.specs.Body.{nones, afSlots, azSlots, dzSlots, rzSlots, tzSlots, planSlots, slots};
+ghost use Rattle.messages.specs.Body.{nones, afSlots, shortSlots, longSlots, slots};
 
 fn no_values() -> [Value; 19]
     ensures { λ r. ⌜ r ≡ nones 19 ⌝ }
@@ -53,70 +50,33 @@ fn af_values(m: Af) -> [Value; 19]
     w
 }
 
-fn az_values(m: Az) -> [Value; 19]
-    ensures { λ r. ⌜ r ≡ azSlots m ⌝ }
+// An ident and three words: AZ, TZ, and RZ of which the third is none.
+fn short(i: Ident, a: u64, b: u64, c: u64) -> [Value; 19]
+    ensures { λ r. ⌜ r ≡ shortSlots i a b c ⌝ }
 {
     let mut w = [Value { a: 0, b: 0, c: 0 }; 19];
-    w[0].a = m.ident.key.0;
-    w[0].b = m.ident.number.0;
-    w[1].a = m.from.0;
-    w[2].a = m.to.0;
-    w[3].a = m.clock.0;
+    w[0].a = i.key.0;
+    w[0].b = i.number.0;
+    w[1].a = a;
+    w[2].a = b;
+    w[3].a = c;
     w
 }
 
-fn dz_values(m: Dz) -> [Value; 19]
-    ensures { λ r. ⌜ r ≡ dzSlots m ⌝ }
+// An ident, an aircraft and four words: DZ, FZ and UZ.
+fn long(i: Ident, x: Aircraft, a: u64, b: u64, c: u64, d: u64) -> [Value; 19]
+    ensures { λ r. ⌜ r ≡ longSlots i x a b c d ⌝ }
 {
     let mut w = [Value { a: 0, b: 0, c: 0 }; 19];
-    w[0].a = m.ident.key.0;
-    w[0].b = m.ident.number.0;
-    w[1].a = m.aircraft.prefix;
-    w[1].b = m.aircraft.model;
-    w[1].c = m.aircraft.letter;
-    w[2].a = m.from.0;
-    w[3].a = m.time.0;
-    w[4].a = m.to.0;
-    w[5].a = m.clock.0;
-    w
-}
-
-fn rz_values(m: Rz) -> [Value; 19]
-    ensures { λ r. ⌜ r ≡ rzSlots m ⌝ }
-{
-    let mut w = [Value { a: 0, b: 0, c: 0 }; 19];
-    w[0].a = m.ident.key.0;
-    w[0].b = m.ident.number.0;
-    w[1].a = m.from.0;
-    w[2].a = m.to.0;
-    w
-}
-
-fn tz_values(m: Tz) -> [Value; 19]
-    ensures { λ r. ⌜ r ≡ tzSlots m ⌝ }
-{
-    let mut w = [Value { a: 0, b: 0, c: 0 }; 19];
-    w[0].a = m.ident.key.0;
-    w[0].b = m.ident.number.0;
-    w[1].a = m.speed.0;
-    w[2].a = m.level.0;
-    w[3].a = m.position.0;
-    w
-}
-
-fn plan_values(p: Plan) -> [Value; 19]
-    ensures { λ r. ⌜ r ≡ planSlots p ⌝ }
-{
-    let mut w = [Value { a: 0, b: 0, c: 0 }; 19];
-    w[0].a = p.ident.key.0;
-    w[0].b = p.ident.number.0;
-    w[1].a = p.aircraft.prefix;
-    w[1].b = p.aircraft.model;
-    w[1].c = p.aircraft.letter;
-    w[2].a = p.speed.0;
-    w[3].a = p.fix.0;
-    w[4].a = p.time.0;
-    w[5].a = p.level.0;
+    w[0].a = i.key.0;
+    w[0].b = i.number.0;
+    w[1].a = x.prefix;
+    w[1].b = x.model;
+    w[1].c = x.letter;
+    w[2].a = a;
+    w[3].a = b;
+    w[4].a = c;
+    w[5].a = d;
     w
 }
 
@@ -126,12 +86,12 @@ pub fn values_in(b: Body) -> [Value; 19]
 {
     match b {
         Body::Af(m) => af_values(m),
-        Body::Az(m) => az_values(m),
-        Body::Dz(m) => dz_values(m),
-        Body::Fz(p) => plan_values(p),
-        Body::Rz(m) => rz_values(m),
-        Body::Tz(m) => tz_values(m),
-        Body::Uz(p) => plan_values(p),
+        Body::Az(m) => short(m.ident, m.from.0, m.to.0, m.clock.0),
+        Body::Dz(m) => long(m.ident, m.aircraft, m.from.0, m.time.0, m.to.0, m.clock.0),
+        Body::Fz(p) => long(p.ident, p.aircraft, p.speed.0, p.fix.0, p.time.0, p.level.0),
+        Body::Rz(m) => short(m.ident, m.from.0, m.to.0, 0),
+        Body::Tz(m) => short(m.ident, m.speed.0, m.level.0, m.position.0),
+        Body::Uz(p) => long(p.ident, p.aircraft, p.speed.0, p.fix.0, p.time.0, p.level.0),
         Body::Rt => no_values(),
         Body::To => no_values(),
         Body::Hb => no_values(),
