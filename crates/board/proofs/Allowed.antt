@@ -8,7 +8,7 @@ use borrow.Author.Tests.{eqb-true, eq-eqb, leb-true, le-leb}
 use lib.ListN.{length, getD, drop, replicate, length-drop}
 use lib.Dec.{eqb, leb}
 use Rattle.text.proofs.Logic.{and-left, and-right, not-holds, true-false}
-use Rattle.rows.specs.Rows.{CAP, rises}
+use Rattle.board.specs.Rows.{CAP, rises}
 use Rattle.board.specs.Board.{W, readRows, rowsOf, rowsHold, allZero, bodyHolds, isAllowed}
 
 pub cap-is : CAP ≡ 256

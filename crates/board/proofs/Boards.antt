@@ -6,11 +6,11 @@ use native.Mathlib.Omega.{arith}
 use lib.ListN.{length, getD, take, drop, set, replicate, length-append, length-take, length-drop, take-append-drop, replicate-append-replicate, drop-of-length-le}
 use lib.Seq.{take-at, drop-at, take-append-le, take-take, length-take-le, drop-drop, set-split, drop-cons}
 use Rattle.text.specs.Text.{spliced}
-use Rattle.rows.specs.Row.{rowWords, rowOf}
-use Rattle.rows.specs.Rows.{CAP}
-use Rattle.rows.specs.declared.Row.{Row}
-use Rattle.rows.proofs.Words.{length-row}
-use Rattle.slides.specs.Slides.{slidRight, slidLeft, zeroed}
+use Rattle.board.specs.Row.{rowWords, rowOf}
+use Rattle.board.specs.Rows.{CAP}
+use Rattle.board.specs.declared.rows.Row.{Row}
+use Rattle.board.proofs.RowWords.{length-row}
+use Rattle.board.specs.Slides.{slidRight, slidLeft, zeroed}
 use Rattle.board.specs.Board.{W, flat, wordsOf}
 use Rattle.board.proofs.Words.{length-flat, flat-append, flat-cons}
 

@@ -10,11 +10,11 @@ use borrow.Author.Tests.{lt-ltb, le-ltb, eq-eqb, ne-eqb}
 use lib.ListN.{length, getD, drop, drop-of-length-le}
 use lib.Seq.{drop-cons, drop-drop}
 use lib.Dec.{ltb, eqb}
-use Rattle.rows.specs.Row.{rowOf, isRowWords}
-use Rattle.rows.specs.Rows.{keyOf, above, rises, Place, At, Gap, further, findIn}
-use Rattle.rows.specs.declared.Row.{Row}
-use Rattle.rows.proofs.Order.{rising-test}
-use Rattle.rows.proofs.Places.{shift, find-after}
+use Rattle.board.specs.Row.{rowOf, isRowWords}
+use Rattle.board.specs.Rows.{keyOf, above, rises, Place, At, Gap, further, findIn}
+use Rattle.board.specs.declared.rows.Row.{Row}
+use Rattle.board.proofs.Order.{rising-test}
+use Rattle.board.proofs.Places.{shift, find-after}
 use Rattle.board.specs.Board.{W, readRows, rowsOf, rowsHold, allZero}
 use Rattle.board.proofs.Words.{row-next, getD-read, key-at, length-read, hold-next}
 

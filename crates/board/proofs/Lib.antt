@@ -4,5 +4,16 @@ pub mod Finds
 pub mod Allowed
 pub mod Theorems
 pub mod Ways
+pub mod Stores
+pub mod Rising
+pub mod Lookup
+pub mod Same
+pub mod Places
+pub mod Twins
+pub mod Order
+pub mod Cells
+pub mod RowWords
+pub mod Kept
+pub mod Moves
 pub mod Unique
 pub mod Examples

@@ -8,18 +8,18 @@ use Prim.Native.Nat.{ℕ, suc, _+_, _*_, _-_, _≤_}
 use native.Mathlib.Omega.{arith}
 use lib.ListN.{length, getD, take, drop, replicate, length-append, length-drop, length-replicate, take-append-drop}
 use lib.Seq.{drop-drop, drop-cons, drop-at}
-use Rattle.rows.specs.Row.{isRow}
-use Rattle.rows.specs.Rows.{CAP, keyOf, allRows, isBoard, rises, written, fits, struck, isListed}
-use Rattle.rows.specs.declared.Row.{Row}
-use Rattle.rows.proofs.Order.{rising-test, test-rising}
+use Rattle.board.specs.Row.{isRow}
+use Rattle.board.specs.Rows.{CAP, keyOf, allRows, isBoard, rises, written, fits, struck, isListed}
+use Rattle.board.specs.declared.rows.Row.{Row}
+use Rattle.board.proofs.Order.{rising-test, test-rising}
 use Rattle.board.specs.Board.{W, flat, readRows, rowsOf, wordsOf, allZero, isAllowed, doneOf, goneOf}
 use Rattle.board.specs.declared.Done.the-variants.{Full}
 use Rattle.board.specs.declared.Struck.the-variants.{Missing}
 use Rattle.board.specs.Posts.{Wrote, Stricken}
 use Rattle.board.proofs.Words.{length-flat, length-read, length-rows, flat-read, all-read, read-flat, hold-flat}
 use Rattle.board.proofs.Allowed.{cap-is, parts, whole, zeros-after, zero-tests}
-use Rattle.rows.proofs.Twins.{written-full}
-use Rattle.rows.proofs.Boards.{fair, board-of, keep-written, keep-struck, struck-missing}
+use Rattle.board.proofs.Twins.{written-full}
+use Rattle.board.proofs.Kept.{fair, board-of, keep-written, keep-struck, struck-missing}
 
 -- ---- rows, their words, and the rows that these show
 

@@ -9,13 +9,13 @@ use borrow.Author.Tests.{lt-ltb, le-ltb, ltb-true, ltb-false, ne-eqb}
 use lib.ListN.{length, getD, take, drop, set}
 use lib.Dec.{ltb, eqb}
 use Rattle.text.specs.Text.{spliced}
-use Rattle.rows.specs.Row.{rowWords, rowOf, isRow}
-use Rattle.rows.specs.Rows.{CAP, keyOf, Rising, lookup, orEmpty, lookRow, Place, At, Gap, further, findIn, writtenAt, fitsAt, written, fits, struckAt, isAt, struck, isListed}
-use Rattle.rows.specs.declared.Row.{Row}
-use Rattle.rows.specs.declared.ArrivalSlot.the-variants as arrival
-use Rattle.rows.specs.declared.TrackSlot.the-variants as track
-use Rattle.rows.proofs.Order.{rising-test}
-use Rattle.slides.specs.Slides.{slidRight, slidLeft, zeroed}
+use Rattle.board.specs.Row.{rowWords, rowOf, isRow}
+use Rattle.board.specs.Rows.{CAP, keyOf, Rising, lookup, orEmpty, lookRow, Place, At, Gap, further, findIn, writtenAt, fitsAt, written, fits, struckAt, isAt, struck, isListed}
+use Rattle.board.specs.declared.rows.Row.{Row}
+use Rattle.board.specs.declared.rows.ArrivalSlot.the-variants as arrival
+use Rattle.board.specs.declared.rows.TrackSlot.the-variants as track
+use Rattle.board.proofs.Order.{rising-test}
+use Rattle.board.specs.Slides.{slidRight, slidLeft, zeroed}
 use Rattle.board.specs.declared.Found.{Found}
 use Rattle.board.specs.declared.Found.the-variants as found
 use Rattle.board.specs.declared.Done.{Done}
@@ -27,7 +27,7 @@ use Rattle.board.specs.Posts.{Wrote, Stricken}
 use Rattle.board.proofs.Words.{length-rows, row-there}
 use Rattle.board.proofs.Boards.{replace-board, insert-board, remove-board}
 use Rattle.board.proofs.Allowed.{parts}
-use Rattle.rows.proofs.Lookup.{above-rising, none-below}
+use Rattle.board.proofs.Lookup.{above-rising, none-below}
 use Rattle.board.proofs.Theorems.{words-rows, still-written, still-struck}
 
 -- ---- what `find` answered, as a place

@@ -9,10 +9,10 @@ use native.Mathlib.Omega.{arith}
 use lib.ListN.{length, getD, take, drop, length-append, length-drop}
 use lib.Seq.{take-add, drop-drop, drop-cons, getD-drop, drop-at}
 use Rattle.text.proofs.Logic.{and-left, and-right}
-use Rattle.rows.specs.Row.{rowWords, rowOf, isRow, isRowWords}
-use Rattle.rows.specs.Rows.{keyOf, allRows}
-use Rattle.rows.specs.declared.Row.{Row}
-use Rattle.rows.proofs.Words.{length-row, row-back, row-words, words-row}
+use Rattle.board.specs.Row.{rowWords, rowOf, isRow, isRowWords}
+use Rattle.board.specs.Rows.{keyOf, allRows}
+use Rattle.board.specs.declared.rows.Row.{Row}
+use Rattle.board.proofs.RowWords.{length-row, row-back, row-words, words-row}
 use Rattle.board.specs.Board.{W, flat, readRows, rowsOf, rowsHold}
 
 pub length-flat : (rs : List Row) → length (flat rs) ≡ W * length rs

@@ -6,9 +6,9 @@ use mathlib.Core.List.{List, [], _∷_, _++_}
 use Prim.Native.Nat.{ℕ, zero, suc, _+_, _*_, _-_}
 use lib.ListN.{length, getD, drop, replicate}
 use lib.Dec.{eqb, leb}
-use Rattle.rows.specs.Row.{rowWords, rowOf, isRowWords}
-use Rattle.rows.specs.Rows.{CAP, Place, At, Gap, rises}
-use Rattle.rows.specs.declared.Row.{Row}
+use Rattle.board.specs.Row.{rowWords, rowOf, isRowWords}
+use Rattle.board.specs.Rows.{CAP, Place, At, Gap, rises}
+use Rattle.board.specs.declared.rows.Row.{Row}
 use Rattle.board.specs.declared.Found.{Found}
 use Rattle.board.specs.declared.Found.the-variants as found
 use Rattle.board.specs.declared.Done.{Done}

@@ -4,8 +4,8 @@ use mathlib.Core.Path.{_≡_}
 use mathlib.Core.Bool.{true}
 use mathlib.Core.List.{List}
 use Prim.Native.Nat.{ℕ}
-use Rattle.rows.specs.Rows.{keyOf, written, fits, struck, isListed}
-use Rattle.rows.specs.declared.Row.{Row}
+use Rattle.board.specs.Rows.{keyOf, written, fits, struck, isListed}
+use Rattle.board.specs.declared.rows.Row.{Row}
 use Rattle.board.specs.declared.Done.{Done}
 use Rattle.board.specs.declared.Struck.{Struck}
 use Rattle.board.specs.Board.{rowsOf, wordsOf, isAllowed, doneOf, goneOf}

@@ -1,11 +1,17 @@
 // The board, in words that the caller lends: word 0 the count of rows, then 256 rows of eleven words, unused words 0. Which words
 // are allowed, and the board without rows; `listing` finds, writes and strikes.
-use rows::is_row;
-use slides::clear;
+
+pub mod keeping;
+pub mod listing;
+pub mod rows;
+pub mod slides;
+
+use crate::rows::is_row;
+use crate::slides::clear;
 ghost use mathlib.Core.Path.{_≡_};
 ghost use Prim.Native.Nat.{_+_, _*_, _≤_};
 ghost use lib.ListN.{length, drop, replicate};
-ghost use Rattle.rows.specs.Rows.{rises};
+ghost use Rattle.board.specs.Rows.{rises};
 ghost use Rattle.board.specs.Board.{W, readRows, rowsHold, allZero, isAllowed};
 
 // Where a key stands, or the place where it would go.

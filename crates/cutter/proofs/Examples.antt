@@ -1,24 +1,24 @@
--- What the promises of `cutter` require of calls written out, so that the wrong answers tried are refused: of each, `Post` is the function's
--- `ensures` as it stands in the source, r any result that meets it, s .0 the lent buffer at exit. Assumes nothing.
-use mathlib.Core.Path.{_≡_, _∙_}
+-- What the promises of `cutter` require on inputs written out, and so wrong answers that they do not allow: of each, `Post` is the function's
+-- `ensures` as it stands in the source, r any result that meets it, s the state at exit. Assumes nothing.
+use Prim.Native.Nat.{ℕ}
 use mathlib.Core.Bool.{false}
 use mathlib.Core.List.{List, [], _∷_}
-use Prim.Native.Nat.{ℕ}
-use lib.ListN.{length, take}
+use mathlib.Core.Path.{_≡_, _∙_}
 use native.Mathlib.Omega.{arith}
-use lib.Seq.{length-take-le}
 use denote.Ref.{now}
+use lib.ListN.{length, take}
+use lib.Seq.{length-take-le}
 use Rattle.text.specs.Bytes.{bytes}
 use Rattle.text.specs.Text.{hasRoom, spliced}
 use Rattle.shapes.specs.Cut.{upTo, has, before}
-use Rattle.cutter.specs.State.{isAllowed, moreIn, heldMore}
 use Rattle.cutter.specs.Calls.{atStart, closeOf, heldClosed, takenOf, cutOf, heldCut, endOf, lineIn}
+use Rattle.cutter.specs.State.{isAllowed, moreIn, heldMore}
 use Rattle.cutter.specs.declared.Begun.the-variants.{Held, Overlong}
 use Rattle.cutter.specs.declared.CutAnswer.the-variants as answer
 use Rattle.cutter.specs.declared.EndAnswer.the-variants as at
-use Rattle.cutter.proofs.is_allowed.Reads as is-allowed
 use Rattle.cutter.proofs.cut.Reads as cut
 use Rattle.cutter.proofs.end.Reads as end
+use Rattle.cutter.proofs.is_allowed.Reads as is-allowed
 use Rattle.cutter.proofs.line.Reads as line
 
 -- a buffer of fewer than 2,048 bytes is none

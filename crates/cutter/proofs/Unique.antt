@@ -1,10 +1,10 @@
--- Two answers that the promise of a public function of `cutter` allows are equal: of each, `Post` is its `ensures` as it stands
--- in the source, r and r′ are two results, s and s′ two states at exit. Assumes nothing.
+-- Two answers that the promise of a public function of `cutter` allows are equal: of each, `Post` is its `ensures` as it stands in the source,
+-- r and r′ are two results, s and s′ two states at exit. Assumes nothing.
 use mathlib.Core.Path.{_≡_, sym, _∙_}
 use denote.Ref.{now}
-use Rattle.cutter.proofs.is_allowed.Reads as is-allowed
 use Rattle.cutter.proofs.cut.Reads as cut
 use Rattle.cutter.proofs.end.Reads as end
+use Rattle.cutter.proofs.is_allowed.Reads as is-allowed
 use Rattle.cutter.proofs.line.Reads as line
 
 pub is-allowed-one : (κs : _) (a : _) (r r′ : _) (s s′ : _) → is-allowed.Post κs a r s → is-allowed.Post κs a r′ s′ → r ≡ r′

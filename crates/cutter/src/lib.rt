@@ -1,9 +1,9 @@
 // Lines out of the bytes of a feed that comes in parts cut anywhere (document 01, "Cutting"). The bytes of a begun line
 // stand at the start of a buffer that the caller lends.
 use shapes::find;
-use sweeps::find_far;
+use shapes::sweeps::find_far;
 use text::Written;
-use writing::put_bytes;
+use text::writing::put_bytes;
 ghost use mathlib.Core.Path.{_≡_};
 ghost use lib.ListN.{take};
 ghost use Rattle.cutter.specs.State.{isAllowed, moreIn, heldMore};

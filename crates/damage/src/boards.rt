@@ -5,15 +5,16 @@ use crate::numbers::say_bytes;
 use crate::numbers::say_number;
 use crate::numbers::say_two;
 use crate::numbers::say_words;
-use ages::Aged;
 use cutter::Begun;
 use feeding::FeedAnswer;
 use fields::frame::Stamp;
 use line::Refusal;
+use meanings::ages;
+use meanings::ages::Aged;
 use planner::LineAnswer;
 use planner::StrikeAnswer;
 use printer::Printed;
-use table::Fault;
+use table::walk::Fault;
 
 fn say_fault(fault: Fault) {
     match fault {

@@ -2,11 +2,13 @@
 // the end, and marks; the body's values begin at 6, and the eight amendments, four words each, at 16.
 use crate::numbers::say_bytes;
 use crate::numbers::say_two;
-use aircraft::Aircraft;
+use fields::aircraft::Aircraft;
 use fields::flight::Key;
 use fields::flight::Number;
 use fields::frame::Sequence;
 use fields::frame::Stamp;
+use fields::heads::Facility;
+use fields::idents::Ident;
 use fields::plan::FiledSpeed;
 use fields::plan::Fix;
 use fields::plan::Level;
@@ -17,8 +19,6 @@ use fields::track::Clock;
 use fields::track::GroundSpeed;
 use fields::track::Position;
 use fields::track::TrackLevel;
-use heads::Facility;
-use idents::Ident;
 use messages::Af;
 use messages::Amended;
 use messages::Amendment;

@@ -1,7 +1,7 @@
 // Numbers as eight bytes each, the least first, and back.
 use libc::STDOUT_FILENO;
 use text::Written;
-use writing::put_bytes;
+use text::writing::put_bytes;
 ghost use Prim.Native.Nat.{_<_};
 ghost use Rattle.io.specs.Counts.{Counts};
 

@@ -1,37 +1,37 @@
--- What the promises of `feeding` require on parts of a feed written out, and wrong answers that they do not allow: of each, `Post` is the
--- function's `ensures` as it stands in the source, r any result and s any state at exit that meet it. Assumes nothing.
+-- What the promises of `feeding` require on inputs written out, and so wrong answers that they do not allow: of each, `Post` is the function's
+-- `ensures` as it stands in the source, r any result that meets it, s the state at exit. Assumes nothing.
 use Prim.Native.Nat.{ℕ}
-use mathlib.Core.Path.{_≡_, refl, ap, _∙_}
 use mathlib.Core.Bool.{true}
 use mathlib.Core.List.{List, [], _∷_, _++_}
 use mathlib.Core.Option.{none}
-use borrow.Author.Tests.{ltb-true, eq-eqb}
-use lib.ListN.{length, replicate}
+use mathlib.Core.Path.{_≡_, refl, ap, _∙_}
 use denote.Ref.{now}
-use Rattle.shapes.specs.Pieces.{pieces}
+use lib.ListN.{length, replicate}
+use borrow.Author.Tests.{ltb-true, eq-eqb}
 use Rattle.shapes.specs.Cut.{has, upTo}
-use Rattle.rows.specs.Rows.{CAP, lookup, fits, written, lookRow}
-use Rattle.board.specs.Board.{rowsOf, wordsOf, isAllowed as isBoard}
-use Rattle.board.proofs.Theorems.{empty-board}
-use Rattle.board.proofs.Examples.{word, tracked}
-use Rattle.history.specs.Steps.{answer, rowsAfter}
-use Rattle.planner.specs.Apply.{lineEvent}
-use Rattle.planner.proofs.Examples.{tz, asks, none-fits}
-use Rattle.line.specs.Read.{readOf as lineRead}
-use Rattle.asks.specs.Asked.{askedOf}
+use Rattle.shapes.specs.Pieces.{pieces}
+use Rattle.cutter.specs.Calls.{start}
 use Rattle.cutter.specs.Feed.{Whole}
 use Rattle.cutter.specs.State.{stateIn, isAllowed, more}
-use Rattle.cutter.specs.Calls.{start}
 use Rattle.cutter.specs.Told.{told}
 use Rattle.cutter.specs.declared.Begun.{Begun}
 use Rattle.cutter.specs.declared.Begun.the-variants.{Overlong}
 use Rattle.cutter.proofs.Feeds.{cut-same}
 use Rattle.cutter.proofs.States.{start-allowed}
-use Rattle.feeding.specs.Tally.{eventOf, rowsBy, takenBy, lineFeeds, readOf}
+use Rattle.board.specs.Board.{rowsOf, wordsOf, isAllowed as isBoard}
+use Rattle.board.specs.Rows.{CAP, lookup, fits, written, lookRow}
+use Rattle.board.proofs.Examples.{word, tracked}
+use Rattle.board.proofs.Theorems.{empty-board}
+use Rattle.history.specs.Steps.{answer, rowsAfter}
+use Rattle.line.specs.Read.{readOf as lineRead}
+use Rattle.planner.specs.Apply.{lineEvent}
+use Rattle.planner.specs.Asked.{askedOf}
+use Rattle.planner.proofs.Examples.{tz, asks, none-fits}
 use Rattle.feeding.specs.Fed.{linesFed, readIn, fedWith, fedOf}
+use Rattle.feeding.specs.Tally.{eventOf, rowsBy, takenBy, lineFeeds, readOf}
 use Rattle.feeding.specs.declared.AfterFeed.{AfterFeed}
-use Rattle.feeding.proofs.Turns.{fed-ready, board-ready}
 use Rattle.feeding.proofs.Theorems.{reads-all}
+use Rattle.feeding.proofs.Turns.{fed-ready, board-ready}
 use Rattle.feeding.proofs.feed.Reads as feed
 use Rattle.feeding.proofs.feed_allowed.Reads as feed-allowed
 

@@ -11,7 +11,7 @@ use lib.Seq.{length-take-le, drop-append-add}
 use Rattle.shapes.specs.Cut.{upTo}
 use Rattle.shapes.specs.Pieces.{grow, pieces}
 use Rattle.history.specs.Steps.{Answer, Took, Refused, NoRoom, NotListed, rowsAfter, answer}
-use Rattle.rows.specs.declared.Row.{Row}
+use Rattle.board.specs.declared.rows.Row.{Row}
 use Rattle.cutter.specs.Feed.{lineFeed, Line}
 use Rattle.cutter.specs.State.{State, Bytes}
 use Rattle.cutter.specs.Told.{told}

@@ -14,14 +14,14 @@ use Rattle.shapes.specs.Cut.{upTo, has, before, after}
 use Rattle.shapes.specs.Pieces.{pieces, noneHas}
 use Rattle.shapes.proofs.Joins.{cut-whole, joined-has, joined-before, whole-has, before-none, no-cut}
 use Rattle.shapes.proofs.Pieces.{pieces-turn, pieces-none, pieces-cut}
-use Rattle.rows.specs.Rows.{isBoard as isRows}
-use Rattle.rows.specs.declared.Row.{Row}
+use Rattle.board.specs.Rows.{isBoard as isRows}
+use Rattle.board.specs.declared.rows.Row.{Row}
 use Rattle.board.specs.Board.{rowsOf, wordsOf, isAllowed as isBoard}
 use Rattle.board.proofs.Theorems.{words-rows, rows-words, board-rows, allowed-words}
 use Rattle.history.specs.Events.{isEvent}
 use Rattle.history.specs.Steps.{rowsAfter, answer}
 use Rattle.history.proofs.Boards.{step-board}
-use Rattle.asks.specs.Asked.{askedOf}
+use Rattle.planner.specs.Asked.{askedOf}
 use Rattle.planner.specs.Apply.{lineEvent}
 use Rattle.planner.proofs.Ways.{line-event}
 use Rattle.cutter.specs.Feed.{lineFeed, Line, Whole, TooLong}

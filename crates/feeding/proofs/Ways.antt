@@ -7,14 +7,14 @@ use native.Mathlib.Omega.{arith}
 use lib.ListN.{length}
 use denote.Enum.Declared.{tagOf}
 use types.Run.{OneOf, miss}
-use Rattle.rows.specs.Rows.{fits}
-use Rattle.rows.specs.declared.Row.{Row}
+use Rattle.board.specs.Rows.{fits}
+use Rattle.board.specs.declared.rows.Row.{Row}
 use Rattle.board.specs.Board.{rowsOf, wordsOf, isAllowed as isBoard}
 use Rattle.board.proofs.Theorems.{words-rows}
 use Rattle.history.specs.Steps.{Took, NoRoom, rowsAfter, answer}
-use Rattle.asks.specs.Asked.{askedOf}
-use Rattle.asks.specs.declared.Asked.{Asked}
-use Rattle.asks.specs.declared.Asked.the-variants as asked
+use Rattle.planner.specs.Asked.{askedOf}
+use Rattle.planner.specs.declared.asks.Asked.{Asked}
+use Rattle.planner.specs.declared.asks.Asked.the-variants as asked
 use Rattle.planner.specs.Apply.{eventOf as askedEvent, lineEvent, room, answerTo, Entered}
 use Rattle.planner.specs.declared.LineAnswer.{LineAnswer}
 use Rattle.planner.specs.declared.LineAnswer.the-variants as line

@@ -4,7 +4,7 @@ use Prim.Native.Nat.{ℕ, zero, suc, _+_}
 use mathlib.Core.Bool.{cond}
 use mathlib.Core.List.{List, [], _∷_}
 use lib.Dec.{eqb}
-use Rattle.rows.specs.declared.Row.{Row}
+use Rattle.board.specs.declared.rows.Row.{Row}
 use Rattle.history.specs.Events.{Event, unread}
 use Rattle.history.specs.Steps.{Answer, Took, Refused, NoRoom, NotListed, rowsAfter, answer}
 use Rattle.planner.specs.Apply.{lineEvent}

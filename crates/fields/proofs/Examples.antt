@@ -13,9 +13,9 @@ use Rattle.text.specs.declared.Packed.the-variants as word
 use Rattle.text.specs.declared.Written.the-variants.{NoText}
 use Rattle.shapes.specs.Pieces.{pieces}
 use Rattle.shapes.specs.Picture.{isOf, fits, fitsAny, oneOf, run, within}
-use Rattle.forms.specs.Form.{isStamp, isKey, isClock, isTime, isArrival, isPosition}
-use Rattle.forms.specs.Kind.{SEQUENCE, STAMP, KEY, POINT, TIME, GROUND-SPEED, TRACK-LEVEL, POSITION, ARRIVAL, isForm}
-use Rattle.words.specs.Word.{wordOf, isWord}
+use Rattle.rules.specs.Form.{isStamp, isKey, isClock, isTime, isArrival, isPosition}
+use Rattle.rules.specs.Kind.{SEQUENCE, STAMP, KEY, POINT, TIME, GROUND-SPEED, TRACK-LEVEL, POSITION, ARRIVAL, isForm}
+use Rattle.fields.specs.Word.{wordOf, isWord}
 use Rattle.fields.specs.declared.frame.SequenceRead.the-variants as sequence
 use Rattle.fields.specs.declared.frame.StampRead.the-variants as stamp
 use Rattle.fields.specs.declared.flight.KeyRead.the-variants as key

@@ -7,10 +7,10 @@ use Prim.Native.Nat.{ℕ}
 use Rattle.text.specs.Text.{textOf}
 use Rattle.text.specs.declared.Packed.{Packed}
 use Rattle.text.specs.declared.Packed.the-variants as word
-use Rattle.forms.specs.Form.{isKey, isSequence, isStamp, isTime}
-use Rattle.forms.specs.Kind.{SEQUENCE, STAMP, KEY, TIME, isForm}
-use Rattle.words.specs.Word.{wordOf, isWord}
-use Rattle.words.proofs.Laws.{read-sound, read-complete}
+use Rattle.rules.specs.Form.{isKey, isSequence, isStamp, isTime}
+use Rattle.rules.specs.Kind.{SEQUENCE, STAMP, KEY, TIME, isForm}
+use Rattle.fields.specs.Word.{wordOf, isWord}
+use Rattle.fields.proofs.WordLaws.{read-sound, read-complete}
 use Rattle.fields.specs.Typed.{asSequence, asStamp, asKey, asTime}
 use Rattle.fields.specs.declared.frame.Sequence.{Sequence}
 use Rattle.fields.specs.declared.frame.SequenceRead.the-variants as sequence

@@ -1,3 +1,13 @@
 pub mod Laws
-pub mod Unique
 pub mod Examples
+pub mod WordLaws
+pub mod PairLaws
+pub mod IdentLaws
+pub mod AircraftLaws
+pub mod AircraftReadings
+pub mod Single
+pub mod TypeLaws
+pub mod FacilityLaws
+pub mod Answers
+pub mod Slashes
+pub mod Unique

@@ -1,10 +1,11 @@
 // The fields before a line's body.
+use crate::words;
 use text::Packed;
 use text::Written;
 ghost use mathlib.Core.Path.{_≡_};
 ghost use Rattle.text.specs.Text.{textOf, writtenNext, writtenBytes};
-ghost use Rattle.forms.specs.Kind.{SEQUENCE, STAMP};
-ghost use Rattle.words.specs.Word.{wordOf, isWord};
+ghost use Rattle.rules.specs.Kind.{SEQUENCE, STAMP};
+ghost use Rattle.fields.specs.Word.{wordOf, isWord};
 ghost use Rattle.fields.specs.Typed.{asSequence, asStamp};
 
 // A sequence number: four characters 0-9 or A-F.
@@ -19,7 +20,7 @@ impl Sequence {
     pub fn read(s: &[u8]) -> SequenceRead
         ensures { λ r. ⌜ r ≡ asSequence (wordOf SEQUENCE (now (s .entry))) ⌝ }
     {
-        let Packed::Text(t) = words::read(forms::SEQUENCE, s) else {
+        let Packed::Text(t) = words::read(rules::SEQUENCE, s) else {
             return SequenceRead::Nothing;
         };
         SequenceRead::Read(Sequence(t))
@@ -28,14 +29,14 @@ impl Sequence {
     pub fn holds(self) -> bool
         ensures { λ r. ⌜ r ≡ isWord SEQUENCE (self .0) ⌝ }
     {
-        words::holds(forms::SEQUENCE, self.0)
+        words::holds(rules::SEQUENCE, self.0)
     }
 
     pub fn put(self, out: &mut [u8], at: usize) -> Written
         ensures { λ r. ⌜ r ≡ writtenNext (isWord SEQUENCE (self .0)) (textOf (self .0)) (now (out .entry)) at ⌝ }
         ensures { λ _. ⌜ now (out .exit) ≡ writtenBytes (isWord SEQUENCE (self .0)) (textOf (self .0)) (now (out .entry)) at ⌝ }
     {
-        words::put(forms::SEQUENCE, self.0, out, at)
+        words::put(rules::SEQUENCE, self.0, out, at)
     }
 }
 
@@ -51,7 +52,7 @@ impl Stamp {
     pub fn read(s: &[u8]) -> StampRead
         ensures { λ r. ⌜ r ≡ asStamp (wordOf STAMP (now (s .entry))) ⌝ }
     {
-        let Packed::Text(t) = words::read(forms::STAMP, s) else {
+        let Packed::Text(t) = words::read(rules::STAMP, s) else {
             return StampRead::Nothing;
         };
         StampRead::Read(Stamp(t))
@@ -60,13 +61,13 @@ impl Stamp {
     pub fn holds(self) -> bool
         ensures { λ r. ⌜ r ≡ isWord STAMP (self .0) ⌝ }
     {
-        words::holds(forms::STAMP, self.0)
+        words::holds(rules::STAMP, self.0)
     }
 
     pub fn put(self, out: &mut [u8], at: usize) -> Written
         ensures { λ r. ⌜ r ≡ writtenNext (isWord STAMP (self .0)) (textOf (self .0)) (now (out .entry)) at ⌝ }
         ensures { λ _. ⌜ now (out .exit) ≡ writtenBytes (isWord STAMP (self .0)) (textOf (self .0)) (now (out .entry)) at ⌝ }
     {
-        words::put(forms::STAMP, self.0, out, at)
+        words::put(rules::STAMP, self.0, out, at)
     }
 }

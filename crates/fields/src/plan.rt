@@ -1,8 +1,9 @@
 // Fields of plans, departures and amendments.
+use crate::words;
 use text::Packed;
 ghost use mathlib.Core.Path.{_≡_};
-ghost use Rattle.forms.specs.Kind.{POINT, TIME};
-ghost use Rattle.words.specs.Word.{wordOf, isWord};
+ghost use Rattle.rules.specs.Kind.{POINT, TIME};
+ghost use Rattle.fields.specs.Word.{wordOf, isWord};
 ghost use Rattle.fields.specs.Typed.{asTime};
 
 // A filed speed: 2 to 4 digits, or a letter and 3 digits (Mach), or SC.
@@ -15,7 +16,7 @@ impl Point {
     pub fn holds(self) -> bool
         ensures { λ r. ⌜ r ≡ isWord POINT (self .0) ⌝ }
     {
-        words::holds(forms::POINT, self.0)
+        words::holds(rules::POINT, self.0)
     }
 }
 
@@ -34,7 +35,7 @@ impl Time {
     pub fn read(s: &[u8]) -> TimeRead
         ensures { λ r. ⌜ r ≡ asTime (wordOf TIME (now (s .entry))) ⌝ }
     {
-        let Packed::Text(t) = words::read(forms::TIME, s) else {
+        let Packed::Text(t) = words::read(rules::TIME, s) else {
             return TimeRead::Nothing;
         };
         TimeRead::Read(Time(t))

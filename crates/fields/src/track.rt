@@ -1,7 +1,8 @@
 // Fields of tracks and arrivals.
+use crate::words;
 ghost use mathlib.Core.Path.{_≡_};
-ghost use Rattle.forms.specs.Kind.{GROUND-SPEED, TRACK-LEVEL, POSITION, ARRIVAL};
-ghost use Rattle.words.specs.Word.{isWord};
+ghost use Rattle.rules.specs.Kind.{GROUND-SPEED, TRACK-LEVEL, POSITION, ARRIVAL};
+ghost use Rattle.fields.specs.Word.{isWord};
 
 // A ground speed: 3 digits.
 pub struct GroundSpeed(pub u64);
@@ -10,7 +11,7 @@ impl GroundSpeed {
     pub fn holds(self) -> bool
         ensures { λ r. ⌜ r ≡ isWord GROUND-SPEED (self .0) ⌝ }
     {
-        words::holds(forms::GROUND_SPEED, self.0)
+        words::holds(rules::GROUND_SPEED, self.0)
     }
 }
 
@@ -21,7 +22,7 @@ impl TrackLevel {
     pub fn holds(self) -> bool
         ensures { λ r. ⌜ r ≡ isWord TRACK-LEVEL (self .0) ⌝ }
     {
-        words::holds(forms::TRACK_LEVEL, self.0)
+        words::holds(rules::TRACK_LEVEL, self.0)
     }
 }
 
@@ -32,7 +33,7 @@ impl Position {
     pub fn holds(self) -> bool
         ensures { λ r. ⌜ r ≡ isWord POSITION (self .0) ⌝ }
     {
-        words::holds(forms::POSITION, self.0)
+        words::holds(rules::POSITION, self.0)
     }
 }
 
@@ -46,6 +47,6 @@ impl ArrivalClock {
     pub fn holds(self) -> bool
         ensures { λ r. ⌜ r ≡ isWord ARRIVAL (self .0) ⌝ }
     {
-        words::holds(forms::ARRIVAL, self.0)
+        words::holds(rules::ARRIVAL, self.0)
     }
 }

@@ -3,20 +3,20 @@ use mathlib.Core.Path.{_≡_, refl}
 use mathlib.Core.Bool.{true}
 use mathlib.Core.List.{List}
 use Rattle.text.proofs.Logic.{and-left, and-right}
-use Rattle.forms.specs.Kind.{KEY}
-use Rattle.words.specs.Word.{isWord}
-use Rattle.rows.specs.Row.{isArrival, isTrack, hasEntry, isRow}
-use Rattle.rows.specs.Rows.{keyOf, allRows, lookRow}
-use Rattle.rows.specs.declared.Row.{Row}
-use Rattle.rows.specs.declared.Arrival.{Arrival}
-use Rattle.rows.specs.declared.Track.{Track}
-use Rattle.rows.specs.declared.ArrivalSlot.{ArrivalSlot}
-use Rattle.rows.specs.declared.ArrivalSlot.the-variants as arrival
-use Rattle.rows.specs.declared.TrackSlot.{TrackSlot}
-use Rattle.rows.specs.declared.TrackSlot.the-variants as track
+use Rattle.rules.specs.Kind.{KEY}
+use Rattle.fields.specs.Word.{isWord}
+use Rattle.board.specs.Row.{isArrival, isTrack, hasEntry, isRow}
+use Rattle.board.specs.Rows.{keyOf, allRows, lookRow}
+use Rattle.board.specs.declared.rows.Row.{Row}
+use Rattle.board.specs.declared.rows.Arrival.{Arrival}
+use Rattle.board.specs.declared.rows.Track.{Track}
+use Rattle.board.specs.declared.rows.ArrivalSlot.{ArrivalSlot}
+use Rattle.board.specs.declared.rows.ArrivalSlot.the-variants as arrival
+use Rattle.board.specs.declared.rows.TrackSlot.{TrackSlot}
+use Rattle.board.specs.declared.rows.TrackSlot.the-variants as track
 use Rattle.history.specs.Events.{Event, dz, az, tz, other, unread, strike, misnamed, History, start, _then_, isEvent, allEvents}
 use Rattle.history.specs.Steps.{byDz, byAz, byTz, rowsAfter, after}
-use Rattle.rows.proofs.Boards.{written-allowed, struck-allowed, looked-arrival, looked-track}
+use Rattle.board.proofs.Kept.{written-allowed, struck-allowed, looked-arrival, looked-track}
 
 -- ---- one event, and a history
 

@@ -8,14 +8,14 @@ use mathlib.Core.List.{List, List·Memᴰ}
 use mathlib.Core.Option.{none}
 use lib.ListN.{length}
 use Rattle.text.proofs.Logic.{true-false, not-holds}
-use Rattle.rows.specs.Rows.{CAP, lookup, fits, isListed}
-use Rattle.rows.specs.declared.Row.{Row}
+use Rattle.board.specs.Rows.{CAP, lookup, fits, isListed}
+use Rattle.board.specs.declared.rows.Row.{Row}
 use Rattle.history.specs.Events.{Event, dz, az, tz, other, unread, strike, misnamed, History}
 use Rattle.history.specs.Steps.{Took, Refused, NoRoom, NotListed, answer, after}
 use Rattle.history.specs.Demand.{For, for-dz, for-az, for-tz, StrikeOf, the-strike, Readable, read-dz, read-az, read-tz, read-other, Senseless, no-reading, no-key, Listed, Count, MeetsFull}
 use Rattle.history.specs.Promise.{Taken}
 use Rattle.history.proofs.Keys.{keysOf, length-keys, rising-keys, keys-shown, shown-keys, keys-ext}
-use Rattle.rows.proofs.Places.{full-is, is-full}
+use Rattle.board.proofs.Places.{full-is, is-full}
 use Rattle.history.proofs.Shows.{not-both, row-is, listed-is, unlisted-is}
 use Rattle.history.proofs.Turns.{clash, cap-is, after-rising, after-room}
 

@@ -3,9 +3,9 @@
 use mathlib.Core.Path.{_≡_}
 use mathlib.Core.Bool.{true}
 use mathlib.Core.List.{List}
-use Rattle.rows.specs.Rows.{isBoard}
-use Rattle.rows.specs.declared.Row.{Row}
-use Rattle.rows.proofs.Boards.{fair, board-of}
+use Rattle.board.specs.Rows.{isBoard}
+use Rattle.board.specs.declared.rows.Row.{Row}
+use Rattle.board.proofs.Kept.{fair, board-of}
 use Rattle.history.specs.Events.{Event, History, isEvent, allEvents}
 use Rattle.history.specs.Steps.{rowsAfter, after}
 use Rattle.history.proofs.Allowed.{step-allowed, after-allowed}

@@ -4,7 +4,7 @@ use Prim.Native.Nat.{ℕ}
 use native.Mathlib.Omega.{arith}
 use mathlib.Core.Path.{_≡_, refl}
 use mathlib.Core.Option.{Option, none, some}
-use Rattle.rows.specs.Rows.{lookup}
+use Rattle.board.specs.Rows.{lookup}
 use Rattle.history.specs.Events.{Event, dz, az, tz, other, unread, strike, misnamed, History, _then_}
 use Rattle.history.specs.Steps.{after}
 use Rattle.history.specs.Demand.{For, for-dz, for-az, for-tz, StrikeOf, the-strike, About}

@@ -10,8 +10,8 @@ use mathlib.Core.Option.{some}
 use borrow.Author.Tests.{eqb-true, eqb-false}
 use lib.ListN.{length}
 use lib.Dec.{eqb}
-use Rattle.rows.specs.Rows.{keyOf, Above, Rising, lookup}
-use Rattle.rows.specs.declared.Row.{Row}
+use Rattle.board.specs.Rows.{keyOf, Above, Rising, lookup}
+use Rattle.board.specs.declared.rows.Row.{Row}
 use Rattle.history.specs.Demand.{Up, RisingKeys}
 
 abbrev pub keysOf : List Row → List ℕ

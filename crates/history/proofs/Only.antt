@@ -8,20 +8,20 @@ use mathlib.Core.List.{List, [], _∷_}
 use mathlib.Core.Option.{Option, none, some}
 use borrow.Author.Tests.{eqb-true}
 use lib.Dec.{eqb}
-use Rattle.rows.specs.Rows.{keyOf, lookup, lookRow}
-use Rattle.rows.specs.declared.Row.{Row}
-use Rattle.rows.specs.declared.Arrival.{Arrival}
-use Rattle.rows.specs.declared.Track.{Track}
-use Rattle.rows.specs.declared.ArrivalSlot.{ArrivalSlot}
-use Rattle.rows.specs.declared.ArrivalSlot.the-variants as arrival
-use Rattle.rows.specs.declared.TrackSlot.{TrackSlot}
-use Rattle.rows.specs.declared.TrackSlot.the-variants as track
+use Rattle.board.specs.Rows.{keyOf, lookup, lookRow}
+use Rattle.board.specs.declared.rows.Row.{Row}
+use Rattle.board.specs.declared.rows.Arrival.{Arrival}
+use Rattle.board.specs.declared.rows.Track.{Track}
+use Rattle.board.specs.declared.rows.ArrivalSlot.{ArrivalSlot}
+use Rattle.board.specs.declared.rows.ArrivalSlot.the-variants as arrival
+use Rattle.board.specs.declared.rows.TrackSlot.{TrackSlot}
+use Rattle.board.specs.declared.rows.TrackSlot.the-variants as track
 use Rattle.history.specs.Events.{Event, dz, az, tz, other, unread, strike, misnamed, History, start, _then_}
 use Rattle.history.specs.Demand.{StrikeOf, TakenArrival, TakenTrack, TakenDz, Readable, read-dz, read-az, read-tz, read-other, no-reading, no-key, _⊑_, whole, more, Stands, Listed, ArrivalOf, TrackOf, MeetsFull, Meaning}
 use Rattle.history.specs.Promise.{Shows, Taken}
 use Rattle.history.specs.Steps.{after}
 use Rattle.history.proofs.Demand.{demand3}
-use Rattle.rows.proofs.Same.{rows-ext}
+use Rattle.board.proofs.Same.{rows-ext}
 use Rattle.history.proofs.Shows.{not-both}
 use Rattle.history.proofs.Turns.{clash, look-some}
 

@@ -5,19 +5,19 @@ use mathlib.Core.Logic.{_↔_, _⊎_, inl, inr}
 use mathlib.Core.Path.{_≡_, refl, sym, ap, _∙_}
 use mathlib.Core.Bool.{true, false≢true}
 use mathlib.Core.Option.{Option, none, some}
-use Rattle.rows.specs.Rows.{lookup, lookRow, isListed}
-use Rattle.rows.specs.declared.Row.{Row}
-use Rattle.rows.specs.declared.Arrival.{Arrival}
-use Rattle.rows.specs.declared.Track.{Track}
-use Rattle.rows.specs.declared.ArrivalSlot.{ArrivalSlot}
-use Rattle.rows.specs.declared.ArrivalSlot.the-variants as arrival
-use Rattle.rows.specs.declared.TrackSlot.{TrackSlot}
-use Rattle.rows.specs.declared.TrackSlot.the-variants as track
+use Rattle.board.specs.Rows.{lookup, lookRow, isListed}
+use Rattle.board.specs.declared.rows.Row.{Row}
+use Rattle.board.specs.declared.rows.Arrival.{Arrival}
+use Rattle.board.specs.declared.rows.Track.{Track}
+use Rattle.board.specs.declared.rows.ArrivalSlot.{ArrivalSlot}
+use Rattle.board.specs.declared.rows.ArrivalSlot.the-variants as arrival
+use Rattle.board.specs.declared.rows.TrackSlot.{TrackSlot}
+use Rattle.board.specs.declared.rows.TrackSlot.the-variants as track
 use Rattle.history.specs.Events.{Event, dz, az, tz, other, unread, strike, misnamed, History, _then_}
 use Rattle.history.specs.Steps.{after}
 use Rattle.history.specs.Demand.{DzAz, a-dz, an-az, Dz, the-dz, Tz, the-tz, For, for-dz, for-az, for-tz, StrikeOf, TakenFor, TakenArrival, TakenTrack, TakenDz, Listed, ArrivalOf, TrackOf}
 use Rattle.history.specs.Promise.{Taken}
-use Rattle.rows.proofs.Places.{shown, listed-shown}
+use Rattle.board.proofs.Places.{shown, listed-shown}
 use Rattle.history.proofs.Stands.{Turn, hit, stop, pass, Follows, stands}
 use Rattle.history.proofs.Turns.{clash, strike-for, rowBy, after-rising, look-some, look-none, look-same, RowTurn, put, gone, kept, turned}
 

@@ -9,15 +9,15 @@ use mathlib.Core.Option.{Option, none, some}
 use borrow.Author.Tests.{eqb-true, eqb-false}
 use lib.ListN.{length}
 use lib.Dec.{eqb}
-use Rattle.rows.specs.Rows.{CAP, keyOf, Rising, lookup, orEmpty, lookRow, written, fits, struck}
-use Rattle.rows.specs.declared.Row.{Row}
+use Rattle.board.specs.Rows.{CAP, keyOf, Rising, lookup, orEmpty, lookRow, written, fits, struck}
+use Rattle.board.specs.declared.rows.Row.{Row}
 use Rattle.history.specs.Events.{Event, dz, az, tz, other, unread, strike, misnamed, History, start, _then_}
 use Rattle.history.specs.Steps.{Took, NoRoom, Ask, Put, Strike, Nothing, byDz, byAz, byTz, ask, rowsBy, answerBy, rowsAfter, answer, after}
 use Rattle.history.specs.Demand.{For, for-dz, for-az, for-tz, StrikeOf, the-strike, About}
-use Rattle.rows.proofs.Lookup.{written-shown, written-others, struck-none, struck-others}
-use Rattle.rows.proofs.Twins.{written-full}
-use Rattle.rows.proofs.Rising.{written-rising, struck-rising}
-use Rattle.rows.proofs.Places.{written-room, struck-room}
+use Rattle.board.proofs.Lookup.{written-shown, written-others, struck-none, struck-others}
+use Rattle.board.proofs.Twins.{written-full}
+use Rattle.board.proofs.Rising.{written-rising, struck-rising}
+use Rattle.board.proofs.Places.{written-room, struck-room}
 
 -- two things that cannot be equal are
 pub clash : {X : Type 0} → _≡_ {A = ℕ} 0 1 → X

@@ -5,8 +5,8 @@ use mathlib.Core.Logic.{_↔_, _⊎_}
 use mathlib.Core.Path.{_≡_}
 use mathlib.Core.List.{List, [], _∷_, List·Memᴰ}
 use lib.ListN.{length}
-use Rattle.rows.specs.declared.Arrival.{Arrival}
-use Rattle.rows.specs.declared.Track.{Track}
+use Rattle.board.specs.declared.rows.Arrival.{Arrival}
+use Rattle.board.specs.declared.rows.Track.{Track}
 use Rattle.history.specs.Events.{Event, dz, az, tz, other, unread, strike, misnamed, History, _then_}
 
 -- ---- lines and strikes

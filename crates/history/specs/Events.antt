@@ -2,13 +2,13 @@
 -- Assumes nothing.
 use Prim.Native.Nat.{ℕ}
 use mathlib.Core.Bool.{Bool, true, _&&_}
-use Rattle.forms.specs.Kind.{KEY}
-use Rattle.words.specs.Word.{isWord}
-use Rattle.rows.specs.Row.{isArrival, isTrack}
-use Rattle.rows.specs.declared.Arrival.{Arrival}
-use Rattle.rows.specs.declared.Track.{Track}
-use Rattle.rows.specs.declared.ArrivalSlot.the-variants as arrival
-use Rattle.rows.specs.declared.TrackSlot.the-variants as track
+use Rattle.rules.specs.Kind.{KEY}
+use Rattle.fields.specs.Word.{isWord}
+use Rattle.board.specs.Row.{isArrival, isTrack}
+use Rattle.board.specs.declared.rows.Arrival.{Arrival}
+use Rattle.board.specs.declared.rows.Track.{Track}
+use Rattle.board.specs.declared.rows.ArrivalSlot.the-variants as arrival
+use Rattle.board.specs.declared.rows.TrackSlot.the-variants as track
 
 -- a readable DZ, AZ or TZ with the flight's key and what it writes; any other readable line ("Other types change nothing
 -- and need no room"); a line without a reading; a strike of a key; and a strike of what is no key

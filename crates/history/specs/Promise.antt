@@ -7,12 +7,12 @@ use mathlib.Core.Bool.{true}
 use mathlib.Core.List.{List}
 use mathlib.Core.Option.{some}
 use lib.ListN.{length}
-use Rattle.rows.specs.Rows.{isBoard, Rising, lookup, lookRow, isListed}
-use Rattle.rows.specs.declared.Row.{Row}
-use Rattle.rows.specs.declared.Arrival.{Arrival}
-use Rattle.rows.specs.declared.Track.{Track}
-use Rattle.rows.specs.declared.ArrivalSlot.the-variants as arrival
-use Rattle.rows.specs.declared.TrackSlot.the-variants as track
+use Rattle.board.specs.Rows.{isBoard, Rising, lookup, lookRow, isListed}
+use Rattle.board.specs.declared.rows.Row.{Row}
+use Rattle.board.specs.declared.rows.Arrival.{Arrival}
+use Rattle.board.specs.declared.rows.Track.{Track}
+use Rattle.board.specs.declared.rows.ArrivalSlot.the-variants as arrival
+use Rattle.board.specs.declared.rows.TrackSlot.the-variants as track
 use Rattle.history.specs.Events.{Event, History, _then_, allEvents}
 use Rattle.history.specs.Steps.{Took, Refused, NoRoom, NotListed, answer, after}
 use Rattle.history.specs.Demand.{About, StrikeOf, Senseless, Listed, ArrivalOf, TrackOf, MeetsFull, Meaning}

@@ -11,28 +11,27 @@ use Rattle.text.specs.Place.{value, allIn}
 use Rattle.text.specs.Text.{packed}
 use Rattle.text.proofs.Logic.{true-false}
 use Rattle.shapes.specs.Picture.{part, isOf, fits}
-use Rattle.forms.specs.Form.{isSequence, isStamp, isFacility}
-use Rattle.frame.specs.Frame.{bodyPart, facilityPart, headLength, longestLine, sequencePart, stampPart, typePart}
-use Rattle.heads.specs.Message.{typeText, typeOf}
-use Rattle.heads.specs.declared.MessageType.{MessageType}
-use Rattle.heads.specs.declared.MessageType.the-variants.{Fz}
-use Rattle.heads.specs.declared.TypeRead.{TypeRead}
-use Rattle.heads.specs.declared.TypeRead.the-variants as type
-use Rattle.heads.proofs.Messages.{type-sound, type-complete}
-use Rattle.kinds.specs.declared.FieldRead.the-variants as field
+use Rattle.rules.specs.Form.{isSequence, isStamp, isFacility}
+use Rattle.rules.specs.Frame.{bodyPart, facilityPart, headLength, longestLine, sequencePart, stampPart, typePart}
+use Rattle.fields.specs.MessageType.{typeText, typeOf}
+use Rattle.fields.specs.declared.heads.MessageType.{MessageType}
+use Rattle.fields.specs.declared.heads.MessageType.the-variants.{Fz}
+use Rattle.fields.specs.declared.heads.TypeRead.{TypeRead}
+use Rattle.fields.specs.declared.heads.TypeRead.the-variants as type
+use Rattle.fields.proofs.TypeLaws.{type-sound, type-complete}
+use Rattle.table.specs.declared.kinds.FieldRead.the-variants as field
 use Rattle.table.specs.Read.{padded}
-use Rattle.table.specs.declared.Answer.{Answer}
-use Rattle.table.specs.declared.Answer.the-variants as answer
-use Rattle.table.specs.declared.Fault.{Fault}
-use Rattle.table.specs.declared.Fault.the-variants as fault
-use Rattle.counts.specs.Table.{hasFields}
-use Rattle.counts.specs.Plan.{isLongPlan}
-use Rattle.counts.proofs.Ways.{each-type}
-use Rattle.layout.specs.Table.{answerBy, valuesBy}
+use Rattle.table.specs.declared.walk.Answer.{Answer}
+use Rattle.table.specs.declared.walk.Answer.the-variants as answer
+use Rattle.table.specs.declared.walk.Fault.{Fault}
+use Rattle.table.specs.declared.walk.Fault.the-variants as fault
+use Rattle.table.specs.Table.{hasFields, answerBy, valuesBy}
+use Rattle.table.specs.Plan.{isLongPlan}
+use Rattle.table.proofs.CountWays.{each-type}
 use Rattle.messages.specs.declared.Message.{Message}
-use Rattle.bodies.specs.Read.{typedOf, bodyRead}
-use Rattle.bodies.specs.declared.BodyRead.{BodyRead}
-use Rattle.bodies.proofs.Ways.{by-table, kept-whole}
+use Rattle.messages.specs.Read.{typedOf, bodyRead}
+use Rattle.messages.specs.declared.typed.BodyRead.{BodyRead}
+use Rattle.messages.proofs.ReadWays.{by-table, kept-whole}
 use Rattle.line.specs.Cases.{Framed, Headed, Case, Taken, Short, Long, Unprintable, NoSequence, NoStamp, NoFacility, NoType, Spacing, Field, Number, LongPlan, Two}
 use Rattle.line.specs.Read.{headOf, withBody, restOf, byHead, readOf, faultNumber, faultPlace, refusalNumber, refusalPlace, numberOf, placeOf, freeOf}
 use Rattle.line.specs.declared.Head.{Head}

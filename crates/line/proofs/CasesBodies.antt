@@ -9,18 +9,17 @@ use lib.Dec.{eqb}
 use lib.ListN.{length, length-take}
 use borrow.Author.Tests.{eqb-true, not-false}
 use Rattle.text.proofs.Logic.{not-fails}
-use Rattle.heads.specs.declared.MessageType.{MessageType}
-use Rattle.spacing.specs.Body.{bodyOf, allFields, Fields, fieldsOf}
-use Rattle.spacing.proofs.Laws.{fields-text, fields-body}
-use Rattle.kinds.specs.declared.FieldRead.{FieldRead}
+use Rattle.fields.specs.declared.heads.MessageType.{MessageType}
+use Rattle.table.specs.Spacing.{bodyOf, allFields, Fields, fieldsOf}
+use Rattle.table.proofs.SpacingLaws.{fields-text, fields-body}
+use Rattle.table.specs.declared.kinds.FieldRead.{FieldRead}
 use Rattle.table.specs.Read.{faultAt, answerOf}
-use Rattle.table.specs.declared.Answer.the-variants.{Refused}
-use Rattle.table.specs.declared.Fault.the-variants.{Spacing}
+use Rattle.table.specs.declared.walk.Answer.the-variants.{Refused}
+use Rattle.table.specs.declared.walk.Fault.the-variants.{Spacing}
 use Rattle.table.proofs.Refusals.{spacing, spacing-only, isFault, Bad, bad-at, bad-only, fault-spacing}
-use Rattle.counts.specs.Table.{tableOf, isCount, hasFields}
-use Rattle.layout.specs.Table.{kindsOf, countIn, answerBy}
-use Rattle.layout.proofs.Ways.{kinds-length}
-use Rattle.layout.proofs.Tables.{table-few}
+use Rattle.table.specs.Table.{tableOf, isCount, hasFields, kindsOf, countIn, answerBy}
+use Rattle.table.proofs.TableWays.{kinds-length}
+use Rattle.table.proofs.Tables.{table-few}
 use Rattle.line.specs.Cases.{Faulty}
 
 -- ---- a body with a fault has fields

@@ -1,29 +1,28 @@
--- What the promises of `line` require on lines written out, and wrong answers that they do not allow: of each, `Post` is the function's
--- `ensures` as it stands in the source, r any result that meets it. Assumes nothing.
+-- What the promises of `line` require on inputs written out, and so wrong answers that they do not allow: of each, `Post` is the function's
+-- `ensures` as it stands in the source, r any result that meets it, s the state at exit. Assumes nothing.
 use mathlib.Core.Path.{_≡_, ap, _∙_}
 use denote.Ref.{now}
 use Rattle.text.specs.Bytes.{bytes}
 use Rattle.text.specs.Class.{all, isDigit, isLetter, isAlnum}
 use Rattle.text.specs.Code.{codeOf}
-use Rattle.text.specs.Place.{value, allIn}
 use Rattle.text.specs.Number.{isDigitTo, digitOf, isNumeral, numberOf as number}
-use Rattle.shapes.specs.Pieces.{pieces}
-use Rattle.shapes.specs.Picture.{isOf, fits, fitsAny, oneOf, within}
+use Rattle.text.specs.Place.{value, allIn}
 use Rattle.shapes.specs.Cut.{upTo, has, before, after, joins}
-use Rattle.forms.specs.Form.{isStamp, isTzIdent}
-use Rattle.forms.specs.Kind.{isForm}
-use Rattle.words.specs.Pair.{isPairForm, pairOf}
-use Rattle.idents.specs.Ident.{tzIdentOf}
-use Rattle.heads.specs.Message.{typeOf}
-use Rattle.spacing.specs.Body.{ended, fieldsOf}
-use Rattle.kinds.specs.Field.{plain, readKind, readIn, follows}
+use Rattle.shapes.specs.Picture.{isOf, fits, fitsAny, oneOf, within}
+use Rattle.shapes.specs.Pieces.{pieces}
+use Rattle.rules.specs.Form.{isStamp, isTzIdent}
+use Rattle.rules.specs.Kind.{isForm}
+use Rattle.fields.specs.Ident.{tzIdentOf}
+use Rattle.fields.specs.MessageType.{typeOf}
+use Rattle.fields.specs.Pair.{isPairForm, pairOf}
+use Rattle.table.specs.Field.{plain, readKind, readIn, follows}
 use Rattle.table.specs.Read.{answerFrom, counted, answers, answerOf, routeIn, routeOf}
-use Rattle.counts.specs.Table.{countWith, isCount}
-use Rattle.layout.specs.Table.{kindsOf, countIn, answerBy, routeBy}
-use Rattle.bodies.specs.Read.{bodyRead}
+use Rattle.table.specs.Spacing.{ended, fieldsOf}
+use Rattle.table.specs.Table.{countWith, isCount, kindsOf, countIn, answerBy, routeBy}
+use Rattle.messages.specs.Read.{bodyRead}
 use Rattle.line.specs.Read.{headOf, restOf, readOf, numberOf, placeOf, freeOf}
-use Rattle.line.proofs.read.Reads as read
 use Rattle.line.proofs.free.Reads as free
+use Rattle.line.proofs.read.Reads as read
 
 -- document 01's starred line is read
 pub refuses-every-line : (κs : _) (a : _) (r : _) (s : _) → read.Post κs a r s → now (a .0) ≡ bytes "000006143655KZMAHB" → numberOf r ≡ 0

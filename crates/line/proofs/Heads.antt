@@ -20,22 +20,22 @@ use Rattle.text.proofs.Laws.{text-packed, packed-text, text-is}
 use Rattle.shapes.specs.Pieces.{pieces}
 use Rattle.shapes.specs.Picture.{isOf, fits, fitsAny, oneOf, part}
 use Rattle.shapes.proofs.Laws.{fits-length}
-use Rattle.forms.specs.Form.{isSequence, isStamp, isFacility}
-use Rattle.frame.specs.Frame.{bodyPart, facilityPart, headLength, sequencePart, stampPart, typeAt, typePart}
-use Rattle.forms.specs.Kind.{SEQUENCE, STAMP, isForm}
-use Rattle.forms.proofs.Held.{form-held}
-use Rattle.words.specs.Word.{isWord}
-use Rattle.words.proofs.Laws.{form-word, word-form, word-packed}
-use Rattle.heads.specs.Facility.{facilityOf, facilityText, isFacilityValue}
-use Rattle.heads.specs.Message.{typeText, typeOf}
-use Rattle.heads.specs.declared.Facility.{Facility}
-use Rattle.heads.specs.declared.FacilityRead.the-variants as facility
-use Rattle.heads.specs.declared.MessageType.{MessageType}
-use Rattle.heads.specs.declared.MessageType.the-variants.{Af, Az, Dz, Fz, Rz, Tz, Uz, Rt, To, Hb}
-use Rattle.heads.specs.declared.TypeRead.{TypeRead}
-use Rattle.heads.specs.declared.TypeRead.the-variants as type
-use Rattle.heads.proofs.Facilities.{facility-sound, facility-complete, length-facility}
-use Rattle.heads.proofs.Messages.{type-sound, type-complete, length-type}
+use Rattle.rules.specs.Form.{isSequence, isStamp, isFacility}
+use Rattle.rules.specs.Frame.{bodyPart, facilityPart, headLength, sequencePart, stampPart, typeAt, typePart}
+use Rattle.rules.specs.Kind.{SEQUENCE, STAMP, isForm}
+use Rattle.rules.proofs.Held.{form-held}
+use Rattle.fields.specs.Word.{isWord}
+use Rattle.fields.proofs.WordLaws.{form-word, word-form, word-packed}
+use Rattle.fields.specs.Facility.{facilityOf, facilityText, isFacilityValue}
+use Rattle.fields.specs.MessageType.{typeText, typeOf}
+use Rattle.fields.specs.declared.heads.Facility.{Facility}
+use Rattle.fields.specs.declared.heads.FacilityRead.the-variants as facility
+use Rattle.fields.specs.declared.heads.MessageType.{MessageType}
+use Rattle.fields.specs.declared.heads.MessageType.the-variants.{Af, Az, Dz, Fz, Rz, Tz, Uz, Rt, To, Hb}
+use Rattle.fields.specs.declared.heads.TypeRead.{TypeRead}
+use Rattle.fields.specs.declared.heads.TypeRead.the-variants as type
+use Rattle.fields.proofs.FacilityLaws.{facility-sound, facility-complete, length-facility}
+use Rattle.fields.proofs.TypeLaws.{type-sound, type-complete, length-type}
 use Rattle.line.specs.Read.{typed, headOf}
 use Rattle.line.specs.declared.Head.{Head}
 use Rattle.line.specs.declared.HeadRead.the-variants as head

@@ -2,7 +2,8 @@ pub mod Ways
 pub mod Heads
 pub mod Steps
 pub mod Theorems
-pub mod Unique
 pub mod CasesBodies
 pub mod Cases
+pub mod Starred
+pub mod Unique
 pub mod Examples

@@ -10,19 +10,19 @@ use lib.ListN.{length, drop}
 use borrow.Author.Tests.{ltb-false, leb-true, le-ltb, le-leb, not-true}
 use Rattle.text.specs.Place.{allIn}
 use Rattle.text.proofs.Logic.{and-left, and-right}
-use Rattle.frame.specs.Frame.{bodyPart, headLength, longestLine}
-use Rattle.forms.specs.Kind.{SEQUENCE, STAMP}
-use Rattle.words.specs.Word.{isWord}
-use Rattle.heads.specs.Facility.{isFacilityValue}
-use Rattle.heads.specs.declared.MessageType.{MessageType}
-use Rattle.heads.specs.declared.TypeRead.the-variants as type
-use Rattle.counts.specs.Plan.{isLongPlan}
+use Rattle.rules.specs.Frame.{bodyPart, headLength, longestLine}
+use Rattle.rules.specs.Kind.{SEQUENCE, STAMP}
+use Rattle.fields.specs.Word.{isWord}
+use Rattle.fields.specs.Facility.{isFacilityValue}
+use Rattle.fields.specs.declared.heads.MessageType.{MessageType}
+use Rattle.fields.specs.declared.heads.TypeRead.the-variants as type
+use Rattle.table.specs.Plan.{isLongPlan}
 use Rattle.messages.specs.Body.{typeIn}
 use Rattle.messages.specs.Allowed.{bodyText, isBody}
 use Rattle.messages.specs.declared.Message.{Message}
-use Rattle.bodies.specs.Read.{bodyRead}
-use Rattle.bodies.specs.declared.BodyRead.{BodyRead}
-use Rattle.bodies.specs.declared.BodyRead.the-variants as body
+use Rattle.messages.specs.Read.{bodyRead}
+use Rattle.messages.specs.declared.typed.BodyRead.{BodyRead}
+use Rattle.messages.specs.declared.typed.BodyRead.the-variants as body
 use Rattle.line.specs.Line.{lineOf, isHead, hasSize, isAllowed}
 use Rattle.line.specs.Read.{headOf, withBody, restOf, byHead, readOf, freeBy, freeOf}
 use Rattle.line.specs.declared.Head.{Head}

@@ -6,20 +6,20 @@ use mathlib.Core.List.{List}
 use Prim.Native.Nat.{ℕ}
 use native.Mathlib.Omega.{arith}
 use lib.ListN.{drop}
-use Rattle.heads.specs.declared.TypeRead.the-variants as type
+use Rattle.fields.specs.declared.heads.TypeRead.the-variants as type
 use Rattle.messages.specs.Body.{typeIn}
 use Rattle.messages.specs.Allowed.{bodyText, isBody}
 use Rattle.messages.specs.declared.Message.{Message}
-use Rattle.bodies.proofs.Theorems.{body-sound, body-complete}
+use Rattle.messages.proofs.Theorems.{body-sound, body-complete}
 use Rattle.line.specs.Line.{lineOf, isAllowed}
 use Rattle.line.specs.Read.{readOf, refusalNumber, numberOf, freeBy, freeOf}
 use Rattle.line.specs.declared.LineRead.{LineRead}
 use Rattle.line.specs.declared.LineRead.the-variants.{Read, Refused}
 use Rattle.line.specs.declared.Refusal.{Refusal}
 use Rattle.line.specs.declared.Refusal.the-variants.{Short, Long, Unprintable, NoSequence, NoStamp, NoFacility, NoType, LongPlan, Body}
-use Rattle.table.specs.declared.Fault.the-variants.{Spacing, Field, Number, Two}
+use Rattle.table.specs.declared.walk.Fault.the-variants.{Spacing, Field, Number, Two}
 use Rattle.line.proofs.Heads.{printable-left}
-use Rattle.frame.specs.Frame.{bodyPart}
+use Rattle.rules.specs.Frame.{bodyPart}
 use Rattle.line.proofs.Steps.{reads-passes, passes-reads, passes-free, passes-text, passes-allows, allowed-allows, allows-allowed, allows-passes, text-body}
 
 -- what reads is allowed, and its text is the line

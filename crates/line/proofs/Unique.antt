@@ -1,9 +1,9 @@
--- Two answers that the promise of a public function of `line` allows are equal: of each, `Post` is its `ensures` as it stands in
--- the source, r and r′ are two results, s and s′ two states at exit. Assumes nothing.
+-- Two answers that the promise of a public function of `line` allows are equal: of each, `Post` is its `ensures` as it stands in the source, r
+-- and r′ are two results, s and s′ two states at exit. Assumes nothing.
 use mathlib.Core.Path.{_≡_, sym, _∙_}
 use denote.Ref.{now}
-use Rattle.line.proofs.read.Reads as read
 use Rattle.line.proofs.free.Reads as free
+use Rattle.line.proofs.read.Reads as read
 
 pub read-one : (κs : _) (a : _) (r r′ : _) (s s′ : _) → read.Post κs a r s → read.Post κs a r′ s′ → r ≡ r′
 read-one κs a r r′ s s′ p q = p .0 ∙ sym (q .0)

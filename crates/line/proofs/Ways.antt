@@ -10,26 +10,25 @@ use Rattle.text.specs.Place.{value, allIn}
 use Rattle.text.specs.Text.{packed}
 use Rattle.shapes.specs.Picture.{part}
 use Rattle.shapes.proofs.Laws.{rest-all}
-use Rattle.forms.specs.Form.{isSequence, isStamp, isFacility}
-use Rattle.frame.specs.Frame.{bodyPart, facilityPart, headLength, longestLine, sequencePart, stampPart, typePart}
-use Rattle.forms.specs.Kind.{SEQUENCE, STAMP, isForm}
-use Rattle.words.specs.Word.{wordOf}
+use Rattle.rules.specs.Form.{isSequence, isStamp, isFacility}
+use Rattle.rules.specs.Frame.{bodyPart, facilityPart, headLength, longestLine, sequencePart, stampPart, typePart}
+use Rattle.rules.specs.Kind.{SEQUENCE, STAMP, isForm}
+use Rattle.fields.specs.Word.{wordOf}
 use Rattle.fields.specs.Typed.{asSequence, asStamp}
 use Rattle.fields.specs.declared.frame.Sequence.{Sequence}
 use Rattle.fields.specs.declared.frame.SequenceRead.the-variants as sequence
 use Rattle.fields.specs.declared.frame.Stamp.{Stamp}
 use Rattle.fields.specs.declared.frame.StampRead.the-variants as stamp
-use Rattle.heads.specs.Facility.{facilityOf}
-use Rattle.heads.specs.Message.{typeOf}
-use Rattle.heads.specs.declared.Facility.{Facility}
-use Rattle.heads.specs.declared.FacilityRead.the-variants as facility
-use Rattle.heads.specs.declared.MessageType.{MessageType}
-use Rattle.heads.specs.declared.TypeRead.the-variants as type
-use Rattle.counts.specs.Table.{hasFields}
-use Rattle.counts.specs.Plan.{isLongPlan}
-use Rattle.layout.specs.Table.{routeBy, freeIn}
-use Rattle.bodies.specs.Read.{bodyRead}
-use Rattle.bodies.specs.declared.BodyRead.{BodyRead}
+use Rattle.fields.specs.Facility.{facilityOf}
+use Rattle.fields.specs.MessageType.{typeOf}
+use Rattle.fields.specs.declared.heads.Facility.{Facility}
+use Rattle.fields.specs.declared.heads.FacilityRead.the-variants as facility
+use Rattle.fields.specs.declared.heads.MessageType.{MessageType}
+use Rattle.fields.specs.declared.heads.TypeRead.the-variants as type
+use Rattle.table.specs.Table.{hasFields, routeBy, freeIn}
+use Rattle.table.specs.Plan.{isLongPlan}
+use Rattle.messages.specs.Read.{bodyRead}
+use Rattle.messages.specs.declared.typed.BodyRead.{BodyRead}
 use Rattle.line.specs.Read.{headOf, withBody, restOf, byHead, readOf, freeOf}
 use Rattle.line.specs.declared.Head.{Head}
 use Rattle.line.specs.declared.HeadRead.{HeadRead}

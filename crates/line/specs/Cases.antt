@@ -8,18 +8,17 @@ use mathlib.Core.List.{List}
 use lib.ListN.{length, drop}
 use Rattle.text.specs.Place.{allIn}
 use Rattle.shapes.specs.Picture.{part}
-use Rattle.forms.specs.Form.{isSequence, isStamp, isFacility}
-use Rattle.frame.specs.Frame.{bodyPart, facilityPart, sequencePart, stampPart, typePart}
-use Rattle.heads.specs.Message.{typeText}
-use Rattle.heads.specs.declared.MessageType.{MessageType}
-use Rattle.heads.specs.declared.MessageType.the-variants as type
-use Rattle.spacing.specs.Body.{bodyOf, allFields}
-use Rattle.kinds.specs.declared.FieldRead.{FieldRead}
-use Rattle.kinds.specs.declared.FieldRead.the-variants as field
+use Rattle.rules.specs.Form.{isSequence, isStamp, isFacility}
+use Rattle.rules.specs.Frame.{bodyPart, facilityPart, sequencePart, stampPart, typePart}
+use Rattle.fields.specs.MessageType.{typeText}
+use Rattle.fields.specs.declared.heads.MessageType.{MessageType}
+use Rattle.fields.specs.declared.heads.MessageType.the-variants as type
+use Rattle.table.specs.Spacing.{bodyOf, allFields}
+use Rattle.table.specs.declared.kinds.FieldRead.{FieldRead}
+use Rattle.table.specs.declared.kinds.FieldRead.the-variants as field
 use Rattle.table.specs.Fault.{First}
-use Rattle.counts.specs.Table.{isCount, hasFields}
-use Rattle.counts.specs.Plan.{isLongPlan}
-use Rattle.layout.specs.Table.{kindsOf}
+use Rattle.table.specs.Table.{isCount, hasFields, kindsOf}
+use Rattle.table.specs.Plan.{isLongPlan}
 use Rattle.messages.specs.declared.Message.{Message}
 use Rattle.line.specs.Line.{lineOf, isAllowed}
 

@@ -1,3 +1,4 @@
 pub mod Line
 pub mod Read
 pub mod Cases
+pub mod Starred

@@ -6,12 +6,12 @@ use mathlib.Core.List.{List, _++_}
 use lib.Dec.{leb}
 use lib.ListN.{length}
 use Rattle.text.specs.Text.{textOf}
-use Rattle.frame.specs.Frame.{longestLine}
-use Rattle.forms.specs.Kind.{SEQUENCE, STAMP}
-use Rattle.words.specs.Word.{isWord}
-use Rattle.heads.specs.Facility.{facilityText, isFacilityValue}
-use Rattle.heads.specs.Message.{typeText}
-use Rattle.counts.specs.Plan.{isLongPlan}
+use Rattle.rules.specs.Frame.{longestLine}
+use Rattle.rules.specs.Kind.{SEQUENCE, STAMP}
+use Rattle.fields.specs.Word.{isWord}
+use Rattle.fields.specs.Facility.{facilityText, isFacilityValue}
+use Rattle.fields.specs.MessageType.{typeText}
+use Rattle.table.specs.Plan.{isLongPlan}
 use Rattle.messages.specs.Body.{typeIn}
 use Rattle.messages.specs.Allowed.{bodyText, isBody}
 use Rattle.messages.specs.declared.Message.{Message}

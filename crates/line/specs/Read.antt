@@ -8,18 +8,18 @@ use lib.ListN.{length, drop}
 use Rattle.text.specs.Place.{value, allIn}
 use Rattle.text.specs.Text.{packed}
 use Rattle.shapes.specs.Picture.{part}
-use Rattle.forms.specs.Form.{isSequence, isStamp, isFacility}
-use Rattle.frame.specs.Frame.{bodyPart, facilityPart, headLength, longestLine, sequencePart, stampPart, typePart}
-use Rattle.heads.specs.Message.{typeOf}
-use Rattle.heads.specs.declared.TypeRead.{TypeRead}
-use Rattle.heads.specs.declared.TypeRead.the-variants as type
-use Rattle.counts.specs.Plan.{isLongPlan}
-use Rattle.layout.specs.Table.{freeIn}
-use Rattle.table.specs.declared.Fault.{Fault}
-use Rattle.table.specs.declared.Fault.the-variants.{Spacing, Field, Number, Two}
-use Rattle.bodies.specs.Read.{bodyRead}
-use Rattle.bodies.specs.declared.BodyRead.{BodyRead}
-use Rattle.bodies.specs.declared.BodyRead.the-variants as body
+use Rattle.rules.specs.Form.{isSequence, isStamp, isFacility}
+use Rattle.rules.specs.Frame.{bodyPart, facilityPart, headLength, longestLine, sequencePart, stampPart, typePart}
+use Rattle.fields.specs.MessageType.{typeOf}
+use Rattle.fields.specs.declared.heads.TypeRead.{TypeRead}
+use Rattle.fields.specs.declared.heads.TypeRead.the-variants as type
+use Rattle.table.specs.Plan.{isLongPlan}
+use Rattle.table.specs.Table.{freeIn}
+use Rattle.table.specs.declared.walk.Fault.{Fault}
+use Rattle.table.specs.declared.walk.Fault.the-variants.{Spacing, Field, Number, Two}
+use Rattle.messages.specs.Read.{bodyRead}
+use Rattle.messages.specs.declared.typed.BodyRead.{BodyRead}
+use Rattle.messages.specs.declared.typed.BodyRead.the-variants as body
 use Rattle.line.specs.declared.Head.{Head}
 use Rattle.line.specs.declared.HeadRead.{HeadRead}
 use Rattle.line.specs.declared.HeadRead.the-variants as head

@@ -1,25 +1,27 @@
 // One line of the feed: read as a message, and its free text handed back as a part of it.
-use bodies::BodyRead;
-use bodies::read_body;
+
 use fields::frame::Sequence;
 use fields::frame::SequenceRead;
 use fields::frame::Stamp;
 use fields::frame::StampRead;
-use frame::BODY_AT;
-use frame::FACILITY_AT;
-use frame::LONGEST_LINE;
-use frame::STAMP_AT;
-use frame::TYPE_AT;
-use heads::Facility;
-use heads::FacilityRead;
-use heads::MessageType;
-use heads::TypeRead;
+use fields::heads::Facility;
+use fields::heads::FacilityRead;
+use fields::heads::MessageType;
+use fields::heads::TypeRead;
 use messages::Message;
-use table::Fault;
+use messages::typed::BodyRead;
+use messages::typed::read_body;
+use rules::BODY_AT;
+use rules::FACILITY_AT;
+use rules::LONGEST_LINE;
+use rules::STAMP_AT;
+use rules::TYPE_AT;
+use shapes::sweeps;
+use table::walk::Fault;
 ghost use mathlib.Core.Path.{_≡_};
 ghost use Prim.Native.Nat.{_≤_};
 ghost use lib.ListN.{length};
-ghost use Rattle.frame.specs.Frame.{headLength};
+ghost use Rattle.rules.specs.Frame.{headLength};
 ghost use Rattle.line.specs.Cases.{Case};
 ghost use Rattle.line.specs.Read.{headOf, restOf, readOf, numberOf, placeOf, freeOf};
 
@@ -84,7 +86,7 @@ fn read_rest(head: Head, line: &[u8]) -> LineRead
     ensures { λ r. ⌜ r ≡ restOf head (now (line .entry)) ⌝ }
 {
     let kind = head.kind;
-    if counts::is_long_plan(kind, line.len()) {
+    if table::is_long_plan(kind, line.len()) {
         return LineRead::Refused(Refusal::LongPlan);
     }
     let read = read_body(kind, &line[BODY_AT..]);
@@ -138,8 +140,8 @@ pub fn free(line: &[u8]) -> &[u8]
     let TypeRead::Read(kind) = MessageType::read(&line[TYPE_AT..BODY_AT]) else {
         return &line[..0];
     };
-    if !counts::has_fields(kind) {
+    if !table::has_fields(kind) {
         return &line[BODY_AT..];
     }
-    layout::route(kind, &line[BODY_AT..])
+    table::route(kind, &line[BODY_AT..])
 }

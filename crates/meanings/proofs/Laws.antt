@@ -22,7 +22,7 @@ use Rattle.shapes.specs.Picture.{fits, fitsAny, oneOf, within, part}
 use Rattle.shapes.specs.Cut.{upTo}
 use Rattle.shapes.specs.Pieces.{pieces}
 use Rattle.shapes.proofs.Laws.{fits-length, not-cut, is-cut, cut-before, cut-after}
-use Rattle.forms.specs.Form.{isStamp, isPosition, isLevel}
+use Rattle.rules.specs.Form.{isStamp, isPosition, isLevel}
 use Rattle.meanings.specs.Meaning.{decimalOf, shownOf, signedBy, momentOf, momentIn, minutesOf, minutesIn, levelsOf, levelsIn}
 use Rattle.meanings.specs.declared.Levels.the-variants as levels
 

@@ -12,7 +12,7 @@ use Rattle.text.specs.declared.Numeral.{Numeral}
 use Rattle.text.specs.declared.Numeral.the-variants as numeral
 use Rattle.shapes.specs.Picture.{part}
 use Rattle.shapes.specs.Cut.{has, before, after}
-use Rattle.forms.specs.Form.{isStamp, isPosition, isLevel}
+use Rattle.rules.specs.Form.{isStamp, isPosition, isLevel}
 use Rattle.meanings.specs.declared.Moment.{Moment}
 use Rattle.meanings.specs.declared.When.{When}
 use Rattle.meanings.specs.declared.When.the-variants as when

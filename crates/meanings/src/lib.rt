@@ -1,10 +1,15 @@
 // What fields mean, for whoever asks: a stamp's moment, a position's minutes, a level's numbers. What is held of a field is
 // its text; nothing here changes it.
+
+pub mod ages;
+
 use fields::frame::Stamp;
 use fields::plan::Level;
 use fields::track::Position;
+use rules::clocks;
 use text::Numeral;
 use text::Written;
+use text::writing;
 ghost use mathlib.Core.Path.{_≡_};
 ghost use Prim.Native.Nat.{_≤_};
 ghost use lib.ListN.{length, take};
@@ -110,7 +115,7 @@ fn signed(positive: bool, n: u64) -> i64
 fn minutes_of(s: &[u8]) -> Minutes
     ensures { λ r. ⌜ r ≡ minutesOf (now (s .entry)) ⌝ }
 {
-    if !forms::is_position(s) {
+    if !rules::is_position(s) {
         return Minutes::NotOne;
     }
     let latitude = in_minutes(decimal(&s[0..4]));
@@ -133,7 +138,7 @@ pub fn position_minutes(position: Position) -> Minutes
 fn levels_of(s: &[u8]) -> Levels
     ensures { λ r. ⌜ r ≡ levelsOf (now (s .entry)) ⌝ }
 {
-    if !rules::is_form(forms::LEVEL, s) {
+    if !rules::is_form(rules::LEVEL, s) {
         return Levels::NotOne;
     }
     let i = shapes::find(b'B', s);

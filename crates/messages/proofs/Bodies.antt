@@ -12,22 +12,21 @@ use lib.ListN.{length, take, drop, replicate, length-append, length-take, length
 use lib.Seq.{take-at, drop-at}
 use borrow.Author.Tests.{eqb-true, leb-true}
 use Rattle.text.proofs.Logic.{and-left, and-right, true-false}
-use Rattle.forms.specs.Form.{isRoute}
-use Rattle.forms.specs.Kind.{POINT, TIME, AMENDMENT}
-use Rattle.words.specs.Word.{isWord}
-use Rattle.idents.specs.Ident.{isIdentValue}
-use Rattle.aircraft.specs.Aircraft.{isAircraftValue}
-use Rattle.heads.specs.declared.MessageType.{MessageType}
-use Rattle.heads.specs.declared.MessageType.the-variants as type
-use Rattle.kinds.specs.Field.{IDENT, TZ-IDENT, AIRCRAFT, ROUTE, PLAN-TIME, CONTENT, valued, identIn, aircraftIn, isOne, isTwo, isMark, contentOf, plain, leftOf, marksOf, follows, isKindValue, isValue, shown}
-use Rattle.kinds.specs.declared.Value.{Value}
-use Rattle.kinds.proofs.Marks.{each-mark, mark-text}
+use Rattle.rules.specs.Form.{isRoute}
+use Rattle.rules.specs.Kind.{POINT, TIME, AMENDMENT}
+use Rattle.fields.specs.Word.{isWord}
+use Rattle.fields.specs.Ident.{isIdentValue}
+use Rattle.fields.specs.Aircraft.{isAircraftValue}
+use Rattle.fields.specs.declared.heads.MessageType.{MessageType}
+use Rattle.fields.specs.declared.heads.MessageType.the-variants as type
+use Rattle.table.specs.Field.{IDENT, TZ-IDENT, AIRCRAFT, ROUTE, PLAN-TIME, CONTENT, valued, identIn, aircraftIn, isOne, isTwo, isMark, contentOf, plain, leftOf, marksOf, follows, isKindValue, isValue, shown}
+use Rattle.table.specs.declared.kinds.Value.{Value}
+use Rattle.table.proofs.MarkSets.{each-mark, mark-text}
 use Rattle.table.specs.Read.{none, padded}
 use Rattle.table.specs.Show.{allowedFrom}
-use Rattle.counts.specs.Table.{amendments, countWith, isCount}
-use Rattle.layout.specs.Table.{kindsOf}
-use Rattle.layout.proofs.Ways.{kinds-length}
-use Rattle.layout.proofs.Tables.{marksKept}
+use Rattle.table.specs.Table.{amendments, countWith, isCount, kindsOf}
+use Rattle.table.proofs.TableWays.{kinds-length}
+use Rattle.table.proofs.Tables.{marksKept}
 use Rattle.messages.specs.Body.{at, amendedIn, afFrom, bodyFrom, typeIn, heldFrom, heldOf, valueOfWord, valueOfIdent, slotsOf, pairsOf, slots, fieldCount, valuesIn, spare, marksIn}
 use Rattle.messages.specs.Allowed.{allNone}
 use Rattle.messages.specs.declared.Amended.{Amended}

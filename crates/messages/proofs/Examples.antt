@@ -1,20 +1,45 @@
--- What the promises of `messages` require, and wrong answers that they do not allow: of each function, `Post` is its `ensures` as it
--- stands in the source, r any result that meets it. Assumes nothing.
-use mathlib.Core.Path.{_≡_, ap, _∙_}
+-- What the promises of `messages` require on inputs written out, and so wrong answers that they do not allow: of each, `Post` is the function's
+-- `ensures` as it stands in the source, r any result that meets it, s the state at exit. Assumes nothing.
 use Prim.Native.Nat.{ℕ}
+use Prim.Native.String.{String}
+use mathlib.Core.Bool.{false}
+use mathlib.Core.List.{[], _∷_}
+use mathlib.Core.Path.{_≡_, ap, _∙_, refl}
+use denote.Ref.{now}
+use lib.ListN.{getD}
 use Rattle.text.specs.Bytes.{bytes}
-use Rattle.text.specs.Text.{textOf}
-use Rattle.heads.specs.declared.MessageType.the-variants as type
-use Rattle.kinds.specs.Field.{valued}
-use Rattle.messages.specs.Body.{planLevel, amendedIn, heldOf, typeIn, marksIn}
-use Rattle.messages.specs.declared.PlanLevel.the-variants as level
+use Rattle.text.specs.Class.{all, isDigit, isLetter, isAlnum}
+use Rattle.text.specs.Code.{codeOf}
+use Rattle.text.specs.Place.{value, allIn}
+use Rattle.text.specs.Text.{textOf, packed}
+use Rattle.shapes.specs.Cut.{upTo, has, before, after}
+use Rattle.shapes.specs.Picture.{isOf, fits, fitsAny, oneOf, run}
+use Rattle.shapes.specs.Pieces.{pieces}
+use Rattle.rules.specs.Form.{isKey, isIdent}
+use Rattle.rules.specs.Kind.{isForm}
+use Rattle.fields.specs.Ident.{identFrom, identOf}
+use Rattle.fields.specs.Word.{wordOf}
+use Rattle.fields.specs.declared.heads.MessageType.the-variants as type
+use Rattle.table.specs.Field.{valued, markOf, contentOf, leftOf, marksOf, follows, plain, readKind, readMark, barred, readIn}
+use Rattle.table.specs.Read.{padded, valuesFrom, answerFrom, counted, answers, values, answerOf, valuesOf, none}
+use Rattle.table.specs.Spacing.{fieldsOf, ended}
+use Rattle.table.specs.Table.{countWith, isCount, kindsOf, countIn, answerBy, valuesBy}
+use Rattle.table.specs.declared.kinds.Value.{Value}
+use Rattle.table.specs.declared.walk.Fault.the-variants as fault
+use Rattle.messages.specs.Body.{planLevel, amendedIn, heldOf, typeIn, marksIn, valueOfWord, bodyFrom, slots}
+use Rattle.messages.specs.Read.{bodyRead}
 use Rattle.messages.specs.declared.Amended.the-variants as amended
 use Rattle.messages.specs.declared.Body.the-variants as body
-use Rattle.messages.proofs.Plan.filed_level.Reads as filed-level
-use Rattle.messages.proofs.Amendment.amended.Reads as content
+use Rattle.messages.specs.declared.PlanLevel.the-variants as level
+use Rattle.messages.specs.declared.typed.BodyRead.{BodyRead}
+use Rattle.messages.specs.declared.typed.BodyRead.the-variants as read
 use Rattle.messages.proofs.Amended.amendment.Reads as held
-use Rattle.messages.proofs.type_in.Reads as type-in
+use Rattle.messages.proofs.Amendment.amended.Reads as content
+use Rattle.messages.proofs.Plan.filed_level.Reads as filed-level
 use Rattle.messages.proofs.marks_in.Reads as marks-in
+use Rattle.messages.proofs.type_in.Reads as type-in
+use Rattle.messages.proofs.typed.read_body.Reads as read-body
+use Rattle.messages.proofs.values.values_in.Reads as values-in
 
 -- the level is assigned when the time has D
 pub level-requested-with-d : (κs : _) (a : _) (r : _) (s : _) → filed-level.Post κs a r s → textOf (a .0 .time .0) ≡ bytes "D0715" → r ≡ level.Assigned (a .0 .level)
@@ -59,3 +84,35 @@ az-keeps-a-mark κs a r s p m e = p ∙ ap marksIn e
 -- nor does an FZ, though it has a route
 pub fz-keeps-a-mark : (κs : _) (a : _) (r : _) (s : _) → marks-in.Post κs a r s → (m : _) → a .0 ≡ body.Fz m → r ≡ 0
 fz-keeps-a-mark κs a r s p m e = p ∙ ap marksIn e
+
+-- ---- typed
+
+abbrev word : String → Value
+word t = valueOfWord (packed (bytes t))
+
+abbrev answered : BodyRead
+answered = read.Read (bodyFrom type.Af 32 (padded (word "NVL88" ∷ word "BOS" ∷ word "ALB" ∷ valueOfWord 32 ∷ word "290" ∷ []))) false
+
+read-as : (bodyRead type.Rz (bytes " NVL88 BOS A-B") ≡ read.Refused (fault.Field 3)) × (bodyRead type.Af (bytes " NVL88 BOS ALB 08 290") ≡ answered)
+unfolding bodyRead padded answerBy valuesBy countIn kindsOf isCount countWith answerOf answers answerFrom valuesOf values valuesFrom counted fieldsOf ended readIn readKind readMark barred plain leftOf marksOf contentOf follows markOf identOf identFrom wordOf isForm isKey isIdent has before after upTo oneOf fitsAny fits pieces run isOf isAlnum isDigit isLetter all allIn packed value codeOf
+read-as = (refl, refl)
+
+-- a point has no dash: 9 with its place, not 10
+pub field-answered-as-number : (κs : _) (a : _) (r : _) (s : _) → read-body.Post κs a r s → a .0 ≡ type.Rz → now (a .1 .0) ≡ bytes " NVL88 BOS A-B" → r ≡ read.Refused (fault.Field 3)
+field-answered-as-number κs a r s p e f = p ∙ rw (e, f) (read-as .0)
+
+-- an 08 is kept with its own mark and the word of its level
+pub typed-amended-08-is-requested : (κs : _) (a : _) (r : _) (s : _) → read-body.Post κs a r s → a .0 ≡ type.Af → now (a .1 .0) ≡ bytes " NVL88 BOS ALB 08 290" → r ≡ answered
+typed-amended-08-is-requested κs a r s p e f = p ∙ rw (e, f) (read-as .1)
+
+-- ---- values
+
+-- the third amendment's number and content are the eighth value and the ninth
+pub third-and-fourth-swapped : (κs : _) (a : _) (r : _) (s : _) → values-in.Post κs a r s → (m : _) → a .0 ≡ body.Af m → (getD r 7 none ≡ valueOfWord (m .third .mark)) × (getD r 8 none ≡ m .third .content)
+unfolding slots
+third-and-fourth-swapped κs a r s p m e = let q = p ∙ ap slots e in (ap (λ w. getD w 7 none) q, ap (λ w. getD w 8 none) q)
+
+-- the speed of a TZ comes before its level
+pub tz-level-as-speed : (κs : _) (a : _) (r : _) (s : _) → values-in.Post κs a r s → (m : _) → a .0 ≡ body.Tz m → (getD r 1 none ≡ valueOfWord (m .speed .0)) × (getD r 2 none ≡ valueOfWord (m .level .0))
+unfolding slots
+tz-level-as-speed κs a r s p m e = let q = p ∙ ap slots e in (ap (λ w. getD w 1 none) q, ap (λ w. getD w 2 none) q)

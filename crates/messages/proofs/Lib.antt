@@ -1,5 +1,7 @@
 pub mod Ways
 pub mod Bodies
+pub mod Tables
+pub mod ReadWays
+pub mod Theorems
 pub mod Unique
 pub mod Examples
-pub mod Tables

@@ -5,14 +5,13 @@ use mathlib.Core.Bool.{true}
 use mathlib.Core.List.{List}
 use Prim.Native.Nat.{ℕ}
 use lib.Count.{ones}
-use Rattle.forms.specs.Kind.{AMENDMENT}
-use Rattle.heads.specs.declared.MessageType.{MessageType}
-use Rattle.kinds.specs.declared.Value.{Value}
+use Rattle.rules.specs.Kind.{AMENDMENT}
+use Rattle.fields.specs.declared.heads.MessageType.{MessageType}
+use Rattle.table.specs.declared.kinds.Value.{Value}
 use Rattle.table.specs.Show.{allowedFrom, marksFrom, routed}
-use Rattle.table.proofs.Marks.{times}
-use Rattle.counts.specs.Table.{isCount}
-use Rattle.layout.specs.Table.{kindsOf}
-use Rattle.layout.proofs.Tables.{marksKept, kept-count, kept-route, count-marks, marks-none, route-with}
+use Rattle.table.proofs.MarksKept.{times}
+use Rattle.table.specs.Table.{isCount, kindsOf}
+use Rattle.table.proofs.Tables.{marksKept, kept-count, kept-route, count-marks, marks-none, route-with}
 use Rattle.messages.specs.Body.{bodyFrom, fieldCount, marksIn}
 use Rattle.messages.specs.Allowed.{hasRoute}
 use Rattle.messages.proofs.Bodies.{type-from, marks-from}

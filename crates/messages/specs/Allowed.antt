@@ -6,12 +6,11 @@ use mathlib.Core.List.{List, [], _∷_}
 use lib.Dec.{eqb}
 use lib.ListN.{length}
 use Rattle.text.specs.Place.{allIn}
-use Rattle.spacing.specs.Body.{bodyOf}
-use Rattle.kinds.specs.Field.{isOne}
-use Rattle.kinds.specs.declared.Value.{Value}
+use Rattle.table.specs.Spacing.{bodyOf}
+use Rattle.table.specs.Field.{isOne}
+use Rattle.table.specs.declared.kinds.Value.{Value}
 use Rattle.table.specs.Show.{textsFrom, allowedFrom, marksFrom}
-use Rattle.counts.specs.Table.{isCount, hasFields, hasRouteWith}
-use Rattle.layout.specs.Table.{kindsOf}
+use Rattle.table.specs.Table.{isCount, hasFields, hasRouteWith, kindsOf}
 use Rattle.messages.specs.Body.{typeIn, fieldCount, valuesIn, spare, marksIn}
 use Rattle.messages.specs.declared.Body.{Body}
 

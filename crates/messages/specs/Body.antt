@@ -6,14 +6,14 @@ use mathlib.Core.List.{List, [], _∷_}
 use lib.Dec.{eqb}
 use lib.ListN.{getD, take, drop, replicate}
 use Rattle.text.specs.Text.{textOf}
-use Rattle.heads.specs.declared.MessageType.{MessageType}
-use Rattle.heads.specs.declared.MessageType.the-variants as type
-use Rattle.idents.specs.declared.Ident.{Ident}
-use Rattle.aircraft.specs.declared.Aircraft.{Aircraft}
-use Rattle.kinds.specs.Field.{valued, identIn, aircraftIn}
-use Rattle.kinds.specs.declared.Value.{Value}
+use Rattle.fields.specs.declared.heads.MessageType.{MessageType}
+use Rattle.fields.specs.declared.heads.MessageType.the-variants as type
+use Rattle.fields.specs.declared.idents.Ident.{Ident}
+use Rattle.fields.specs.declared.aircraft.Aircraft.{Aircraft}
+use Rattle.table.specs.Field.{valued, identIn, aircraftIn}
+use Rattle.table.specs.declared.kinds.Value.{Value}
 use Rattle.table.specs.Read.{none}
-use Rattle.counts.specs.Table.{countWith}
+use Rattle.table.specs.Table.{countWith}
 use Rattle.messages.specs.declared.Plan.{Plan}
 use Rattle.messages.specs.declared.PlanLevel.{PlanLevel}
 use Rattle.messages.specs.declared.PlanLevel.the-variants as level

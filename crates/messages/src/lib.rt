@@ -1,10 +1,17 @@
 // A message: its head, its body by type, and whether a space stood at its end. A route and the body of RT, TO and HB
 // are not held: they stay a part of the line.
-use aircraft::Aircraft;
+
+pub mod typed;
+pub mod values;
+
+use fields::aircraft::Aircraft;
 use fields::flight::Key;
 use fields::flight::Number;
 use fields::frame::Sequence;
 use fields::frame::Stamp;
+use fields::heads::Facility;
+use fields::heads::MessageType;
+use fields::idents::Ident;
 use fields::plan::FiledSpeed;
 use fields::plan::Fix;
 use fields::plan::Level;
@@ -15,12 +22,9 @@ use fields::track::Clock;
 use fields::track::GroundSpeed;
 use fields::track::Position;
 use fields::track::TrackLevel;
-use heads::Facility;
-use heads::MessageType;
-use idents::Ident;
-use kinds::Value;
+use table::kinds::Value;
 ghost use mathlib.Core.Path.{_≡_};
-ghost use Rattle.kinds.specs.Field.{identIn, aircraftIn};
+ghost use Rattle.table.specs.Field.{identIn, aircraftIn};
 ghost use Rattle.messages.specs.Body.{planLevel, amendedIn, heldOf, typeIn, marksIn};
 
 pub struct Az {

@@ -6,21 +6,21 @@ use mathlib.Core.List.{List}
 use Prim.Native.Nat.{ℕ}
 use Rattle.text.specs.Text.{packed}
 use Rattle.text.proofs.Logic.{true-false}
-use Rattle.forms.specs.Kind.{KEY, isForm}
+use Rattle.rules.specs.Kind.{KEY, isForm}
 use Rattle.line.specs.Read.{readOf, numberOf, placeOf}
 use Rattle.line.specs.declared.Refusal.{Refusal}
 use Rattle.line.proofs.Theorems.{no-refusal}
-use Rattle.rows.specs.Rows.{keyOf, lookRow, written, fits, struck, isListed}
-use Rattle.rows.specs.declared.Row.{Row}
+use Rattle.board.specs.Rows.{keyOf, lookRow, written, fits, struck, isListed}
+use Rattle.board.specs.declared.rows.Row.{Row}
 use Rattle.board.specs.Board.{rowsOf, wordsOf, isAllowed}
-use Rattle.rows.proofs.Twins.{written-full}
-use Rattle.rows.proofs.Boards.{struck-missing}
+use Rattle.board.proofs.Twins.{written-full}
+use Rattle.board.proofs.Kept.{struck-missing}
 use Rattle.board.proofs.Theorems.{words-rows}
 use Rattle.history.specs.Steps.{byDz, byAz, byTz, rowsAfter}
-use Rattle.asks.specs.Asked.{askedOf}
-use Rattle.asks.specs.declared.Asked.{Asked}
-use Rattle.asks.specs.declared.Asked.the-variants as asked
-use Rattle.asks.proofs.Answers.{asks-read, asks-number}
+use Rattle.planner.specs.Asked.{askedOf}
+use Rattle.planner.specs.declared.asks.Asked.{Asked}
+use Rattle.planner.specs.declared.asks.Asked.the-variants as asked
+use Rattle.planner.proofs.Answers.{asks-read, asks-number}
 use Rattle.planner.specs.Apply.{lineEvent, strikeEvent, keyAsked, room, applyOf, boardAfter, strikeOf, boardStruck, lineNumber, linePlace, strikeNumber, strikePlace}
 use Rattle.planner.specs.Cases.{ApplyCase, Unread, NotAllowed, Full, Taken, StrikeCase, NoKey, StrikeNotAllowed, NotListed, Struck}
 use Rattle.planner.specs.declared.LineAnswer.{LineAnswer}

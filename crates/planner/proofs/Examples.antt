@@ -1,53 +1,52 @@
--- What the promises of `planner` require on boards and lines written out, and wrong answers that they do not allow: of each, `Post` is the
--- function's `ensures` as it stands in the source, r any result and s any state at exit that meet it. Assumes nothing.
+-- What the promises of `planner` require on inputs written out, and so wrong answers that they do not allow: of each, `Post` is the function's
+-- `ensures` as it stands in the source, r any result that meets it, s the state at exit. Assumes nothing.
 use Prim.Native.Nat.{ℕ}
-use native.Mathlib.Omega.{arith}
-use mathlib.Core.Path.{_≡_, refl, ap, _∙_}
 use mathlib.Core.Bool.{true, false}
 use mathlib.Core.List.{List, [], _∷_}
 use mathlib.Core.Option.{none}
-use lib.ListN.{length, replicate}
+use mathlib.Core.Path.{_≡_, refl, ap, _∙_}
+use native.Mathlib.Omega.{arith}
 use denote.Ref.{now}
+use lib.ListN.{length, replicate}
 use Rattle.text.specs.Bytes.{bytes}
 use Rattle.text.specs.Class.{all, isDigit, isLetter, isAlnum}
 use Rattle.text.specs.Code.{codeOf}
+use Rattle.text.specs.Number.{isDigitTo, digitOf, isNumeral, numberOf as number}
 use Rattle.text.specs.Place.{value, allIn}
 use Rattle.text.specs.Text.{packed}
-use Rattle.text.specs.Number.{isDigitTo, digitOf, isNumeral, numberOf as number}
-use Rattle.shapes.specs.Pieces.{pieces}
-use Rattle.shapes.specs.Picture.{isOf, fits as fitsPicture, fitsAny, oneOf, run, within}
 use Rattle.shapes.specs.Cut.{upTo, has, before, after, joins}
-use Rattle.forms.specs.Form.{isStamp, isKey, isIdent, isTzIdent, isClock, isTime, isPosition}
-use Rattle.forms.specs.Kind.{isForm}
-use Rattle.words.specs.Word.{wordOf}
-use Rattle.words.specs.Pair.{isPairForm, pairOf}
-use Rattle.idents.specs.Ident.{identFrom, identOf, tzIdentOf}
-use Rattle.aircraft.specs.Aircraft.{plainOf, prefixedOf, aircraftOf}
-use Rattle.heads.specs.Message.{typeOf}
-use Rattle.spacing.specs.Body.{ended, fieldsOf}
-use Rattle.rows.specs.Rows.{CAP, lookup, lookRow, fits, written, struck, isListed}
-use Rattle.rows.specs.declared.Row.{Row}
-use Rattle.rows.specs.declared.Arrival.{Arrival}
-use Rattle.rows.specs.declared.ArrivalSlot.the-variants as arrival
-use Rattle.rows.specs.declared.TrackSlot.the-variants as track
-use Rattle.rows.proofs.Places.{is-full}
-use Rattle.rows.proofs.Twins.{written-full}
-use Rattle.rows.proofs.Boards.{fair}
+use Rattle.shapes.specs.Picture.{isOf, fits as fitsPicture, fitsAny, oneOf, run, within}
+use Rattle.shapes.specs.Pieces.{pieces}
+use Rattle.rules.specs.Form.{isStamp, isKey, isIdent, isTzIdent, isClock, isTime, isPosition}
+use Rattle.rules.specs.Kind.{isForm}
+use Rattle.fields.specs.Aircraft.{plainOf, prefixedOf, aircraftOf}
+use Rattle.fields.specs.Ident.{identFrom, identOf, tzIdentOf}
+use Rattle.fields.specs.MessageType.{typeOf}
+use Rattle.fields.specs.Pair.{isPairForm, pairOf}
+use Rattle.fields.specs.Word.{wordOf}
 use Rattle.board.specs.Board.{rowsOf, wordsOf, isAllowed}
+use Rattle.board.specs.Rows.{CAP, lookup, lookRow, fits, written, struck, isListed}
+use Rattle.board.specs.declared.rows.Arrival.{Arrival}
+use Rattle.board.specs.declared.rows.ArrivalSlot.the-variants as arrival
+use Rattle.board.specs.declared.rows.Row.{Row}
+use Rattle.board.specs.declared.rows.TrackSlot.the-variants as track
 use Rattle.board.proofs.Allowed.{cap-is}
-use Rattle.board.proofs.Theorems.{rows-words, allowed-words, words-rows, board-rows, empty-board}
 use Rattle.board.proofs.Examples.{word, seen, tracked, one-row}
+use Rattle.board.proofs.Kept.{fair}
+use Rattle.board.proofs.Places.{is-full}
+use Rattle.board.proofs.Theorems.{rows-words, allowed-words, words-rows, board-rows, empty-board}
+use Rattle.board.proofs.Twins.{written-full}
 use Rattle.history.specs.Steps.{byTz, rowsAfter}
-use Rattle.kinds.specs.Field.{plain, leftOf, marksOf, readKind, readIn, follows}
+use Rattle.table.specs.Field.{plain, leftOf, marksOf, readKind, readIn, follows}
 use Rattle.table.specs.Read.{padded, valuesFrom, answerFrom, counted, answers, values, answerOf, valuesOf}
-use Rattle.counts.specs.Table.{countWith, isCount}
-use Rattle.layout.specs.Table.{kindsOf, countIn, answerBy, valuesBy}
+use Rattle.table.specs.Spacing.{ended, fieldsOf}
+use Rattle.table.specs.Table.{countWith, isCount, kindsOf, countIn, answerBy, valuesBy}
 use Rattle.messages.specs.Body.{bodyFrom}
-use Rattle.bodies.specs.Read.{bodyRead}
+use Rattle.messages.specs.Read.{bodyRead}
 use Rattle.line.specs.Read.{headOf, restOf, readOf}
-use Rattle.asks.specs.Asked.{askedBy, askedOf}
-use Rattle.asks.specs.declared.Asked.the-variants as asked
 use Rattle.planner.specs.Apply.{eventOf, lineEvent, strikeEvent, answerTo, applyOf, boardAfter, strikeOf, boardStruck, lineNumber, strikeNumber, strikePlace}
+use Rattle.planner.specs.Asked.{askedBy, askedOf}
+use Rattle.planner.specs.declared.asks.Asked.the-variants as asked
 use Rattle.planner.proofs.apply.Reads as apply
 use Rattle.planner.proofs.apply_allowed.Reads as apply-allowed
 use Rattle.planner.proofs.strike.Reads as strike

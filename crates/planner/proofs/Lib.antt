@@ -1,5 +1,9 @@
 pub mod Ways
 pub mod Cases
 pub mod Theorems
+pub mod AskWays
+pub mod Answers
+pub mod AskAllowed
+pub mod Fields
 pub mod Unique
 pub mod Examples

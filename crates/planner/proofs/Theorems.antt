@@ -7,9 +7,9 @@ use Prim.Native.Nat.{ℕ}
 use native.Mathlib.Omega.{arith}
 use denote.Ref.{now}
 use Rattle.text.specs.Text.{packed}
-use Rattle.forms.specs.Kind.{KEY, isForm}
-use Rattle.rows.specs.Rows.{fits, isListed}
-use Rattle.rows.specs.declared.Row.{Row}
+use Rattle.rules.specs.Kind.{KEY, isForm}
+use Rattle.board.specs.Rows.{fits, isListed}
+use Rattle.board.specs.declared.rows.Row.{Row}
 use Rattle.board.specs.Board.{rowsOf, wordsOf, isAllowed}
 use Rattle.board.proofs.Theorems.{rows-words, board-rows, allowed-words, empty-board}
 use Rattle.history.specs.Events.{Event, isEvent, History, _then_}
@@ -18,9 +18,9 @@ use Rattle.history.specs.Promise.{Shows, Taken}
 use Rattle.history.proofs.Boards.{step-board}
 use Rattle.history.proofs.Demand.{demand3}
 use Rattle.line.proofs.Theorems.{no-refusal}
-use Rattle.asks.specs.Asked.{askedOf}
-use Rattle.asks.specs.declared.Asked.{Asked}
-use Rattle.asks.specs.declared.Asked.the-variants as asked
+use Rattle.planner.specs.Asked.{askedOf}
+use Rattle.planner.specs.declared.asks.Asked.{Asked}
+use Rattle.planner.specs.declared.asks.Asked.the-variants as asked
 use Rattle.planner.specs.Apply.{lineEvent, strikeEvent, room, applyOf, boardAfter, strikeOf, boardStruck, lineNumber, strikeNumber}
 use Rattle.planner.specs.Run.{Applies, Strikes, Run, fresh, applied, struck, AltersOne, OfCalls}
 use Rattle.planner.specs.declared.LineAnswer.{LineAnswer}

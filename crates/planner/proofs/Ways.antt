@@ -7,20 +7,20 @@ use denote.Enum.Declared.{tagOf}
 use types.Run.{OneOf, miss}
 use Rattle.text.proofs.Logic.{and-left, and-right}
 use Rattle.text.specs.Text.{packed}
-use Rattle.forms.specs.Kind.{KEY, isForm}
-use Rattle.words.specs.Word.{wordOf, isWord}
+use Rattle.rules.specs.Kind.{KEY, isForm}
+use Rattle.fields.specs.Word.{wordOf, isWord}
 use Rattle.fields.specs.Typed.{asKey}
 use Rattle.fields.specs.declared.flight.KeyRead.{KeyRead}
 use Rattle.fields.specs.declared.flight.KeyRead.the-variants as key
 use Rattle.fields.specs.declared.flight.Key.{Key}
-use Rattle.rows.specs.Row.{isArrival, isTrack, hasEntry, isRow}
-use Rattle.rows.specs.Rows.{allRows, lookRow, written, fits, isListed}
-use Rattle.rows.specs.declared.Row.{Row}
-use Rattle.rows.specs.declared.Arrival.{Arrival}
-use Rattle.rows.specs.declared.Track.{Track}
-use Rattle.rows.specs.declared.ArrivalSlot.{ArrivalSlot}
-use Rattle.rows.specs.declared.ArrivalSlot.the-variants as arrival
-use Rattle.rows.specs.declared.TrackSlot.the-variants as track
+use Rattle.board.specs.Row.{isArrival, isTrack, hasEntry, isRow}
+use Rattle.board.specs.Rows.{allRows, lookRow, written, fits, isListed}
+use Rattle.board.specs.declared.rows.Row.{Row}
+use Rattle.board.specs.declared.rows.Arrival.{Arrival}
+use Rattle.board.specs.declared.rows.Track.{Track}
+use Rattle.board.specs.declared.rows.ArrivalSlot.{ArrivalSlot}
+use Rattle.board.specs.declared.rows.ArrivalSlot.the-variants as arrival
+use Rattle.board.specs.declared.rows.TrackSlot.the-variants as track
 use Rattle.board.specs.Board.{rowsOf, wordsOf, isAllowed, doneOf}
 use Rattle.board.specs.Posts.{Wrote, Stricken}
 use Rattle.board.specs.declared.Struck.{Struck}
@@ -29,13 +29,13 @@ use Rattle.board.specs.declared.Done.{Done}
 use Rattle.board.proofs.Theorems.{board-rows, words-rows}
 use Rattle.history.specs.Events.{isEvent}
 use Rattle.history.specs.Steps.{byAz, byTz, rowsAfter}
-use Rattle.rows.proofs.Boards.{looked-arrival, looked-track, fair}
-use Rattle.asks.specs.Asked.{askedOf}
-use Rattle.asks.proofs.Allowed.{asks-dz, asks-az, asks-tz}
-use Rattle.asks.proofs.Asked.{the-type}
+use Rattle.board.proofs.Kept.{looked-arrival, looked-track, fair}
+use Rattle.planner.specs.Asked.{askedOf}
+use Rattle.planner.proofs.AskAllowed.{asks-dz, asks-az, asks-tz}
+use Rattle.planner.proofs.asks.Asked.{the-type}
 use Rattle.line.specs.declared.Refusal.{Refusal}
-use Rattle.asks.specs.declared.Asked.{Asked}
-use Rattle.asks.specs.declared.Asked.the-variants as asked
+use Rattle.planner.specs.declared.asks.Asked.{Asked}
+use Rattle.planner.specs.declared.asks.Asked.the-variants as asked
 use Rattle.planner.specs.Apply.{eventOf, lineEvent, toldOf, room, Entered, applyOf, boardAfter, strikeEvent, strikeOf, boardStruck}
 use Rattle.planner.specs.declared.LineAnswer.{LineAnswer}
 use Rattle.planner.specs.declared.LineAnswer.the-variants as line

@@ -5,18 +5,18 @@ use mathlib.Core.Bool.{Bool, true, false, cond}
 use mathlib.Core.List.{List}
 use Prim.Native.Nat.{ℕ}
 use Rattle.text.specs.Text.{packed}
-use Rattle.forms.specs.Kind.{KEY, isForm}
-use Rattle.rows.specs.Rows.{fits, isListed}
-use Rattle.rows.specs.declared.Row.{Row}
+use Rattle.rules.specs.Kind.{KEY, isForm}
+use Rattle.board.specs.Rows.{fits, isListed}
+use Rattle.board.specs.declared.rows.Row.{Row}
 use Rattle.board.specs.Board.{rowsOf, wordsOf, isAllowed}
 use Rattle.board.specs.declared.Done.{Done}
 use Rattle.board.specs.declared.Done.the-variants as done
 use Rattle.history.specs.Events.{Event, dz, az, tz, other, unread, strike, misnamed}
 use Rattle.history.specs.Steps.{rowsAfter}
 use Rattle.line.specs.Read.{refusalNumber, refusalPlace}
-use Rattle.asks.specs.Asked.{askedOf}
-use Rattle.asks.specs.declared.Asked.{Asked}
-use Rattle.asks.specs.declared.Asked.the-variants as asked
+use Rattle.planner.specs.Asked.{askedOf}
+use Rattle.planner.specs.declared.asks.Asked.{Asked}
+use Rattle.planner.specs.declared.asks.Asked.the-variants as asked
 use Rattle.planner.specs.declared.LineAnswer.{LineAnswer}
 use Rattle.planner.specs.declared.LineAnswer.the-variants as line
 use Rattle.planner.specs.declared.StrikeAnswer.{StrikeAnswer}

@@ -5,12 +5,12 @@ use mathlib.Core.Bool.{true, false}
 use mathlib.Core.List.{List}
 use Prim.Native.Nat.{ℕ}
 use Rattle.text.specs.Text.{packed}
-use Rattle.forms.specs.Kind.{KEY, isForm}
+use Rattle.rules.specs.Kind.{KEY, isForm}
 use Rattle.line.specs.Read.{readOf, numberOf, placeOf}
-use Rattle.rows.specs.Rows.{fits, struck, isListed}
+use Rattle.board.specs.Rows.{fits, struck, isListed}
 use Rattle.board.specs.Board.{rowsOf, wordsOf, isAllowed}
 use Rattle.history.specs.Steps.{rowsAfter}
-use Rattle.asks.specs.Asked.{askedOf}
+use Rattle.planner.specs.Asked.{askedOf}
 use Rattle.planner.specs.Apply.{lineEvent, keyAsked}
 
 -- a line s on the board l: its number and place, and the board that is left

@@ -1,3 +1,4 @@
 pub mod Apply
 pub mod Cases
 pub mod Run
+pub mod Asked

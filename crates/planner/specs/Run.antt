@@ -6,7 +6,7 @@ use mathlib.Core.Path.{_≡_}
 use mathlib.Core.Bool.{true}
 use mathlib.Core.List.{List}
 use lib.ListN.{replicate}
-use Rattle.rows.specs.Rows.{lookup}
+use Rattle.board.specs.Rows.{lookup}
 use Rattle.board.specs.Board.{rowsOf, isAllowed}
 use Rattle.history.specs.Events.{History, start, _then_}
 use Rattle.history.specs.Demand.{MeetsFull}

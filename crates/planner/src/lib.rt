@@ -1,29 +1,33 @@
 // A line or a strike on a board: what the ramp office's board does with what comes.
-use asks::Asked;
+
+pub mod asks;
+
+use crate::asks::Asked;
 use board::Done;
 use board::Struck;
 use board::is_allowed;
+use board::listing;
+use board::listing::look;
+use board::listing::write;
+use board::rows::Arrival;
+use board::rows::ArrivalSlot;
+use board::rows::Row;
+use board::rows::Track;
+use board::rows::TrackSlot;
 use fields::flight::Key;
 use fields::flight::KeyRead;
 use line::Refusal;
-use listing::look;
-use listing::write;
-use rows::Arrival;
-use rows::ArrivalSlot;
-use rows::Row;
-use rows::Track;
-use rows::TrackSlot;
 ghost use mathlib.Core.Path.{_≡_};
 ghost use mathlib.Core.Bool.{true};
-ghost use Rattle.forms.specs.Kind.{KEY};
-ghost use Rattle.words.specs.Word.{isWord};
-ghost use Rattle.rows.specs.Row.{isArrival, isTrack};
-ghost use Rattle.rows.specs.declared.ArrivalSlot.the-variants as arrival;
-ghost use Rattle.rows.specs.declared.TrackSlot.the-variants as track;
+ghost use Rattle.rules.specs.Kind.{KEY};
+ghost use Rattle.fields.specs.Word.{isWord};
+ghost use Rattle.board.specs.Row.{isArrival, isTrack};
+ghost use Rattle.board.specs.declared.rows.ArrivalSlot.the-variants as arrival;
+ghost use Rattle.board.specs.declared.rows.TrackSlot.the-variants as track;
 ghost use Rattle.board.specs.Board.{isAllowed};
 ghost use Rattle.history.specs.Events.{isEvent};
-ghost use Rattle.asks.specs.declared.Asked.the-variants as asked;
-ghost use Rattle.asks.specs.Asked.{askedOf};
+ghost use Rattle.planner.specs.declared.asks.Asked.the-variants as asked;
+ghost use Rattle.planner.specs.Asked.{askedOf};
 ghost use Rattle.planner.specs.Apply.{eventOf, toldOf, Entered, applyOf, boardAfter, strikeOf, boardStruck, lineNumber, linePlace, strikeNumber, strikePlace};
 ghost use Rattle.planner.specs.Cases.{ApplyCase, StrikeCase};
 

@@ -9,16 +9,16 @@ use lib.ListN.{length, getD, drop, length-drop, length-append, drop-of-length-le
 use lib.Seq.{drop-drop}
 use Rattle.text.specs.Bytes.{bytes}
 use Rattle.text.proofs.Logic.{and-left, and-right}
-use Rattle.rows.specs.Row.{rowOf, isRow, isRowWords}
-use Rattle.rows.specs.Rows.{allRows}
-use Rattle.rows.specs.declared.Row.{Row}
+use Rattle.board.specs.Row.{rowOf, isRow, isRowWords}
+use Rattle.board.specs.Rows.{allRows}
+use Rattle.board.specs.declared.rows.Row.{Row}
 use Rattle.board.specs.Board.{W, rowsOf, rowsHold, isAllowed}
 use Rattle.board.proofs.Words.{length-rows, row-next, all-read}
 use Rattle.board.proofs.Allowed.{cap-is, parts}
-use Rattle.slips.specs.Text.{lineFeed, rowText, rowsText}
-use Rattle.slips.proofs.Widths.{row-width}
-use Rattle.decimals.specs.Decimal.{decimal}
-use Rattle.decimals.proofs.Laws.{decimal-short}
+use Rattle.printer.specs.RowText.{lineFeed, rowText, rowsText}
+use Rattle.printer.proofs.Widths.{row-width}
+use Rattle.text.specs.Decimal.{decimal}
+use Rattle.text.proofs.Decimal.{decimal-short}
 use Rattle.printer.specs.Text.{boardText}
 use Rattle.printer.specs.Print.{textIn}
 use Rattle.printer.specs.Asks.{counted}

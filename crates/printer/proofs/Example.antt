@@ -5,8 +5,8 @@ use Rattle.text.specs.Code.{codeOf, byteOf}
 use Rattle.text.specs.Place.{value, places, digits}
 use Rattle.text.specs.Text.{packed, textOf}
 use Rattle.text.specs.Number.{padded}
-use Rattle.slips.specs.Text.{lineText, rowText, rowsText}
-use Rattle.decimals.specs.Decimal.{widthBy, decimal}
+use Rattle.printer.specs.RowText.{lineText, rowText, rowsText}
+use Rattle.text.specs.Decimal.{widthBy, decimal}
 use Rattle.printer.specs.Text.{boardText, countsText}
 use Rattle.printer.specs.Example.{exampleRows, exampleBoard, exampleCounts}
 

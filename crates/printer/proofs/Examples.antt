@@ -1,25 +1,25 @@
--- What the promises of `printer` require on boards and buffers written out, and wrong answers that they do not allow: of each, `Post` is
--- the function's `ensures` as it stands in the source, r any result and s any state at exit that meet it. Assumes nothing.
+-- What the promises of `printer` require on inputs written out, and so wrong answers that they do not allow: of each, `Post` is the function's
+-- `ensures` as it stands in the source, r any result that meets it, s the state at exit. Assumes nothing.
 use Prim.Native.Nat.{ℕ}
-use mathlib.Core.Path.{_≡_, refl, _∙_}
 use mathlib.Core.Bool.{false}
 use mathlib.Core.List.{List, [], _∷_, _++_}
-use lib.ListN.{replicate}
+use mathlib.Core.Path.{_≡_, refl, _∙_}
 use denote.Ref.{now}
+use lib.ListN.{replicate}
 use Rattle.text.specs.Bytes.{bytes}
 use Rattle.text.specs.Class.{isDigit, isLetter}
 use Rattle.text.specs.Code.{codeOf, byteOf}
+use Rattle.text.specs.Decimal.{widthBy, decimal}
+use Rattle.text.specs.Number.{padded}
 use Rattle.text.specs.Place.{value, places, digits}
 use Rattle.text.specs.Text.{packed, textOf, spliced, hasRoom, writtenNext, writtenBytes}
 use Rattle.text.specs.declared.Written.the-variants as written
-use Rattle.text.specs.Number.{padded}
-use Rattle.slips.specs.Text.{lineText, rowText, rowsText}
-use Rattle.decimals.specs.Decimal.{widthBy, decimal}
 use Rattle.board.specs.Board.{wordsOf, isAllowed}
-use Rattle.board.proofs.Theorems.{rows-words, allowed-words}
 use Rattle.board.proofs.Examples.{tracked, one-row}
-use Rattle.printer.specs.Text.{boardText, countsText}
+use Rattle.board.proofs.Theorems.{rows-words, allowed-words}
 use Rattle.printer.specs.Print.{printOf, outAfter, numberOf}
+use Rattle.printer.specs.RowText.{lineText, rowText, rowsText}
+use Rattle.printer.specs.Text.{boardText, countsText}
 use Rattle.printer.proofs.print.Reads as print
 use Rattle.printer.proofs.print_counts.Reads as print-counts
 

@@ -1,6 +1,9 @@
 pub mod Counts
 pub mod Boards
 pub mod Cases
-pub mod Unique
 pub mod Example
+pub mod Widths
+pub mod Lines
+pub mod RowLines
+pub mod Unique
 pub mod Examples

@@ -5,8 +5,8 @@ use mathlib.Core.Bool.{true}
 use mathlib.Core.List.{List, [], _∷_, _++_}
 use lib.ListN.{length}
 use Rattle.board.specs.Board.{rowsOf, isAllowed}
-use Rattle.slips.specs.Text.{rowsText}
-use Rattle.decimals.specs.Decimal.{decimal}
+use Rattle.printer.specs.RowText.{rowsText}
+use Rattle.text.specs.Decimal.{decimal}
 use Rattle.printer.specs.Print.{textIn}
 
 -- a name with its space, a number, and the byte after it

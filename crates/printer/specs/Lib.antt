@@ -2,3 +2,5 @@ pub mod Text
 pub mod Print
 pub mod Asks
 pub mod Example
+pub mod RowText
+pub mod Parts

@@ -4,9 +4,9 @@ use Prim.Native.Nat.{ℕ}
 use mathlib.Core.List.{List, [], _∷_, _++_}
 use lib.ListN.{length}
 use Rattle.text.specs.Bytes.{bytes}
-use Rattle.rows.specs.declared.Row.{Row}
-use Rattle.slips.specs.Text.{lineText, rowsText}
-use Rattle.decimals.specs.Decimal.{decimal}
+use Rattle.board.specs.declared.rows.Row.{Row}
+use Rattle.printer.specs.RowText.{lineText, rowsText}
+use Rattle.text.specs.Decimal.{decimal}
 
 unfoldable pub boardText : List Row → List ℕ
 boardText rs = lineText (bytes "FLIGHTS" ∷ decimal (length rs) ∷ []) ++ rowsText rs

@@ -1,15 +1,19 @@
 // The board as text: the line of flights and a line for each of them, and the line of what was read and taken.
+
+pub mod slips;
+
 use board::is_allowed;
 use text::Written;
-use writing::has_room;
-use writing::put_bytes;
+use text::decimals;
+use text::writing::has_room;
+use text::writing::put_bytes;
 ghost use mathlib.Core.Path.{_≡_};
 ghost use mathlib.Core.Bool.{true};
 ghost use Prim.Native.Nat.{_+_, _≤_};
 ghost use lib.ListN.{length};
 ghost use Rattle.text.specs.Text.{spliced, writtenNext, writtenBytes};
 ghost use Rattle.board.specs.Board.{rowsOf, isAllowed};
-ghost use Rattle.slips.specs.Text.{rowsText};
+ghost use Rattle.printer.specs.RowText.{rowsText};
 ghost use Rattle.printer.specs.Text.{countsText};
 ghost use Rattle.printer.specs.Print.{textIn, printOf, outAfter, numberOf, PrintCase};
 ghost use Rattle.printer.specs.Asks.{counted, RowsAsk, BoardAsks};

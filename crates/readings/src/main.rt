@@ -8,9 +8,10 @@ use line::free;
 use line::read;
 use messages::Message;
 use messages::type_in;
-use table::Fault;
+use messages::values::values_in;
+use table::walk::Fault;
 use text::Written;
-use values::values_in;
+use text::writing;
 use writer::write;
 
 fn say(bytes: &[u8]) {

@@ -6,7 +6,7 @@ use Prim.Native.Nat.{ℕ, zero, suc, _+_, _-_}
 use native.Mathlib.Nat.{sub-zero}
 use native.Mathlib.Omega.{arith}
 use lib.Dec.{eqb}
-use Rattle.rows.specs.declared.Row.{Row}
+use Rattle.board.specs.declared.rows.Row.{Row}
 use Rattle.history.specs.Steps.{rowsAfter}
 use Rattle.cutter.specs.Feed.{lineFeed, Line}
 use Rattle.feeding.specs.Tally.{eventOf, rowsBy, takenBy, lineFeeds, readOf}

@@ -6,13 +6,13 @@ use Prim.Native.Nat.{ℕ, _+_, _*_, _≤_}
 use native.Mathlib.Omega.{arith}
 use lib.ListN.{length, length-append}
 use Rattle.text.specs.Bytes.{bytes}
-use Rattle.rows.specs.Rows.{CAP, allRows, risesByBytes, isBoard}
-use Rattle.rows.specs.declared.Row.{Row}
-use Rattle.rows.proofs.Boards.{fair}
+use Rattle.board.specs.Rows.{CAP, allRows, risesByBytes, isBoard}
+use Rattle.board.specs.declared.rows.Row.{Row}
+use Rattle.board.proofs.Kept.{fair}
 use Rattle.board.proofs.Allowed.{cap-is}
-use Rattle.slips.specs.Text.{lineFeed, lineText, rowsText}
-use Rattle.decimals.specs.Decimal.{decimal}
-use Rattle.decimals.proofs.Laws.{decimal-short}
+use Rattle.printer.specs.RowText.{lineFeed, lineText, rowsText}
+use Rattle.text.specs.Decimal.{decimal}
+use Rattle.text.proofs.Decimal.{decimal-short}
 use Rattle.printer.specs.Text.{boardText, countsText}
 use Rattle.printer.proofs.Counts.{counted-size, flights-line, counts-size}
 use Rattle.printer.proofs.Boards.{rows-width}

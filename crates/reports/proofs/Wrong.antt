@@ -17,7 +17,7 @@ use Rattle.text.specs.Text.{packed}
 use Rattle.text.proofs.Logic.{true-false}
 use Rattle.shapes.specs.Cut.{upTo, before, after}
 use Rattle.shapes.proofs.Joins.{has-no, joined-before, joined-after}
-use Rattle.rows.specs.Row.{rowWords, arrivalWords, trackWords}
+use Rattle.board.specs.Row.{rowWords, arrivalWords, trackWords}
 use Rattle.board.specs.Board.{flat, rowsOf, wordsOf}
 use Rattle.board.proofs.Theorems.{rows-words, empty-board}
 use Rattle.board.proofs.Examples.{tracked, one-row}
@@ -26,16 +26,16 @@ use Rattle.line.specs.Read.{readOf}
 use Rattle.line.specs.declared.LineRead.{LineRead}
 use Rattle.line.specs.declared.LineRead.the-variants.{Read}
 use Rattle.line.proofs.read.Reads as read
-use Rattle.asks.specs.Asked.{askedBy, askedFrom, askedOf}
-use Rattle.asks.specs.declared.Asked.{Asked}
-use Rattle.asks.specs.declared.Asked.the-variants as asked
-use Rattle.asks.proofs.Answers.{unread-refused}
+use Rattle.planner.specs.Asked.{askedBy, askedFrom, askedOf}
+use Rattle.planner.specs.declared.asks.Asked.{Asked}
+use Rattle.planner.specs.declared.asks.Asked.the-variants as asked
+use Rattle.planner.proofs.Answers.{unread-refused}
 use Rattle.planner.specs.Run.{Applies}
 use Rattle.planner.specs.declared.LineAnswer.{LineAnswer}
 use Rattle.planner.proofs.Examples.{tz, dz, hb, landed, asks, tz-after, dz-after}
-use Rattle.slips.specs.Text.{lineText}
-use Rattle.decimals.specs.Decimal.{decimal}
-use Rattle.decimals.proofs.Laws.{decimal-number, decimal-digits}
+use Rattle.printer.specs.RowText.{lineText}
+use Rattle.text.specs.Decimal.{decimal}
+use Rattle.text.proofs.Decimal.{decimal-number, decimal-digits}
 use Rattle.printer.specs.Text.{boardText, countsText}
 use Rattle.cutter.specs.Feed.{linesOf}
 use Rattle.cutter.specs.State.{Bytes}

@@ -2,7 +2,7 @@
 -- of lines ("It stops reading after 4,294,967,295 lines"). Assumes nothing.
 use Prim.Native.Nat.{ℕ}
 use mathlib.Core.List.{List, [], _++_}
-use Rattle.rows.specs.declared.Row.{Row}
+use Rattle.board.specs.declared.rows.Row.{Row}
 use Rattle.cutter.specs.Feed.{linesOf}
 use Rattle.printer.specs.Text.{boardText, countsText}
 use Rattle.feeding.specs.Tally.{rowsBy, takenBy, lineFeeds}

@@ -1,3 +1,7 @@
+pub mod Held
+pub mod Minutes
+pub mod Parts
+pub mod ClockNumbers
 pub mod Runs
 pub mod Unique
 pub mod Examples

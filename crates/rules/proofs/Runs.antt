@@ -14,7 +14,7 @@ use Rattle.shapes.specs.Picture.{isOf, fitsAny, oneOf, run}
 use Rattle.shapes.proofs.Laws.{fits-apart}
 use Rattle.shapes.proofs.Same.{fits-same}
 use Rattle.shapes.proofs.Parts.{fits-then, any-run, any-longer}
-use Rattle.forms.specs.Form.{isNumber, isFiledSpeed, isLevel, isTrackLevel}
+use Rattle.rules.specs.Form.{isNumber, isFiledSpeed, isLevel, isTrackLevel}
 
 -- a computer number of three bytes: there is no other
 pub number-runs : (s : List ℕ) → length s ≡ 3 → isNumber s ≡ (run (code "d") 2 2 (take 2 s) && isOf (code "a") (getD s 2 0))

@@ -3,8 +3,8 @@ use Prim.Native.Nat.{ℕ}
 use mathlib.Core.Bool.{Bool, false, cond}
 use mathlib.Core.List.{List}
 use lib.Dec.{eqb}
-use Rattle.forms.specs.Form.{isSequence, isNumber, isPrefix, isOneLetter, isFiledSpeed, isGroundSpeed, isLevel, isTrackLevel, isAmendment}
-use Rattle.forms.specs.Kind.{SEQUENCE, NUMBER, PREFIX, LETTER, FILED-SPEED, GROUND-SPEED, LEVEL, TRACK-LEVEL, AMENDMENT}
+use Rattle.rules.specs.Form.{isSequence, isNumber, isPrefix, isOneLetter, isFiledSpeed, isGroundSpeed, isLevel, isTrackLevel, isAmendment}
+use Rattle.rules.specs.Kind.{SEQUENCE, NUMBER, PREFIX, LETTER, FILED-SPEED, GROUND-SPEED, LEVEL, TRACK-LEVEL, AMENDMENT}
 
 -- the form of such a kind; any other letter has none here
 unfoldable pub isDrawn : ℕ → List ℕ → Bool

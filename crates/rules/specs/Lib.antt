@@ -1,1 +1,4 @@
+pub mod Form
+pub mod Kind
+pub mod Frame
 pub mod Drawn

@@ -1,18 +1,131 @@
-// The rule of each kind of field, by the kind's letter.
-use clocks::is_arrival;
-use clocks::is_clock;
-use clocks::is_stamp;
-use clocks::is_time;
-use forms::is_fix;
-use forms::is_key;
-use forms::is_position;
+// The forms of document 01's fields, as tests on bytes; those of stamps, clocks and times stand in `clocks`.
+
+pub mod clocks;
+
+use crate::clocks::is_arrival;
+use crate::clocks::is_clock;
+use crate::clocks::is_stamp;
+use crate::clocks::is_time;
+use shapes::find;
 use shapes::is_of;
 use shapes::one_of;
 use shapes::run;
+use text::Numeral;
 ghost use mathlib.Core.Path.{_≡_};
-ghost use Rattle.forms.specs.Form.{isNumber, isTrackLevel};
-ghost use Rattle.forms.specs.Kind.{isForm};
+ghost use mathlib.Core.Bool.{_&&_};
+ghost use Prim.Native.Nat.{_%_};
+ghost use lib.Dec.{leb};
+ghost use Rattle.text.specs.Number.{numberOf};
+ghost use Rattle.shapes.specs.Picture.{within};
+ghost use Rattle.rules.specs.Form.{isFacility, isKey, isFix, isPosition, isRoute, isNumber, isTrackLevel};
+ghost use Rattle.rules.specs.Kind.{isForm};
 ghost use Rattle.rules.specs.Drawn.{isDrawn};
+
+// The kinds of fields that are held as their text. (I, J, R and Z are left for what is no such field.)
+pub const SEQUENCE: u8 = b'Q';
+
+pub const STAMP: u8 = b'D';
+
+pub const KEY: u8 = b'K';
+
+pub const NUMBER: u8 = b'N';
+
+pub const PREFIX: u8 = b'X';
+
+pub const MODEL: u8 = b'V';
+
+pub const LETTER: u8 = b'E';
+
+pub const FILED_SPEED: u8 = b'S';
+
+pub const GROUND_SPEED: u8 = b'G';
+
+pub const POINT: u8 = b'P';
+
+pub const FIX: u8 = b'F';
+
+pub const TIME: u8 = b'T';
+
+pub const CLOCK: u8 = b'C';
+
+pub const ARRIVAL: u8 = b'A';
+
+pub const LEVEL: u8 = b'L';
+
+pub const TRACK_LEVEL: u8 = b'M';
+
+pub const POSITION: u8 = b'O';
+
+pub const AMENDMENT: u8 = b'B';
+
+// Four characters, right justified. Few have a space, so those without are asked first.
+pub fn is_facility(s: &[u8]) -> bool
+    ensures { λ r. ⌜ r ≡ isFacility (now (s .entry)) ⌝ }
+{
+    if run(b'a', 4, 4, s) {
+        return true;
+    }
+    one_of(b" aaa|  aa|   a", s)
+}
+
+// A letter and one to six alnum.
+pub(crate) fn is_key(s: &[u8]) -> bool
+    ensures { λ r. ⌜ r ≡ isKey (now (s .entry)) ⌝ }
+{
+    run(b'a', 2, 7, s) && is_of(b'l', s[0])
+}
+
+// 2 to 11 alnum, or 2 to 5, a slash, 1 to 6.
+pub(crate) fn is_fix(s: &[u8]) -> bool
+    ensures { λ r. ⌜ r ≡ isFix (now (s .entry)) ⌝ }
+{
+    if run(b'a', 2, 11, s) {
+        return true;
+    }
+    let i = find(b'/', s);
+    if i >= s.len() {
+        return false;
+    }
+    let j = i + 1;
+    run(b'a', 2, 5, &s[..i]) && run(b'a', 1, 6, &s[j..])
+}
+
+// Degrees and minutes, written together: at most `most`, minutes to 59.
+fn is_degrees(most: u64, s: &[u8]) -> bool
+    ensures { λ r. ⌜ r ≡ (within 0 most (now (s .entry)) && leb (numberOf 10 (now (s .entry)) % 100) 59) ⌝ }
+{
+    let Numeral::Value(n) = text::number(s, 10) else {
+        return false;
+    };
+    n <= most && n % 100 <= 59
+}
+
+// ddmm, N or S, slash, dddmm, E or W, in range.
+pub fn is_position(s: &[u8]) -> bool
+    ensures { λ r. ⌜ r ≡ isPosition (now (s .entry)) ⌝ }
+{
+    if s.len() != 12 {
+        return false;
+    }
+    if !is_of(b'n', s[4]) {
+        return false;
+    }
+    if s[5] != b'/' {
+        return false;
+    }
+    if !is_of(b'e', s[11]) {
+        return false;
+    }
+    is_degrees(9000, &s[0..4]) && is_degrees(18000, &s[6..11])
+}
+
+// One or more bytes 33 to 126. A route is no short text, so it has no kind here.
+pub fn is_route(s: &[u8]) -> bool
+    ensures { λ r. ⌜ r ≡ isRoute (now (s .entry)) ⌝ }
+{
+    let n = s.len();
+    run(b'v', 1, n, s)
+}
 
 // Two digits and an alnum.
 fn is_number(s: &[u8]) -> bool
@@ -39,15 +152,15 @@ fn is_drawn(kind: u8, s: &[u8]) -> bool
     ensures { λ r. ⌜ r ≡ isDrawn kind (now (s .entry)) ⌝ }
 {
     match kind {
-        forms::SEQUENCE => run(b'h', 4, 4, s),
-        forms::NUMBER => is_number(s),
-        forms::PREFIX => one_of(b"a|da", s),
-        forms::LETTER => run(b'l', 1, 1, s),
-        forms::FILED_SPEED => run(b'd', 2, 4, s) || one_of(b"lddd|SC", s),
-        forms::GROUND_SPEED => run(b'd', 3, 3, s),
-        forms::LEVEL => run(b'd', 2, 3, s) || one_of(b"ddBdd|ddBddd|dddBdd|dddBddd", s),
-        forms::TRACK_LEVEL => is_track_level(s),
-        forms::AMENDMENT => one_of(b"02|03|05|06|07|08|09|10", s),
+        crate::SEQUENCE => run(b'h', 4, 4, s),
+        crate::NUMBER => is_number(s),
+        crate::PREFIX => one_of(b"a|da", s),
+        crate::LETTER => run(b'l', 1, 1, s),
+        crate::FILED_SPEED => run(b'd', 2, 4, s) || one_of(b"lddd|SC", s),
+        crate::GROUND_SPEED => run(b'd', 3, 3, s),
+        crate::LEVEL => run(b'd', 2, 3, s) || one_of(b"ddBdd|ddBddd|dddBdd|dddBddd", s),
+        crate::TRACK_LEVEL => is_track_level(s),
+        crate::AMENDMENT => one_of(b"02|03|05|06|07|08|09|10", s),
         _ => false,
     }
 }
@@ -57,15 +170,30 @@ pub fn is_form(kind: u8, s: &[u8]) -> bool
     ensures { λ r. ⌜ r ≡ isForm kind (now (s .entry)) ⌝ }
 {
     match kind {
-        forms::STAMP => is_stamp(s),
-        forms::KEY => is_key(s),
-        forms::MODEL => run(b'a', 2, 4, s),
-        forms::POINT => run(b'a', 2, 12, s),
-        forms::FIX => is_fix(s),
-        forms::TIME => is_time(s),
-        forms::CLOCK => is_clock(s),
-        forms::ARRIVAL => is_arrival(s),
-        forms::POSITION => is_position(s),
+        crate::STAMP => is_stamp(s),
+        crate::KEY => is_key(s),
+        crate::MODEL => run(b'a', 2, 4, s),
+        crate::POINT => run(b'a', 2, 12, s),
+        crate::FIX => is_fix(s),
+        crate::TIME => is_time(s),
+        crate::CLOCK => is_clock(s),
+        crate::ARRIVAL => is_arrival(s),
+        crate::POSITION => is_position(s),
         _ => is_drawn(kind, s),
     }
 }
+
+// The stamp, the facility, the type and the body begin after this many bytes; the sequence number at the line's start.
+pub const STAMP_AT: usize = 4;
+
+pub const FACILITY_AT: usize = 12;
+
+pub const TYPE_AT: usize = 16;
+
+pub const BODY_AT: usize = 18;
+
+// "line over 2,048 bytes"
+pub const LONGEST_LINE: usize = 2048;
+
+// "FZ over 439 bytes, counted from its type"
+pub const LONGEST_PLAN: usize = 439;

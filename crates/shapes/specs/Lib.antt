@@ -1,3 +1,4 @@
 pub mod Cut
 pub mod Pieces
 pub mod Picture
+pub mod Many

@@ -1,5 +1,8 @@
 // What the rules of fields are made of, as tests on bytes: a picture, a run of one class, and the place of a byte. Nothing here knows
 // which fields there are.
+
+pub mod sweeps;
+
 ghost use mathlib.Core.Path.{_≡_};
 ghost use mathlib.Core.Bool.{_&&_};
 ghost use lib.Dec.{leb};
@@ -43,7 +46,7 @@ pub fn is_of(k: u8, b: u8) -> bool
     }
 }
 
-pub fn fits(picture: &[u8], s: &[u8]) -> bool
+pub(crate) fn fits(picture: &[u8], s: &[u8]) -> bool
     ensures { λ r. ⌜ r ≡ fitting (now (picture .entry)) (now (s .entry)) ⌝ }
 {
     if picture.len() != s.len() {

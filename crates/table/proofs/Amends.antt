@@ -13,14 +13,14 @@ use lib.ListN.{length, getD}
 use borrow.Author.Tests.{eqb-true}
 use Rattle.text.specs.Bytes.{bytes}
 use Rattle.text.proofs.Logic.{and-left, and-right, true-false, not-fails, not-holds, implied}
-use Rattle.forms.specs.Kind.{AMENDMENT}
-use Rattle.kinds.specs.Field.{ROUTE, CONTENT, plain, leftOf, marksOf}
-use Rattle.kinds.specs.declared.Value.{Value}
+use Rattle.rules.specs.Kind.{AMENDMENT}
+use Rattle.table.specs.Field.{ROUTE, CONTENT, plain, leftOf, marksOf}
+use Rattle.table.specs.declared.kinds.Value.{Value}
 use Rattle.table.specs.Read.{answerFrom}
 use Rattle.table.specs.Show.{textsFrom, allowedFrom, marksFrom, routed}
-use Rattle.table.specs.declared.Answer.the-variants.{Taken}
+use Rattle.table.specs.declared.walk.Answer.the-variants.{Taken}
 use Rattle.table.proofs.Theorems.{taken-more, allowed-taken}
-use Rattle.table.proofs.Marks.{times, left-route, routeless, step, marks-number, marks-stay}
+use Rattle.table.proofs.MarksKept.{times, left-route, routeless, step, marks-number, marks-stay}
 use Rattle.table.proofs.Routes.{oneRoute, plain-route, not-route, none-more, routedIn, routed-texts}
 
 -- each number has its content after it

@@ -7,16 +7,16 @@ use native.Mathlib.Nat.{suc-inj}
 use native.Mathlib.Omega.{arith}
 use lib.ListN.{length, take}
 use Rattle.text.proofs.Logic.{true-false}
-use Rattle.spacing.specs.Body.{bodyOf, allFields, Split, Fields, Wrong, fieldsOf}
-use Rattle.spacing.proofs.Laws.{fields-text, fields-body}
-use Rattle.kinds.specs.Field.{readIn, leftOf, marksOf}
-use Rattle.kinds.specs.declared.FieldRead.{FieldRead}
-use Rattle.kinds.specs.declared.FieldRead.the-variants as field
+use Rattle.table.specs.Spacing.{bodyOf, allFields, Split, Fields, Wrong, fieldsOf}
+use Rattle.table.proofs.SpacingLaws.{fields-text, fields-body}
+use Rattle.table.specs.Field.{readIn, leftOf, marksOf}
+use Rattle.table.specs.declared.kinds.FieldRead.{FieldRead}
+use Rattle.table.specs.declared.kinds.FieldRead.the-variants as field
 use Rattle.table.specs.Fault.{leftAfter, marksAfter, First}
 use Rattle.table.specs.Read.{more, valuesFrom, faultAt, orElse, answerFrom, counted, answers, answerOf}
-use Rattle.table.specs.declared.Answer.{Answer}
-use Rattle.table.specs.declared.Answer.the-variants.{Refused}
-use Rattle.table.specs.declared.Fault.the-variants.{Spacing, Field, Number, Two}
+use Rattle.table.specs.declared.walk.Answer.{Answer}
+use Rattle.table.specs.declared.walk.Answer.the-variants.{Refused}
+use Rattle.table.specs.declared.walk.Fault.the-variants.{Spacing, Field, Number, Two}
 use Rattle.table.proofs.Theorems.{counted-known, counted-is, parted, not-taken}
 
 -- no list of fields is answered by its spacing

@@ -11,16 +11,16 @@ use lib.ListN.{length}
 use borrow.Author.Tests.{eq-eqb, eqb-true}
 use Rattle.text.specs.Bytes.{bytes}
 use Rattle.text.proofs.Logic.{and-left, and-right, true-false, not-fails, not-holds, either-of}
-use Rattle.forms.specs.Form.{isRoute}
-use Rattle.forms.specs.Kind.{AMENDMENT}
-use Rattle.spacing.specs.Body.{bodyOf}
-use Rattle.kinds.specs.Field.{ROUTE, PLAN-TIME, CONTENT, contentOf, plain, leftOf, marksOf, shown, shownKind}
-use Rattle.kinds.specs.declared.Value.{Value}
+use Rattle.rules.specs.Form.{isRoute}
+use Rattle.rules.specs.Kind.{AMENDMENT}
+use Rattle.table.specs.Spacing.{bodyOf}
+use Rattle.table.specs.Field.{ROUTE, PLAN-TIME, CONTENT, contentOf, plain, leftOf, marksOf, shown, shownKind}
+use Rattle.table.specs.declared.kinds.Value.{Value}
 use Rattle.table.specs.Read.{answerFrom, answerOf, valuesOf, routeIn, routeOf}
 use Rattle.table.specs.Show.{textsFrom, allowedFrom, marksFrom, routed}
-use Rattle.table.specs.declared.Answer.the-variants.{Taken}
+use Rattle.table.specs.declared.walk.Answer.the-variants.{Taken}
 use Rattle.table.proofs.Theorems.{routesAre, allVisible, taken-more, allowed-visible, sound, complete}
-use Rattle.table.proofs.Marks.{times, routeless, step}
+use Rattle.table.proofs.MarksKept.{times, routeless, step}
 
 -- ---- lists of kinds
 

@@ -14,20 +14,20 @@ use Rattle.text.specs.Class.{all}
 use Rattle.text.specs.Place.{allIn}
 use Rattle.text.proofs.Logic.{and-left, and-right, true-false}
 use Rattle.shapes.specs.Picture.{isOf}
-use Rattle.forms.specs.Form.{isRoute}
-use Rattle.spacing.specs.Body.{bodyOf, allFields, Split, Fields, Wrong, fieldsOf}
-use Rattle.spacing.proofs.Laws.{fields-text, fields-body, visible-field}
-use Rattle.kinds.specs.Field.{ROUTE, readIn, plain, leftOf, marksOf, follows, isValue, shown}
-use Rattle.kinds.specs.declared.Value.{Value}
-use Rattle.kinds.specs.declared.FieldRead.{FieldRead}
-use Rattle.kinds.specs.declared.FieldRead.the-variants as field
-use Rattle.kinds.proofs.Laws.{in-sound, in-complete, in-visible}
+use Rattle.rules.specs.Form.{isRoute}
+use Rattle.table.specs.Spacing.{bodyOf, allFields, Split, Fields, Wrong, fieldsOf}
+use Rattle.table.proofs.SpacingLaws.{fields-text, fields-body, visible-field}
+use Rattle.table.specs.Field.{ROUTE, readIn, plain, leftOf, marksOf, follows, isValue, shown}
+use Rattle.table.specs.declared.kinds.Value.{Value}
+use Rattle.table.specs.declared.kinds.FieldRead.{FieldRead}
+use Rattle.table.specs.declared.kinds.FieldRead.the-variants as field
+use Rattle.table.proofs.FieldLaws.{in-sound, in-complete, in-visible}
 use Rattle.table.specs.Read.{valuesFrom, answerFrom, counted, answers, values, answerOf, valuesOf}
 use Rattle.table.specs.Show.{textsFrom, allowedFrom, marksFrom}
-use Rattle.table.specs.declared.Answer.{Answer}
-use Rattle.table.specs.declared.Answer.the-variants.{Taken, Refused}
-use Rattle.table.specs.declared.Fault.{Fault}
-use Rattle.table.specs.declared.Fault.the-variants.{Spacing}
+use Rattle.table.specs.declared.walk.Answer.{Answer}
+use Rattle.table.specs.declared.walk.Answer.the-variants.{Taken, Refused}
+use Rattle.table.specs.declared.walk.Fault.{Fault}
+use Rattle.table.specs.declared.walk.Fault.the-variants.{Spacing}
 
 -- ---- what the theorems speak of
 

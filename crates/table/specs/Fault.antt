@@ -3,8 +3,8 @@ use Prim.Native.Nat.{ℕ, _<_}
 use mathlib.Core.Path.{_≡_}
 use mathlib.Core.List.{List, [], _∷_}
 use lib.ListN.{length, take, getD}
-use Rattle.kinds.specs.Field.{readIn, leftOf, marksOf}
-use Rattle.kinds.specs.declared.FieldRead.{FieldRead}
+use Rattle.table.specs.Field.{readIn, leftOf, marksOf}
+use Rattle.table.specs.declared.kinds.FieldRead.{FieldRead}
 use Rattle.table.specs.Read.{valuesFrom}
 
 -- what the fields leave for the next one, and the marks that are set after them

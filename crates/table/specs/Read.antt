@@ -5,15 +5,15 @@ use mathlib.Core.Bool.{Bool, cond, _&&_}
 use mathlib.Core.List.{List, [], _∷_, _++_}
 use lib.Dec.{eqb, leb}
 use lib.ListN.{length, replicate}
-use Rattle.spacing.specs.Body.{Split, Fields, Wrong, fieldsOf, fieldsIn}
-use Rattle.kinds.specs.Field.{ROUTE, valued, readIn, plain, leftOf, marksOf}
-use Rattle.kinds.specs.declared.Value.{Value}
-use Rattle.kinds.specs.declared.FieldRead.{FieldRead}
-use Rattle.kinds.specs.declared.FieldRead.the-variants as field
-use Rattle.table.specs.declared.Answer.{Answer}
-use Rattle.table.specs.declared.Answer.the-variants.{Taken, Refused}
-use Rattle.table.specs.declared.Fault.{Fault}
-use Rattle.table.specs.declared.Fault.the-variants.{Spacing, Field, Number, Two}
+use Rattle.table.specs.Spacing.{Split, Fields, Wrong, fieldsOf, fieldsIn}
+use Rattle.table.specs.Field.{ROUTE, valued, readIn, plain, leftOf, marksOf}
+use Rattle.table.specs.declared.kinds.Value.{Value}
+use Rattle.table.specs.declared.kinds.FieldRead.{FieldRead}
+use Rattle.table.specs.declared.kinds.FieldRead.the-variants as field
+use Rattle.table.specs.declared.walk.Answer.{Answer}
+use Rattle.table.specs.declared.walk.Answer.the-variants.{Taken, Refused}
+use Rattle.table.specs.declared.walk.Fault.{Fault}
+use Rattle.table.specs.declared.walk.Fault.the-variants.{Spacing, Field, Number, Two}
 
 -- ---- the values
 

@@ -4,8 +4,8 @@ use Prim.Native.Nat.{ℕ}
 use mathlib.Core.Bool.{Bool, true, false, cond, _&&_}
 use mathlib.Core.List.{List, [], _∷_}
 use lib.Dec.{eqb}
-use Rattle.kinds.specs.Field.{ROUTE, plain, leftOf, marksOf, follows, isValue, shown}
-use Rattle.kinds.specs.declared.Value.{Value}
+use Rattle.table.specs.Field.{ROUTE, plain, leftOf, marksOf, follows, isValue, shown}
+use Rattle.table.specs.declared.kinds.Value.{Value}
 
 -- the text of each value
 unfoldable pub textsFrom : List ℕ → ℕ → List ℕ → List Value → List (List ℕ)

@@ -1,115 +1,152 @@
-// A body of fields by a list of their kinds: read, and its route found. Document 01's table is such a list for each type.
-use kinds::FieldRead;
-use kinds::ROUTE;
-use kinds::Value;
-use spacing::Counted;
+// Document 01's table by type: which fields a type's body has, in order, a body read by them, and its route.
+
+pub mod field;
+pub mod kinds;
+pub mod spacing;
+pub mod walk;
+
+use crate::spacing::Counted;
+use crate::walk::TableRead;
+use fields::heads::MessageType;
 ghost use mathlib.Core.Path.{_≡_};
-ghost use mathlib.Core.List.{[]};
-ghost use Rattle.table.specs.Read.{Ready, padded, faultAt, answerOf, valuesOf, routeOf};
-ghost use Rattle.table.specs.declared.Answer.the-variants.{Refused};
-ghost use Rattle.table.specs.declared.Fault.the-variants.{Spacing};
+ghost use Rattle.table.specs.Read.{padded};
+ghost use Rattle.table.specs.Table.{dotted, answerBy, valuesBy, routeBy, countWith, hasFields, hasRouteWith, isCount};
+ghost use lib.Count.{ones};
+ghost use Rattle.fields.specs.declared.heads.MessageType.the-variants as type;
+ghost use Rattle.table.specs.Plan.{isLongPlan};
 
-// What is wrong with a body: its spacing or its count of fields (answer 8), or the first field that is at fault, with its
-// place (9, 10, 18).
-pub enum Fault {
-    Spacing,
-    Field(usize),
-    Number(usize),
-    Two(usize),
-}
+// The table, AF to UZ: the kinds of each type's fields in order, of an AF those with eight amendments, and dots after them.
+const AF: [u8; 19] = *b"IPPBWBWBWBWBWBWBWBW";
 
-// A body that is taken, whether a space stands at its end, and the marks of its amendments; or its fault.
-pub enum Answer {
-    Taken(bool, u8),
-    Refused(Fault),
-}
+const AZ: [u8; 19] = *b"IPPA...............";
 
-// The answer, and the values of the fields that were read; after these only zeros.
-pub struct TableRead {
-    pub answer: Answer,
-    pub values: [Value; 19],
-}
+const DZ: [u8; 19] = *b"IZPTPC.............";
 
-// What a field that is not read makes of the whole body.
-fn as_fault(read: FieldRead, place: usize) -> Fault
-    ensures { λ r. ⌜ r ≡ faultAt place read ⌝ }
+const FZ: [u8; 19] = *b"IZSFHLR............";
+
+const RZ: [u8; 19] = *b"IPP................";
+
+const TZ: [u8; 19] = *b"JGMO...............";
+
+const UZ: [u8; 19] = *b"IZSFHLR............";
+
+// RT, TO and HB bodies are kept whole.
+const WHOLE: [u8; 19] = *b"...................";
+
+// The row of a type.
+pub fn kinds_of(t: MessageType) -> [u8; 19]
+    ensures { λ r. ⌜ r ≡ dotted t ⌝ }
 {
-    match read {
-        FieldRead::Nothing => Fault::Field(place),
-        FieldRead::Number => Fault::Number(place),
-        FieldRead::Two => Fault::Two(place),
-        FieldRead::Read(_) => Fault::Spacing,
+    match t {
+        MessageType::Af => AF,
+        MessageType::Az => AZ,
+        MessageType::Dz => DZ,
+        MessageType::Fz => FZ,
+        MessageType::Rz => RZ,
+        MessageType::Tz => TZ,
+        MessageType::Uz => UZ,
+        MessageType::Rt => WHOLE,
+        MessageType::To => WHOLE,
+        MessageType::Hb => WHOLE,
     }
 }
 
-// The spacing or the count is wrong.
-pub fn refused() -> TableRead
-    ensures { λ r. ⌜ r .answer ≡ Refused Spacing ⌝ }
-    ensures { λ r. ⌜ r .values ≡ padded [] ⌝ }
+// Reads a body by the kinds of as many fields as it has.
+pub fn read(t: MessageType, body: &[u8]) -> TableRead
+    ensures { λ r. ⌜ r .answer ≡ answerBy t (now (body .entry)) ⌝ }
+    ensures { λ r. ⌜ r .values ≡ padded (valuesBy t (now (body .entry))) ⌝ }
 {
-    TableRead {
-        answer: Answer::Refused(Fault::Spacing),
-        values: [Value { a: 0, b: 0, c: 0 }; 19],
-    }
-}
-
-// Reads a body that has as many fields as there are kinds, until one is not read; `trailing` is whether a space stands at its end.
-pub fn read(kinds: &[u8], body: &[u8], trailing: bool) -> TableRead
-    requires { ⌜ Ready (now kinds) (now body) trailing ⌝ }
-    ensures { λ r. ⌜ r .answer ≡ answerOf (now (kinds .entry)) (now (body .entry)) ⌝ }
-    ensures { λ r. ⌜ r .values ≡ padded (valuesOf (now (kinds .entry)) (now (body .entry))) ⌝ }
-{
-    let mut values = [Value { a: 0, b: 0, c: 0 }; 19];
-    let mut at: usize = 0;
-    let mut k: usize = 0;
-    let mut left: u8 = 0;
-    let mut marks: u8 = 0;
-    while k < kinds.len() {
-        let j = at + 1;
-        let e = spacing::field_end(body, j);
-        let kind = kinds[k];
-        let read = reading::read_field(kind, left, marks, &body[j..e]);
-        let FieldRead::Read(value) = read else {
-            return TableRead {
-                answer: Answer::Refused(as_fault(read, k + 1)),
-                values,
-            };
-        };
-        values[k] = value;
-        marks = kinds::marks_after(kind, marks, &body[j..e]);
-        left = kinds::left(kind, &body[j..e]);
-        at = e;
-        k += 1;
-    }
-    TableRead {
-        answer: Answer::Taken(trailing, marks),
-        values,
-    }
-}
-
-// The route among the fields, as a part of the body; an empty part where there is none.
-pub fn route<'a>(kinds: &[u8], body: &'a [u8]) -> &'a [u8]
-    ensures { λ r. ⌜ now r ≡ routeOf (now (kinds .entry)) (now (body .entry)) ⌝ }
-{
-    let Counted::Fields(n, _) = spacing::count(body) else {
-        return &body[..0];
+    let Counted::Fields(n, trailing) = spacing::count(body) else {
+        return walk::refused();
     };
-    let mut at: usize = 0;
-    let mut k: usize = 0;
-    let mut left: u8 = 0;
-    while k < n {
-        if k >= kinds.len() {
-            return &body[..0];
-        }
-        let kind = kinds[k];
-        let j = at + 1;
-        let e = spacing::field_end(body, j);
-        if kinds::plain(kind, left) == ROUTE {
-            return &body[j..e];
-        }
-        left = kinds::left(kind, &body[j..e]);
-        at = e;
-        k += 1;
+    if !is_count(t, n) {
+        return walk::refused();
     }
-    &body[..0]
+    let kinds = kinds_of(t);
+    walk::read(&kinds[..n], body, trailing)
+}
+
+// The route among the fields of a type's body, as a part of it; an empty part where there is none.
+pub fn route(t: MessageType, body: &[u8]) -> &[u8]
+    ensures { λ r. ⌜ now r ≡ routeBy t (now (body .entry)) ⌝ }
+{
+    let all = kinds_of(t);
+    walk::route(&all, body)
+}
+
+// How many amendments an AF with these marks has: the marks set.
+pub(crate) fn amendment_count(marks: u8) -> u32
+    ensures { λ r. ⌜ r ≡ ones marks ⌝ }
+{
+    u8::count_ones(marks)
+}
+
+// How many fields the body of a type has; only an AF's count goes by its marks.
+pub fn field_count(t: MessageType, marks: u8) -> usize
+    ensures { λ r. ⌜ r ≡ countWith t marks ⌝ }
+{
+    match t {
+        MessageType::Af => 3 + 2 * (amendment_count(marks) as usize),
+        MessageType::Az => 4,
+        MessageType::Dz => 6,
+        MessageType::Fz => 7,
+        MessageType::Rz => 3,
+        MessageType::Tz => 4,
+        MessageType::Uz => 7,
+        MessageType::Rt => 0,
+        MessageType::To => 0,
+        MessageType::Hb => 0,
+    }
+}
+
+// Whether the body of a type is fields; RT, TO and HB bodies are kept whole.
+pub fn has_fields(t: MessageType) -> bool
+    ensures { λ r. ⌜ r ≡ hasFields t ⌝ }
+{
+    field_count(t, 0) != 0
+}
+
+// Whether a route is among the fields; of an AF if its number, 10, came.
+pub fn has_route(t: MessageType, marks: u8) -> bool
+    ensures { λ r. ⌜ r ≡ hasRouteWith t marks ⌝ }
+{
+    match t {
+        MessageType::Af => marks & 128 != 0,
+        MessageType::Fz => true,
+        MessageType::Uz => true,
+        _ => false,
+    }
+}
+
+// AF: even counts of fields, under 5 or over 19, are wrong.
+fn is_af_count(n: usize) -> bool
+    ensures { λ r. ⌜ r ≡ isCount type.Af n ⌝ }
+{
+    if n < 5 {
+        return false;
+    }
+    if n > 19 {
+        return false;
+    }
+    n % 2 == 1
+}
+
+// Whether the body of a type may have n fields.
+pub fn is_count(t: MessageType, n: usize) -> bool
+    ensures { λ r. ⌜ r ≡ isCount t n ⌝ }
+{
+    match t {
+        MessageType::Af => is_af_count(n),
+        _ => n == field_count(t, 0),
+    }
+}
+
+// An FZ over 439 bytes, counted from its type; n is the line's length.
+pub fn is_long_plan(kind: MessageType, n: usize) -> bool
+    ensures { λ r. ⌜ r ≡ isLongPlan kind n ⌝ }
+{
+    match kind {
+        MessageType::Fz => n > 455,
+        _ => false,
+    }
 }

@@ -8,7 +8,9 @@ pub mod Joined
 pub mod Numbers
 pub mod Parts
 pub mod Order
-pub mod Unique
-pub mod Examples
 pub mod Turn
 pub mod Packs
+pub mod Decimal
+pub mod DecimalDigits
+pub mod Unique
+pub mod Examples

@@ -5,3 +5,4 @@ pub mod Place
 pub mod Text
 pub mod Number
 pub mod Order
+pub mod Decimal

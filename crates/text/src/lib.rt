@@ -1,5 +1,9 @@
 // Short texts of capitals, digits and '/', at most 12 bytes, each held as one u64: 12 places of base 38, left-justified,
 // 0 for no byte, '0'..'9' 1 to 10, 'A'..'Z' 11 to 36, '/' 37. Digits to any base. Nothing here knows of lines or fields.
+
+pub mod decimals;
+pub mod writing;
+
 ghost use mathlib.Core.Path.{_≡_};
 ghost use mathlib.Core.Bool.{true};
 ghost use Rattle.text.specs.Class.{isTextByte};
@@ -33,7 +37,7 @@ pub enum Numeral {
 pub const TOP: u64 = 9065737908494995456;
 
 // A byte's code, or 0 where it has none.
-pub fn code(b: u8) -> u64
+pub(crate) fn code(b: u8) -> u64
     ensures { λ r. ⌜ r ≡ codeOf b ⌝ }
 {
     if b < 48 {
@@ -55,7 +59,7 @@ pub fn code(b: u8) -> u64
 }
 
 // The number of the text s, where s is one.
-pub fn pack(s: &[u8]) -> Packed
+pub(crate) fn pack(s: &[u8]) -> Packed
     ensures { λ r. ⌜ r ≡ packOf (now (s .entry)) ⌝ }
 {
     if s.len() > 12 {

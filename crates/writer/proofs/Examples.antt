@@ -1,26 +1,26 @@
--- What the promise of `writer` requires on a message written out, and wrong answers that it does not allow: `Post` is the function's
--- `ensures` as it stands in the source, r any result and s any state at exit that meet it. Assumes nothing.
-use mathlib.Core.Path.{_≡_, _∙_}
+-- What the promises of `writer` require on inputs written out, and so wrong answers that they do not allow: of each, `Post` is the function's
+-- `ensures` as it stands in the source, r any result that meets it, s the state at exit. Assumes nothing.
 use mathlib.Core.Bool.{false}
 use mathlib.Core.List.{[], _∷_}
-use lib.ListN.{replicate}
+use mathlib.Core.Path.{_≡_, _∙_}
 use denote.Ref.{now}
+use lib.ListN.{replicate}
 use Rattle.text.specs.Bytes.{bytes}
 use Rattle.text.specs.Class.{all, isDigit, isLetter, isAlnum}
 use Rattle.text.specs.Code.{codeOf, byteOf}
+use Rattle.text.specs.Number.{isDigitTo, digitOf, isNumeral, numberOf}
 use Rattle.text.specs.Place.{value, places, digits, tight, allIn}
 use Rattle.text.specs.Text.{packed, textOf, isPacked, spliced, hasRoom, writtenNext, writtenBytes}
-use Rattle.text.specs.Number.{isDigitTo, digitOf, isNumeral, numberOf}
 use Rattle.text.specs.declared.Written.the-variants.{NoText}
-use Rattle.shapes.specs.Pieces.{pieces}
 use Rattle.shapes.specs.Picture.{isOf, fits, fitsAny, oneOf, run, within}
-use Rattle.forms.specs.Form.{isStamp}
-use Rattle.forms.specs.Kind.{isForm}
-use Rattle.words.specs.Word.{isWord}
-use Rattle.heads.specs.Facility.{facilityText, isFacilityValue}
+use Rattle.shapes.specs.Pieces.{pieces}
+use Rattle.rules.specs.Form.{isStamp}
+use Rattle.rules.specs.Kind.{isForm}
+use Rattle.fields.specs.Facility.{facilityText, isFacilityValue}
+use Rattle.fields.specs.Word.{isWord}
 use Rattle.messages.specs.Allowed.{isWhole, bodyText, isBody}
-use Rattle.messages.specs.declared.Message.{Message}
 use Rattle.messages.specs.declared.Body.the-variants as body
+use Rattle.messages.specs.declared.Message.{Message}
 use Rattle.line.specs.Line.{lineOf, isHead, hasSize, isAllowed}
 use Rattle.writer.proofs.write.Reads as write
 

@@ -1,5 +1,7 @@
 pub mod Puts
 pub mod Round
 pub mod Calls
+pub mod FieldSizes
+pub mod LineSizes
 pub mod Unique
 pub mod Examples

@@ -10,19 +10,19 @@ use Rattle.text.specs.Text.{spliced, writtenBytes}
 use Rattle.text.proofs.Logic.{true-false, not-fails}
 use Rattle.text.proofs.Splice.{set-spliced, spliced-next, next-store, length-spliced, lend-on}
 use Rattle.shapes.proofs.Laws.{rest-all}
-use Rattle.spacing.specs.Body.{space, bodyOf}
-use Rattle.kinds.specs.Field.{leftOf, shown}
-use Rattle.kinds.specs.declared.Value.{Value}
-use Rattle.heads.specs.declared.MessageType.{MessageType}
+use Rattle.table.specs.Spacing.{space, bodyOf}
+use Rattle.table.specs.Field.{leftOf, shown}
+use Rattle.table.specs.declared.kinds.Value.{Value}
+use Rattle.fields.specs.declared.heads.MessageType.{MessageType}
 use Rattle.table.specs.Show.{textsFrom, allowedFrom}
-use Rattle.counts.specs.Table.{isCount}
-use Rattle.layout.proofs.Tables.{table-few}
+use Rattle.table.specs.Table.{isCount}
+use Rattle.table.proofs.Tables.{table-few}
 use Rattle.messages.specs.Body.{typeIn, fieldCount, valuesIn}
 use Rattle.messages.specs.Allowed.{isWhole, kindsIn, bodyText, isFielded, isBody}
 use Rattle.messages.specs.declared.Body.{Body}
-use Rattle.sizes.specs.Size.{fieldsText}
+use Rattle.writer.specs.Size.{fieldsText}
 use Rattle.text.proofs.Wrote.{wrote}
-use Rattle.sizes.proofs.Lines.{Has, has-kinds, has-values, has-length}
+use Rattle.writer.proofs.LineSizes.{Has, has-kinds, has-values, has-length}
 use Rattle.writer.specs.Asks.{PutAsks, BodyAsks}
 
 -- ---- bytes

@@ -4,14 +4,14 @@ use mathlib.Core.Path.{_≡_}
 use mathlib.Core.Bool.{Bool, true}
 use mathlib.Core.List.{List}
 use lib.ListN.{length}
-use Rattle.kinds.specs.Field.{isValue, shown}
-use Rattle.kinds.specs.declared.Value.{Value}
+use Rattle.table.specs.Field.{isValue, shown}
+use Rattle.table.specs.declared.kinds.Value.{Value}
 use Rattle.table.specs.Show.{allowedFrom}
 use Rattle.messages.specs.Allowed.{isBody, bodyText}
 use Rattle.messages.specs.declared.Body.{Body}
 use Rattle.messages.specs.declared.Message.{Message}
 use Rattle.line.specs.Line.{lineOf, isAllowed}
-use Rattle.sizes.specs.Size.{fieldsText}
+use Rattle.writer.specs.Size.{fieldsText}
 
 pub record FieldAsks (k p : ℕ) (r : List ℕ) (v : Value) (out : List ℕ) : Type 0 where
   pub good : isValue k p r v ≡ true

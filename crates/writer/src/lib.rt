@@ -1,30 +1,34 @@
 // A message written as its line: what it takes is known before a byte is written.
-use counts::field_count;
-use counts::has_fields;
-use frame::BODY_AT;
-use frame::FACILITY_AT;
-use frame::STAMP_AT;
-use frame::TYPE_AT;
-use kinds::Value;
-use layout::kinds_of;
+
+pub mod sizes;
+
+use crate::sizes::size_line;
 use messages::Body;
 use messages::Message;
 use messages::marks_in;
 use messages::type_in;
-use showing::put_field;
-use sizes::size_line;
+use messages::values::values_in;
+use rules::BODY_AT;
+use rules::FACILITY_AT;
+use rules::STAMP_AT;
+use rules::TYPE_AT;
+use table::field::put_field;
+use table::field_count;
+use table::has_fields;
+use table::kinds;
+use table::kinds::Value;
+use table::kinds_of;
 use text::Sized;
 use text::Written;
-use values::values_in;
-use writing::has_room;
-use writing::put_bytes;
+use text::writing::has_room;
+use text::writing::put_bytes;
 ghost use mathlib.Core.Path.{_≡_};
 ghost use lib.ListN.{length, take};
 ghost use Rattle.text.specs.Text.{spliced, writtenNext, writtenBytes};
-ghost use Rattle.kinds.specs.Field.{leftOf, shown};
+ghost use Rattle.table.specs.Field.{leftOf, shown};
 ghost use Rattle.messages.specs.Allowed.{bodyText};
 ghost use Rattle.line.specs.Line.{lineOf, isAllowed};
-ghost use Rattle.sizes.specs.Size.{fieldsText};
+ghost use Rattle.writer.specs.Size.{fieldsText};
 ghost use Rattle.writer.specs.Asks.{FieldAsks, PutAsks, BodyAsks, LineAsks};
 
 // Where a field's text ends, and what it leaves for the next one.

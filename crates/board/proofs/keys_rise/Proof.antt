@@ -4,7 +4,7 @@ use mathlib.Core.Path.{_≡_, sym, ap, _∙_}
 use borrow.Author.Needs.{needs}
 use native.Mathlib.Omega.{arith}
 use lib.ListN.{drop}
-use Rattle.rows.specs.Rows.{above, rises}
+use Rattle.board.specs.Rows.{above, rises}
 use Rattle.board.specs.Board.{readRows}
 use Rattle.board.proofs.Finds.{rise-first, rise-more, rise-not, rise-end}
 use Rattle.board.proofs.keys_rise.Statement.{statement}

@@ -4,13 +4,13 @@ use denote.Ref.{now}
 use Rattle.text.proofs.Logic.{so, not-so}
 use Rattle.shapes.specs.Picture.{part}
 use Rattle.shapes.proofs.Laws.{rest-all}
-use Rattle.heads.specs.Message.{typeOf}
-use Rattle.heads.specs.declared.TypeRead.the-variants as type
-use Rattle.layout.specs.Table.{routeBy}
+use Rattle.fields.specs.MessageType.{typeOf}
+use Rattle.fields.specs.declared.heads.TypeRead.the-variants as type
+use Rattle.table.specs.Table.{routeBy}
 use Rattle.line.proofs.Ways.{free-short, free-none, free-whole, free-route}
 use borrow.Author.Needs.{needs}
 use Rattle.line.proofs.free.Statement.{statement}
-use Rattle.frame.specs.Frame.{headLength, typePart}
+use Rattle.rules.specs.Frame.{headLength, typePart}
 use Rattle.line.proofs.free.Tie as tie
 
 -- the type that was read

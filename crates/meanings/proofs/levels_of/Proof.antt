@@ -3,7 +3,7 @@ use mathlib.Core.Path.{sym, ap, ap₂, _∙_}
 use native.Mathlib.Nat.{le-of-lt}
 use lib.Seq.{length-take-le}
 use Rattle.text.proofs.Logic.{so, not-so}
-use Rattle.forms.specs.Kind.{isForm}
+use Rattle.rules.specs.Kind.{isForm}
 use Rattle.meanings.specs.Meaning.{levelsOf}
 use Rattle.meanings.specs.declared.Levels.the-variants.{One, Block}
 use Rattle.meanings.proofs.Laws.{one-level, two-levels}

@@ -7,8 +7,8 @@ use native.Mathlib.Omega.{arith}
 use borrow.Author.Needs.{needs}
 use lib.ListN.{length, getD}
 use Rattle.board.specs.Board.{isAllowed}
-use Rattle.decimals.specs.Decimal.{decimal}
-use Rattle.decimals.proofs.Laws.{decimal-short}
+use Rattle.text.specs.Decimal.{decimal}
+use Rattle.text.proofs.Decimal.{decimal-short}
 use Rattle.printer.specs.Print.{textIn}
 use Rattle.printer.proofs.Boards.{board-long, text-size, text-short, Walk, walk-start, unprinted, line, walk-end, walk-next, walk-inside, row-whole, row-good, walk-size}
 use Rattle.printer.proofs.board_size.Statement.{statement}

@@ -9,14 +9,14 @@ use borrow.Author.Needs.{needs}
 use Rattle.text.specs.Text.{spliced, writtenNext, writtenBytes}
 use Rattle.text.specs.declared.Written.the-variants.{Next}
 use Rattle.text.proofs.Laws.{has-room, no-room-told, room-told}
-use Rattle.decimals.specs.Decimal.{decimal}
-use Rattle.decimals.proofs.Laws.{decimal-short}
+use Rattle.text.specs.Decimal.{decimal}
+use Rattle.text.proofs.Decimal.{decimal-short}
 use Rattle.printer.specs.Text.{countsText}
 use Rattle.printer.proofs.Counts.{counts-size}
 use Rattle.printer.proofs.print_counts.Statement.{statement}
 use Rattle.printer.proofs.print_counts.Tie as tie
 
--- what the two calls of `decimals::size` told
+-- what the two calls of `text::decimals::size` told
 module _ (lines taken : ℕ) {a b : ℕ} (first : a ≡ length (decimal lines)) (second : b ≡ length (decimal taken)) where
   small : 14 + a + b ≤ 54
   small = omega (arith, decimal-short lines, decimal-short taken)

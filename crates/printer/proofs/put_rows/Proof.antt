@@ -10,7 +10,7 @@ use Rattle.text.specs.Text.{spliced}
 use Rattle.text.proofs.Splice.{length-spliced, spliced-next, spliced-none, lend-on}
 use Rattle.shapes.proofs.Laws.{rest-all}
 use Rattle.board.specs.Board.{rowsOf}
-use Rattle.slips.specs.Text.{rowsText}
+use Rattle.printer.specs.RowText.{rowsText}
 use Rattle.printer.specs.Asks.{RowsAsk}
 use Rattle.printer.proofs.Boards.{board-long, Walk, walk-start, unprinted, line, walk-end, walk-next, walk-inside, row-whole, row-good, walk-text, walk-size}
 use Rattle.printer.proofs.put_rows.Statement.{statement}

@@ -1,7 +1,7 @@
 -- `rules::is_form` meets its contract: each arm is a case of the definition, and what is left is drawn. Assumes nothing.
 use mathlib.Core.Path.{_∙_}
 use borrow.Author.Tests.{ne-eqb}
-use Rattle.forms.specs.Kind.{isForm}
+use Rattle.rules.specs.Kind.{isForm}
 use Rattle.rules.specs.Drawn.{isDrawn}
 use borrow.Author.Needs.{needs}
 use Rattle.rules.proofs.is_form.Statement.{statement}

@@ -13,14 +13,14 @@ use denote.Ref.{now}
 use Rattle.text.specs.Text.{spliced}
 use Rattle.text.proofs.Splice.{length-spliced, lend-on, spliced-none}
 use Rattle.shapes.proofs.Laws.{rest-all, next-byte}
-use Rattle.spacing.specs.Body.{space, bodyOf}
-use Rattle.kinds.specs.Field.{leftOf, marksOf, shown}
-use Rattle.kinds.specs.declared.Value.{Value}
+use Rattle.table.specs.Spacing.{space, bodyOf}
+use Rattle.table.specs.Field.{leftOf, marksOf, shown}
+use Rattle.table.specs.declared.kinds.Value.{Value}
 use Rattle.table.specs.Read.{none}
 use Rattle.table.specs.Show.{textsFrom, allowedFrom}
 use Rattle.messages.proofs.Bodies.{allowed-first, allowed-rest, allowed-length}
-use Rattle.sizes.specs.Size.{fieldsText}
-use Rattle.sizes.proofs.Sizes.{next-value}
+use Rattle.writer.specs.Size.{fieldsText}
+use Rattle.writer.proofs.FieldSizes.{next-value}
 use Rattle.writer.specs.Asks.{FieldAsks, PutAsks}
 use Rattle.writer.proofs.Puts.{fields-none, fields-next, fields-length, fields-turn}
 use Rattle.writer.proofs.put_all.Statement.{statement}

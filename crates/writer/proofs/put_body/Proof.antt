@@ -3,7 +3,7 @@ use mathlib.Core.Path.{_≡_, sym}
 use mathlib.Core.Bool.{false}
 use lib.Seq.{length-take-le}
 use Rattle.messages.specs.Allowed.{isWhole}
-use Rattle.sizes.proofs.Lines.{whole-of, parted-of, count-of, Has, has-few}
+use Rattle.writer.proofs.LineSizes.{whole-of, parted-of, count-of, Has, has-few}
 use Rattle.writer.proofs.Puts.{whole-wrote, right-count, all-asks, plain-wrote, space-inside, spaced-wrote}
 use borrow.Author.Needs.{needs}
 use Rattle.writer.proofs.put_body.Statement.{statement}

@@ -9,14 +9,14 @@ use lib.Seq.{length-take-le}
 use denote.Ref.{now}
 use Rattle.text.specs.Text.{textOf, spliced, writtenBytes}
 use Rattle.text.proofs.Splice.{length-spliced}
-use Rattle.frame.specs.Frame.{headLength}
-use Rattle.forms.specs.Kind.{SEQUENCE, STAMP}
-use Rattle.words.specs.Word.{isWord}
-use Rattle.heads.specs.Facility.{facilityText, isFacilityValue}
-use Rattle.heads.specs.Message.{typeText}
-use Rattle.heads.specs.declared.MessageType.{MessageType}
-use Rattle.heads.proofs.Facilities.{length-facility}
-use Rattle.heads.proofs.Messages.{length-type}
+use Rattle.rules.specs.Frame.{headLength}
+use Rattle.rules.specs.Kind.{SEQUENCE, STAMP}
+use Rattle.fields.specs.Word.{isWord}
+use Rattle.fields.specs.Facility.{facilityText, isFacilityValue}
+use Rattle.fields.specs.MessageType.{typeText}
+use Rattle.fields.specs.declared.heads.MessageType.{MessageType}
+use Rattle.fields.proofs.FacilityLaws.{length-facility}
+use Rattle.fields.proofs.TypeLaws.{length-type}
 use Rattle.messages.specs.Body.{typeIn}
 use Rattle.messages.specs.Allowed.{bodyText}
 use Rattle.messages.specs.declared.Message.{Message}

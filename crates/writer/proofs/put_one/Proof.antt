@@ -6,7 +6,7 @@ use Rattle.text.specs.Text.{writtenNext}
 use Rattle.text.specs.declared.Written.the-variants.{Next}
 use Rattle.text.proofs.Logic.{true-false}
 use Rattle.text.proofs.Laws.{no-room-known, no-text-known}
-use Rattle.kinds.specs.Field.{leftOf, isValue, shown}
+use Rattle.table.specs.Field.{leftOf, isValue, shown}
 use Rattle.text.proofs.Wrote.{next-size, next-bytes, next-inside, next-part, next-text}
 use borrow.Author.Needs.{needs}
 use Rattle.writer.proofs.put_one.Statement.{statement}

@@ -16,7 +16,7 @@ use Rattle.text.proofs.Laws.{no-text, has-room, no-room-told}
 use Rattle.shapes.proofs.Laws.{rest-all}
 use Rattle.messages.specs.declared.Message.{Message}
 use Rattle.line.specs.Line.{lineOf, isAllowed}
-use Rattle.sizes.proofs.Lines.{line-known, line-unknown}
+use Rattle.writer.proofs.LineSizes.{line-known, line-unknown}
 use Rattle.writer.specs.Asks.{LineAsks}
 use Rattle.writer.proofs.Puts.{restFrom, given}
 use borrow.Author.Needs.{needs}

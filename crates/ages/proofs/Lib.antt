@@ -1,6 +1,0 @@
-pub mod Moments
-pub mod Ways
-pub mod Cases
-pub mod Theorems
-pub mod Unique
-pub mod Examples

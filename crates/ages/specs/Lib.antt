@@ -1,2 +1,0 @@
-pub mod Age
-pub mod Cases

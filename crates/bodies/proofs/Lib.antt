@@ -1,4 +1,0 @@
-pub mod Ways
-pub mod Theorems
-pub mod Unique
-pub mod Examples

@@ -1,4 +1,0 @@
-pub mod Digits
-pub mod Laws
-pub mod Unique
-pub mod Examples

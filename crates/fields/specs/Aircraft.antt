@@ -1,0 +1,78 @@
+-- The aircraft (document 01, "Fields"): "optional prefix and slash; type of 2 to 4 alnum; optional slash and letter".
+-- Assumes nothing.
+use Prim.Native.Nat.{ℕ}
+use mathlib.Core.Path.{_≡_}
+use mathlib.Core.Bool.{Bool, true, cond, _&&_, _||_}
+use mathlib.Core.List.{List}
+use lib.Dec.{eqb}
+use Rattle.text.specs.Text.{packed, textOf, slashed, joinOf}
+use Rattle.text.specs.declared.Packed.{Packed}
+use Rattle.text.specs.declared.Packed.the-variants as word
+use Rattle.shapes.specs.Cut.{has, before, after}
+use Rattle.rules.specs.Kind.{PREFIX, MODEL, LETTER, isForm}
+use Rattle.fields.specs.Word.{isWord}
+use Rattle.fields.specs.Pair.{slash, pairOf, pairText, isPair, pairWord}
+use Rattle.fields.specs.declared.words.Pair.{Pair}
+use Rattle.fields.specs.declared.words.Pair.the-variants as pair
+use Rattle.fields.specs.declared.aircraft.Aircraft.{Aircraft}
+use Rattle.fields.specs.declared.aircraft.AircraftRead.{AircraftRead}
+use Rattle.fields.specs.declared.aircraft.AircraftRead.the-variants.{Read, Nothing, Two}
+
+-- ---- the rule
+
+-- the text of an aircraft
+unfoldable pub aircraftText : Aircraft → List ℕ
+aircraftText a = cond (eqb (a .prefix) 0) (pairText (a .model) (a .letter)) (slashed (textOf (a .prefix)) (pairText (a .model) (a .letter)))
+
+-- the values that some text gives
+unfoldable pub isAircraftValue : Aircraft → Bool
+isAircraftValue a = isPair MODEL LETTER (a .model) (a .letter) && (eqb (a .prefix) 0 || isWord PREFIX (a .prefix))
+
+-- a is a reading of s
+pub record Reading (s : List ℕ) (a : Aircraft) : Type 0 where
+  pub value : isAircraftValue a ≡ true
+  pub text : aircraftText a ≡ s
+
+-- the cases of document 01's answer numbers: 0 where an aircraft has one reading, 9 where it has none, 18 where it has two different ones, and no other
+pub data Case (s : List ℕ) : ℕ → Type 0 where
+  One : (a : Aircraft) → Reading s a → ((b : Aircraft) → Reading s b → b ≡ a) → Case s 0
+  None : ((a : Aircraft) → Reading s a → ⊥) → Case s 9
+  Different : (a b : Aircraft) → Reading s a → Reading s b → (a ≡ b → ⊥) → Case s 18
+
+-- ---- what the reader answers: the readings without and with a prefix, and whether both are there
+
+abbrev pub withPrefix : ℕ → Pair → AircraftRead
+withPrefix p (pair.Both m l) = Read (record { prefix = p; model = m; letter = l })
+withPrefix p pair.Nothing = Nothing
+
+unfoldable pub plainOf : List ℕ → AircraftRead
+plainOf s = withPrefix 0 (pairOf MODEL LETTER s)
+
+unfoldable pub prefixedOf : List ℕ → AircraftRead
+prefixedOf s = cond (has slash s && isForm PREFIX (before slash s)) (withPrefix (packed (before slash s)) (pairOf MODEL LETTER (after slash s))) Nothing
+
+abbrev pub only : AircraftRead → AircraftRead → AircraftRead
+only Nothing y = y
+only Two y = Two
+only (Read a) Nothing = Read a
+only (Read a) (Read b) = Two
+only (Read a) Two = Two
+
+-- the reading of s; or that it has none; or two different ones (answer 18)
+unfoldable pub aircraftOf : List ℕ → AircraftRead
+aircraftOf s = only (plainOf s) (prefixedOf s)
+
+-- document 01's answer number
+abbrev pub aircraftAnswer : AircraftRead → ℕ
+aircraftAnswer (Read a) = 0
+aircraftAnswer Nothing = 9
+aircraftAnswer Two = 18
+
+-- ---- the word of the whole text
+
+abbrev pub afterPrefix : ℕ → Packed → Packed
+afterPrefix p (word.Text t) = cond (eqb p 0) (word.Text t) (joinOf p t)
+afterPrefix p word.Nothing = word.Nothing
+
+unfoldable pub aircraftWord : Aircraft → Packed
+aircraftWord a = afterPrefix (a .prefix) (pairWord (a .model) (a .letter))

@@ -1,0 +1,125 @@
+// The aircraft: optional prefix and slash; type; optional slash and letter.
+use crate::pairs;
+use crate::words;
+use crate::words::Pair;
+use text::Packed;
+use text::Written;
+use text::writing;
+ghost use mathlib.Core.Path.{_≡_};
+ghost use Rattle.text.specs.Text.{writtenNext, writtenBytes};
+ghost use Rattle.fields.specs.Aircraft.{plainOf, prefixedOf, only, aircraftOf, aircraftText, isAircraftValue, aircraftWord};
+
+// The model is document 01's type. A prefix or a letter of 0 is none.
+pub struct Aircraft {
+    pub prefix: u64,
+    pub model: u64,
+    pub letter: u64,
+}
+
+pub enum AircraftRead {
+    Read(Aircraft),
+    Nothing,
+    Two,
+}
+
+// The reading without a prefix.
+fn read_plain(s: &[u8]) -> AircraftRead
+    ensures { λ r. ⌜ r ≡ plainOf (now (s .entry)) ⌝ }
+{
+    let pair = pairs::read_pair(rules::MODEL, rules::LETTER, s);
+    match pair {
+        Pair::Both(model, letter) => AircraftRead::Read(Aircraft {
+            prefix: 0,
+            model,
+            letter,
+        }),
+        Pair::Nothing => AircraftRead::Nothing,
+    }
+}
+
+// The reading with a prefix.
+fn read_prefixed(s: &[u8]) -> AircraftRead
+    ensures { λ r. ⌜ r ≡ prefixedOf (now (s .entry)) ⌝ }
+{
+    let i = shapes::find(b'/', s);
+    if i >= s.len() {
+        return AircraftRead::Nothing;
+    }
+    let Packed::Text(prefix) = words::read(rules::PREFIX, &s[..i]) else {
+        return AircraftRead::Nothing;
+    };
+    let j = i + 1;
+    let pair = pairs::read_pair(rules::MODEL, rules::LETTER, &s[j..]);
+    match pair {
+        Pair::Both(model, letter) => AircraftRead::Read(Aircraft {
+            prefix,
+            model,
+            letter,
+        }),
+        Pair::Nothing => AircraftRead::Nothing,
+    }
+}
+
+// The one reading of two ways, or that there are two: the only place that answers 18.
+fn only_one(a: AircraftRead, b: AircraftRead) -> AircraftRead
+    ensures { λ r. ⌜ r ≡ only a b ⌝ }
+{
+    match a {
+        AircraftRead::Nothing => b,
+        AircraftRead::Two => AircraftRead::Two,
+        AircraftRead::Read(x) => match b {
+            AircraftRead::Nothing => AircraftRead::Read(x),
+            AircraftRead::Read(_) => AircraftRead::Two,
+            AircraftRead::Two => AircraftRead::Two,
+        },
+    }
+}
+
+// The word of the whole text.
+fn word(a: Aircraft) -> Packed
+    ensures { λ r. ⌜ r ≡ aircraftWord a ⌝ }
+{
+    let Packed::Text(tail) = pairs::pair_word(a.model, a.letter) else {
+        return Packed::Nothing;
+    };
+    if a.prefix == 0 {
+        return Packed::Text(tail);
+    }
+    writing::join(a.prefix, tail)
+}
+
+impl Aircraft {
+    pub fn read(s: &[u8]) -> AircraftRead
+        ensures { λ r. ⌜ r ≡ aircraftOf (now (s .entry)) ⌝ }
+    {
+        let a = read_plain(s);
+        let b = read_prefixed(s);
+        only_one(a, b)
+    }
+
+    pub fn holds(self) -> bool
+        ensures { λ r. ⌜ r ≡ isAircraftValue self ⌝ }
+    {
+        if !pairs::holds_pair(rules::MODEL, rules::LETTER, self.model, self.letter) {
+            return false;
+        }
+        if self.prefix == 0 {
+            return true;
+        }
+        words::holds(rules::PREFIX, self.prefix)
+    }
+
+    pub fn put(self, out: &mut [u8], at: usize) -> Written
+        ensures { λ r. ⌜ r ≡ writtenNext (isAircraftValue self) (aircraftText self) (now (out .entry)) at ⌝ }
+        ensures { λ _. ⌜ now (out .exit) ≡ writtenBytes (isAircraftValue self) (aircraftText self) (now (out .entry)) at ⌝ }
+    {
+        if !self.holds() {
+            return Written::NoText;
+        }
+        let whole = word(self);
+        match whole {
+            Packed::Text(t) => writing::put(t, out, at),
+            Packed::Nothing => Written::NoText,
+        }
+    }
+}

@@ -1,5 +1,0 @@
-pub mod Facilities
-pub mod Messages
-pub mod Answers
-pub mod Unique
-pub mod Examples

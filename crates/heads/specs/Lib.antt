@@ -1,2 +1,0 @@
-pub mod Facility
-pub mod Message

@@ -1,9 +1,0 @@
--- `keeping::arrival_of` meets its contract: an entry is there exactly if its first word is not 0. Assumes nothing.
-use borrow.Author.Tests.{eq-eqb, ne-eqb}
-use Rattle.rows.specs.Row.{arrivalOf}
-use Rattle.keeping.proofs.arrival_of.Statement.{statement}
-use Rattle.keeping.proofs.arrival_of.Tie as tie
-
-pub arrival-of-spec : {M : Type 1} → statement M
-unfolding arrivalOf
-arrival-of-spec = tie.close (tie.spec (λ c. rw (eq-eqb _ _ (c .if1 .taken))) (λ c. rw (ne-eqb _ _ (c .if1 .left))))

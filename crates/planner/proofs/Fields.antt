@@ -1,0 +1,166 @@
+-- The fields of a DZ, AZ or TZ that a line can have: each word that the board keeps is of its kind. Assumes nothing.
+use mathlib.Core.Path.{_≡_, refl, sym, _∙_}
+use mathlib.Core.Bool.{Bool, true, false, not, _&&_, _||_}
+use mathlib.Core.List.{List, [], _∷_}
+use Prim.Native.Nat.{ℕ}
+use lib.Dec.{eqb}
+use lib.ListN.{length}
+use Rattle.text.specs.Text.{textOf}
+use Rattle.text.proofs.Logic.{and-left, and-right}
+use Rattle.rules.specs.Form.{isClock, isArrival}
+use Rattle.rules.specs.Kind.{KEY, NUMBER, POINT, TIME, CLOCK, ARRIVAL, GROUND-SPEED, TRACK-LEVEL, POSITION, isForm}
+use Rattle.fields.specs.Word.{isWord}
+use Rattle.fields.specs.Pair.{isPair}
+use Rattle.fields.proofs.WordLaws.{word-packed, word-form}
+use Rattle.fields.specs.Ident.{isIdentValue}
+use Rattle.table.specs.Field.{IDENT, TZ-IDENT, AIRCRAFT, identIn, isOne, isTwo, plain, leftOf, marksOf, isKindValue, isValue, shown}
+use Rattle.table.specs.declared.kinds.Value.{Value}
+use Rattle.table.specs.Read.{padded}
+use Rattle.table.specs.Show.{allowedFrom, marksFrom}
+use Rattle.table.specs.Table.{countWith, isCount, kindsOf}
+use Rattle.messages.specs.Body.{typeIn, valueOfWord, valueOfIdent, valueOfAircraft, slots, fieldCount, valuesIn, spare, marksIn}
+use Rattle.messages.specs.Allowed.{isWhole, hasRoute, kindsIn, allNone, isFielded, isBody}
+use Rattle.messages.specs.declared.Az.{Az}
+use Rattle.messages.specs.declared.Dz.{Dz}
+use Rattle.messages.specs.declared.Tz.{Tz}
+use Rattle.messages.specs.declared.Body.{Body}
+use Rattle.messages.specs.declared.Body.the-variants as body
+use Rattle.messages.proofs.Bodies.{allowed-first, allowed-rest}
+
+-- ---- one value
+
+-- a kind that is held as its text; q says that k is such a kind
+word-in : (k p : ℕ) (r : List ℕ) (v : Value) → isValue k p r v ≡ (isWord k (v .a) && isOne v) → isValue k p r v ≡ true → isWord k (v .a) ≡ true
+word-in k p r v q e = and-left (isWord k (v .a)) (isOne v) (sym q ∙ e)
+
+pair-key : (v : Value) → isIdentValue (identIn v) ≡ true → isWord KEY (v .a) ≡ true
+unfolding isPair
+pair-key v e = and-left (isWord KEY (v .a)) (eqb (v .b) 0 || isWord NUMBER (v .b)) e
+
+-- the key of an ident
+key-in : (p : ℕ) (r : List ℕ) (v : Value) → isValue IDENT p r v ≡ true → isWord KEY (v .a) ≡ true
+unfolding isValue isKindValue plain
+key-in p r v e = pair-key v (and-left (isIdentValue (identIn v)) (isTwo v) e)
+
+key-in-tz : (p : ℕ) (r : List ℕ) (v : Value) → isValue TZ-IDENT p r v ≡ true → isWord KEY (v .a) ≡ true
+unfolding isValue isKindValue plain
+key-in-tz p r v e =
+    let some = not (eqb (v .b) 0) in
+    pair-key v (and-left (isIdentValue (identIn v)) some (and-left (isIdentValue (identIn v) && some) (isTwo v) e))
+
+-- "four digits in that range": every clock is also an arrival clock
+pub clock-arrival : (t : ℕ) → isWord CLOCK t ≡ true → isWord ARRIVAL t ≡ true
+unfolding isWord isForm isArrival
+clock-arrival t e =
+    let f : isClock (textOf t) ≡ true = word-form CLOCK t e in
+    rw (word-packed CLOCK t e, f)
+
+-- ---- the values of a body
+
+module _ (b : Body) (r : List ℕ) where
+  abbrev a₁ : Bool
+  a₁ = isCount (typeIn b) (fieldCount b)
+
+  abbrev a₂ : Bool
+  a₂ = allowedFrom (kindsIn b) 0 0 r (valuesIn b)
+
+  abbrev a₃ : Bool
+  a₃ = eqb (marksFrom (kindsIn b) 0 0 r (valuesIn b)) (marksIn b)
+
+  abbrev a₄ : Bool
+  a₄ = allNone (spare b)
+
+  abbrev a₅ : Bool
+  a₅ = hasRoute b || eqb (length r) 0
+
+  fielded-values : isFielded b r ≡ true → allowedFrom (kindsIn b) 0 0 r (valuesIn b) ≡ true
+  unfolding isFielded
+  fielded-values e = and-right a₁ a₂ (and-left (a₁ && a₂) a₃ (and-left (a₁ && a₂ && a₃) a₄ (and-left (a₁ && a₂ && a₃ && a₄) a₅ e)))
+
+  body-values : (t : Bool) → isWhole b ≡ false → isBody b r t ≡ true → allowedFrom (kindsIn b) 0 0 r (valuesIn b) ≡ true
+  unfolding isBody
+  body-values t q e = fielded-values (rw q at e)
+
+-- ---- one value after the other: what the values before it left may be anything
+
+pub record First (k : ℕ) (ks : List ℕ) (r : List ℕ) (v : Value) (vs : List Value) : Type 0 where
+  pub left : ℕ
+  pub value : isValue k left r v ≡ true
+  pub left-after : ℕ
+  pub marks-after : ℕ
+  pub others : allowedFrom ks left-after marks-after r vs ≡ true
+
+first : (k : ℕ) (ks : List ℕ) (p m : ℕ) (r : List ℕ) (v : Value) (vs : List Value) → allowedFrom (k ∷ ks) p m r (v ∷ vs) ≡ true → First k ks r v vs
+first k ks p m r v vs e =
+    record {
+      left = p;
+      value = allowed-first k ks p m r v vs e;
+      left-after = leftOf k (shown k p r v);
+      marks-after = marksOf k m (shown k p r v);
+      others = allowed-rest k ks p m r v vs e;
+    }
+
+next : {k j : ℕ} {ks r : List ℕ} {v w : Value} {vs : List Value} → First k (j ∷ ks) r v (w ∷ vs) → First j ks r w vs
+next {k} {j} {ks} {r} {v} {w} {vs} f = first j ks (f .left-after) (f .marks-after) r w vs (f .others)
+
+-- ---- by type
+
+module _ (m : Dz) (r : List ℕ) (t : Bool) (e : isBody (body.Dz m) r t ≡ true) where
+  values-dz : First IDENT (AIRCRAFT ∷ POINT ∷ TIME ∷ POINT ∷ CLOCK ∷ []) r (valueOfIdent (m .ident)) (valueOfAircraft (m .aircraft) ∷ valueOfWord (m .from .0) ∷ valueOfWord (m .time .0) ∷ valueOfWord (m .to .0) ∷ valueOfWord (m .clock .0) ∷ [])
+  unfolding kindsIn kindsOf valuesIn fieldCount countWith slots padded isWhole
+  values-dz = first IDENT _ 0 0 r (valueOfIdent (m .ident)) _ (body-values (body.Dz m) r t refl e)
+
+  pub key-dz : isWord KEY (m .ident .key .0) ≡ true
+  key-dz = key-in (values-dz .left) r (valueOfIdent (m .ident)) (values-dz .value)
+
+  pub from-dz : isWord POINT (m .from .0) ≡ true
+  unfolding isValue isKindValue plain
+  from-dz = let f = next (next values-dz) in word-in POINT (f .left) r (valueOfWord (m .from .0)) refl (f .value)
+
+  pub to-dz : isWord POINT (m .to .0) ≡ true
+  unfolding isValue isKindValue plain
+  to-dz = let f = next (next (next (next values-dz))) in word-in POINT (f .left) r (valueOfWord (m .to .0)) refl (f .value)
+
+  pub clock-dz : isWord CLOCK (m .clock .0) ≡ true
+  unfolding isValue isKindValue plain
+  clock-dz = let f = next (next (next (next (next values-dz)))) in word-in CLOCK (f .left) r (valueOfWord (m .clock .0)) refl (f .value)
+
+module _ (m : Az) (r : List ℕ) (t : Bool) (e : isBody (body.Az m) r t ≡ true) where
+  values-az : First IDENT (POINT ∷ POINT ∷ ARRIVAL ∷ []) r (valueOfIdent (m .ident)) (valueOfWord (m .from .0) ∷ valueOfWord (m .to .0) ∷ valueOfWord (m .clock .0) ∷ [])
+  unfolding kindsIn kindsOf valuesIn fieldCount countWith slots padded isWhole
+  values-az = first IDENT _ 0 0 r (valueOfIdent (m .ident)) _ (body-values (body.Az m) r t refl e)
+
+  pub key-az : isWord KEY (m .ident .key .0) ≡ true
+  key-az = key-in (values-az .left) r (valueOfIdent (m .ident)) (values-az .value)
+
+  pub from-az : isWord POINT (m .from .0) ≡ true
+  unfolding isValue isKindValue plain
+  from-az = let f = next values-az in word-in POINT (f .left) r (valueOfWord (m .from .0)) refl (f .value)
+
+  pub to-az : isWord POINT (m .to .0) ≡ true
+  unfolding isValue isKindValue plain
+  to-az = let f = next (next values-az) in word-in POINT (f .left) r (valueOfWord (m .to .0)) refl (f .value)
+
+  pub clock-az : isWord ARRIVAL (m .clock .0) ≡ true
+  unfolding isValue isKindValue plain
+  clock-az = let f = next (next (next values-az)) in word-in ARRIVAL (f .left) r (valueOfWord (m .clock .0)) refl (f .value)
+
+module _ (m : Tz) (r : List ℕ) (t : Bool) (e : isBody (body.Tz m) r t ≡ true) where
+  values-tz : First TZ-IDENT (GROUND-SPEED ∷ TRACK-LEVEL ∷ POSITION ∷ []) r (valueOfIdent (m .ident)) (valueOfWord (m .speed .0) ∷ valueOfWord (m .level .0) ∷ valueOfWord (m .position .0) ∷ [])
+  unfolding kindsIn kindsOf valuesIn fieldCount countWith slots padded isWhole
+  values-tz = first TZ-IDENT _ 0 0 r (valueOfIdent (m .ident)) _ (body-values (body.Tz m) r t refl e)
+
+  pub key-tz : isWord KEY (m .ident .key .0) ≡ true
+  key-tz = key-in-tz (values-tz .left) r (valueOfIdent (m .ident)) (values-tz .value)
+
+  pub speed-tz : isWord GROUND-SPEED (m .speed .0) ≡ true
+  unfolding isValue isKindValue plain
+  speed-tz = let f = next values-tz in word-in GROUND-SPEED (f .left) r (valueOfWord (m .speed .0)) refl (f .value)
+
+  pub level-tz : isWord TRACK-LEVEL (m .level .0) ≡ true
+  unfolding isValue isKindValue plain
+  level-tz = let f = next (next values-tz) in word-in TRACK-LEVEL (f .left) r (valueOfWord (m .level .0)) refl (f .value)
+
+  pub position-tz : isWord POSITION (m .position .0) ≡ true
+  unfolding isValue isKindValue plain
+  position-tz = let f = next (next (next values-tz)) in word-in POSITION (f .left) r (valueOfWord (m .position .0)) refl (f .value)

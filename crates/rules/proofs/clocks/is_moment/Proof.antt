@@ -1,0 +1,30 @@
+-- `rules::clocks::is_moment` meets its contract: each way out is a case of it. Assumes nothing.
+use Prim.Native.Nat.{_/_, _%_}
+use native.Mathlib.Omega.{arith}
+use borrow.Author.Tests.{le-leb, lt-leb}
+use Rattle.rules.proofs.clocks.is_moment.Statement.{statement}
+use Rattle.rules.proofs.clocks.is_moment.Tie as tie
+
+returns : tie.Need-returns
+returns c = let n = c .before .args .n in rw (lt-leb 1 (n / 1000000) (omega arith))
+
+returns-2 : tie.Need-returns-2
+returns-2 c = let n = c .before .before .args .n in rw (le-leb 1 (n / 1000000) (omega arith), lt-leb (n / 1000000) 31 (omega arith))
+
+returns-3 : tie.Need-returns-3
+returns-3 c =
+    let n = c .before .before .before .args .n in
+    rw (le-leb 1 (n / 1000000) (omega arith), le-leb (n / 1000000) 31 (omega arith), lt-leb (n / 10000 % 100) 23 (omega arith))
+
+returns-4 : tie.Need-returns-4
+returns-4 c =
+    let n = c .before .before .before .before .args .n in
+    rw (le-leb 1 (n / 1000000) (omega arith), le-leb (n / 1000000) 31 (omega arith), le-leb (n / 10000 % 100) 23 (omega arith), lt-leb (n / 100 % 100) 59 (omega arith))
+
+returns-5 : tie.Need-returns-5
+returns-5 c =
+    let n = c .before .before .before .before .args .n in
+    rw (le-leb 1 (n / 1000000) (omega arith), le-leb (n / 1000000) 31 (omega arith), le-leb (n / 10000 % 100) 23 (omega arith), le-leb (n / 100 % 100) 59 (omega arith))
+
+pub is-moment-spec : {M : Type 1} → statement M
+is-moment-spec = tie.close (tie.spec returns returns-2 returns-3 returns-4 returns-5)

@@ -1,9 +1,0 @@
--- Two answers that the promise of the public function of `showing` allows are equal: `Post` is its `ensures` as it stands in the
--- source, r and r′ are two results, s and s′ two states at exit. Assumes nothing.
-use mathlib.Core.Path.{_≡_, sym, _∙_}
-use denote.Ref.{now}
-use Rattle.showing.proofs.put_field.Reads as put-field
-
--- the answer, and every byte of the buffer
-pub put-field-one : (κs : _) (a : _) (r r′ : _) (s s′ : _) → put-field.Post κs a r s → put-field.Post κs a r′ s′ → (r ≡ r′) × (now (s .1 .1 .1 .1 .0) ≡ now (s′ .1 .1 .1 .1 .0))
-put-field-one κs a r r′ s s′ p q = (p .0 ∙ sym (q .0), p .1 ∙ sym (q .1))

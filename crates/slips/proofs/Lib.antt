@@ -1,4 +1,0 @@
-pub mod Lines
-pub mod Rows
-pub mod Widths
-pub mod Unique

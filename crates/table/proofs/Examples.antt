@@ -1,0 +1,191 @@
+-- What the promises of `table` require on inputs written out, and so wrong answers that they do not allow: of each, `Post` is the function's
+-- `ensures` as it stands in the source, r any result that meets it, s the state at exit. Assumes nothing.
+use mathlib.Core.Bool.{false, true}
+use mathlib.Core.Path.{_≡_, ap, _∙_}
+use denote.Ref.{now}
+use lib.Count.{ones}
+use Rattle.text.specs.Bytes.{bytes}
+use Rattle.text.specs.Class.{all, isDigit, isLetter, isAlnum}
+use Rattle.text.specs.Code.{codeOf}
+use Rattle.text.specs.Number.{isNumeral, isDigitTo, digitOf, numberOf}
+use Rattle.text.specs.Place.{value}
+use Rattle.text.specs.Text.{spliced, hasRoom, writtenNext, writtenBytes}
+use Rattle.text.specs.declared.Written.the-variants.{NoText}
+use Rattle.shapes.specs.Picture.{isOf, fits, run, within}
+use Rattle.shapes.specs.Pieces.{pieces}
+use Rattle.rules.specs.Form.{isIdent, isKey, isClock, isArrival, isPosition, isRoute}
+use Rattle.rules.specs.Kind.{isForm, POINT, FIX, TIME, LEVEL, AMENDMENT}
+use Rattle.fields.specs.Ident.{identOf}
+use Rattle.fields.specs.Word.{wordOf}
+use Rattle.fields.specs.declared.heads.MessageType.the-variants.{Af, Az, Fz, Rz, Tz, Dz, Uz, Hb}
+use Rattle.table.specs.Field.{markOf, contentOf, leftOf, marksOf, follows, plain, readKind, readIn, PLAN-TIME, CONTENT, ROUTE, valued, isOne, isMark, markText, isKindValue, isValue, shown}
+use Rattle.table.specs.Read.{answerOf, answers, counted, answerFrom, routeIn, routeOf}
+use Rattle.table.specs.Spacing.{ended, fieldsOf}
+use Rattle.table.specs.Table.{isCount, dotted, kindsOf, countIn, answerBy, routeBy, countWith}
+use Rattle.table.specs.declared.walk.Answer.{Answer}
+use Rattle.table.specs.declared.walk.Answer.the-variants.{Taken, Refused}
+use Rattle.table.specs.declared.walk.Fault.the-variants.{Spacing}
+use Rattle.table.proofs.field.put_field.Reads as put-field
+use Rattle.table.proofs.field_count.Reads as field-count
+use Rattle.table.proofs.has_fields.Reads as has-fields
+use Rattle.table.proofs.has_route.Reads as has-route
+use Rattle.table.proofs.is_count.Reads as is-count
+use Rattle.table.proofs.is_long_plan.Reads as is-long-plan
+use Rattle.table.proofs.kinds.follows.Reads as follows-read
+use Rattle.table.proofs.kinds.left.Reads as left-read
+use Rattle.table.proofs.kinds.marks_after.Reads as marks-read
+use Rattle.table.proofs.kinds.plain.Reads as plain-read
+use Rattle.table.proofs.kinds_of.Reads as kinds-of
+use Rattle.table.proofs.read.Reads as read
+use Rattle.table.proofs.route.Reads as route
+
+-- a TZ has an ident with a number, a ground speed, a track level and a position
+pub tz-by-the-az-table : (κs : _) (r : _) (s : _) → kinds-of.Post κs (Tz, tt) r s → r ≡ bytes "JGMO..............."
+unfolding dotted
+tz-by-the-az-table κs r s p = p
+
+-- in an FZ the time comes before the level
+pub level-before-time : (κs : _) (r : _) (s : _) → kinds-of.Post κs (Fz, tt) r s → r ≡ bytes "IZSFHLR............"
+unfolding dotted
+level-before-time κs r s p = p
+
+-- answer 8
+abbrev spacing : Answer
+spacing = Refused Spacing
+
+-- "Splitting at any run of spaces, so that a missing field shifts the rest": a TZ with two spaces in a row
+pub run-of-spaces : (κs : _) (x : _) (r : _) (s : _) → read.Post κs (Tz, (x, tt)) r s
+    → now x ≡ bytes " QQX12/101 310  240 3015N/08430W" → r .answer ≡ spacing
+unfolding answerBy isCount countIn fieldsOf ended pieces
+run-of-spaces κs x r s p e = p .0 ∙ ap (answerBy Tz) e
+
+-- an AZ's four fields are one too many for an RZ
+pub counted-as-an-az : (κs : _) (x : _) (r : _) (s : _) → read.Post κs (Rz, (x, tt)) r s
+    → now x ≡ bytes " N5AB GHI JKL A0810" → r .answer ≡ spacing
+unfolding answerBy isCount countIn fieldsOf ended pieces
+counted-as-an-az κs x r s p e = p .0 ∙ ap (answerBy Rz) e
+
+-- the fourth field of an AZ is asked for too: one that is a clock is taken
+pub three-kinds-for-every-body : (κs : _) (x : _) (r : _) (s : _) → read.Post κs (Az, (x, tt)) r s
+    → now x ≡ bytes " N5 AB CD 0810" → r .answer ≡ Taken false 0
+unfolding answerBy isCount countIn fieldsOf ended pieces kindsOf answerOf answers counted answerFrom readIn follows readKind plain leftOf marksOf
+    identOf wordOf isForm isIdent isKey isArrival isClock run fits isOf all isAlnum isDigit isLetter within isNumeral isDigitTo digitOf codeOf numberOf value
+three-kinds-for-every-body κs x r s p e = p .0 ∙ ap (answerBy Az) e
+
+-- the route of an AF is the content of its number 10
+pub route-by-the-fz-table : (κs : _) (x : _) (r : _) (s : _) → route.Post κs (Af, (x, tt)) r s
+    → now x ≡ bytes " N5AB GHI JKL 10 GHI..JKL" → now r ≡ bytes "GHI..JKL"
+unfolding routeBy routeOf routeIn fieldsOf ended pieces plain contentOf leftOf markOf fits isOf
+route-by-the-fz-table κs x r s p e = p ∙ ap (routeBy Af) e
+
+-- an FZ has a route, its last field
+pub route-by-the-rz-table : (κs : _) (x : _) (r : _) (s : _) → route.Post κs (Fz, (x, tt)) r s
+    → now x ≡ bytes " N5AB C172 120 GHI D0810 050 GHI..JKL" → now r ≡ bytes "GHI..JKL"
+unfolding routeBy routeOf routeIn fieldsOf ended pieces plain leftOf
+route-by-the-rz-table κs x r s p e = p ∙ ap (routeBy Fz) e
+
+-- ---- counts
+
+-- a DZ has six fields, not seven
+pub field-count-of-dz-7 : (κs : _) (r : _) (s : _) → field-count.Post κs (Dz, (0, tt)) r s → r ≡ 6
+unfolding countWith
+field-count-of-dz-7 κs r s p = p
+
+-- an AF with the numbers 02 and 10 has three fields and two for each of them
+pub amendment-is-one-field : (κs : _) (r : _) (s : _) → field-count.Post κs (Af, (129, tt)) r s → r ≡ 7
+unfolding countWith ones
+amendment-is-one-field κs r s p = p
+
+-- the body of an HB is kept whole
+pub heartbeat-has-fields : (κs : _) (r : _) (s : _) → has-fields.Post κs (Hb, tt) r s → r ≡ false
+heartbeat-has-fields κs r s p = p
+
+-- that of an RZ is fields
+pub rz-kept-whole : (κs : _) (r : _) (s : _) → has-fields.Post κs (Rz, tt) r s → r ≡ true
+rz-kept-whole κs r s p = p
+
+-- an FZ has a route, whatever marks are given
+pub fz-without-route : (κs : _) (m : _) (r : _) (s : _) → has-route.Post κs (Fz, (m, tt)) r s → r ≡ true
+fz-without-route κs m r s p = p
+
+-- an AF with every number but 10 has none
+pub af-route-by-number-09 : (κs : _) (r : _) (s : _) → has-route.Post κs (Af, (127, tt)) r s → r ≡ false
+af-route-by-number-09 κs r s p = p
+
+-- an AF has no even count of fields
+pub af-even-count : (κs : _) (r : _) (s : _) → is-count.Post κs (Af, (6, tt)) r s → r ≡ false
+unfolding isCount
+af-even-count κs r s p = p
+
+-- an AZ with three fields has one too few
+pub too-few-fields-right : (κs : _) (r : _) (s : _) → is-count.Post κs (Az, (3, tt)) r s → r ≡ false
+unfolding isCount
+too-few-fields-right κs r s p = p
+
+-- an FZ of 440 bytes from its type, after the 16 before it, is too long
+pub fz-of-440-taken : (κs : _) (r : _) (s : _) → is-long-plan.Post κs (Fz, (456, tt)) r s → r ≡ true
+unfolding fits isOf
+fz-of-440-taken κs r s p = p
+
+-- a UZ of any length is not
+pub limit-of-a-uz : (κs : _) (n : _) (r : _) (s : _) → is-long-plan.Post κs (Uz, (n, tt)) r s → r ≡ false
+unfolding fits isOf
+limit-of-a-uz κs n r s p = p
+
+-- ---- kinds
+
+-- the content of 08, whose mark is 32, is a level
+pub content-is-a-model : (κs : _) (r : _) (s : _) → plain-read.Post κs (CONTENT, (32, tt)) r s → r ≡ LEVEL
+unfolding plain contentOf
+content-is-a-model κs r s p = p
+
+-- the time of FZ and UZ is read as a time, whatever was left
+pub plan-time-is-a-clock : (κs : _) (m : _) (r : _) (s : _) → plain-read.Post κs (PLAN-TIME, (m, tt)) r s → r ≡ TIME
+unfolding plain
+plan-time-is-a-clock κs m r s p = p
+
+-- the number 10 leaves its mark
+pub nothing-left : (κs : _) (x : _) (r : _) (s : _) → left-read.Post κs (AMENDMENT, (x, tt)) r s → now x ≡ bytes "10" → r ≡ 128
+unfolding leftOf markOf fits isOf
+nothing-left κs x r s p e = p ∙ ap (leftOf AMENDMENT) e
+
+-- a fix that is a position says so
+pub left-by-another-field : (κs : _) (x : _) (r : _) (s : _) → left-read.Post κs (FIX, (x, tt)) r s → now x ≡ bytes "3015N/08430W" → r ≡ 1
+unfolding leftOf isPosition fits isOf within isNumeral all isDigit isDigitTo digitOf codeOf numberOf value
+left-by-another-field κs x r s p e = p ∙ ap (leftOf FIX) e
+
+-- after 02 and then 10 both marks are set
+pub marks-before-lost : (κs : _) (x : _) (r : _) (s : _) → marks-read.Post κs (AMENDMENT, (1, (x, tt))) r s → now x ≡ bytes "10" → r ≡ 129
+unfolding marksOf markOf fits isOf
+marks-before-lost κs x r s p e = p ∙ ap (marksOf AMENDMENT 1) e
+
+-- a point that looks like a number sets none
+pub point-sets-a-mark : (κs : _) (m : _) (x : _) (r : _) (s : _) → marks-read.Post κs (POINT, (m, (x, tt))) r s → now x ≡ bytes "10" → r ≡ m
+unfolding marksOf
+point-sets-a-mark κs m x r s p e = p
+
+-- a time with E does not follow a fix that is no position
+pub e-rule-for-d : (κs : _) (m : _) (x : _) (r : _) (s : _) → follows-read.Post κs (PLAN-TIME, (0, (m, (x, tt)))) r s
+    → now x ≡ bytes "E0815" → r ≡ false
+unfolding follows
+e-rule-for-d κs m x r s p e = p ∙ ap (follows PLAN-TIME 0 m) e
+
+-- nor a number one that came before
+pub number-twice : (κs : _) (l : _) (x : _) (r : _) (s : _) → follows-read.Post κs (AMENDMENT, (l, (128, (x, tt)))) r s
+    → now x ≡ bytes "10" → r ≡ false
+unfolding follows markOf fits isOf
+number-twice κs l x r s p e = p ∙ ap (follows AMENDMENT l 128) e
+
+-- ---- showing
+
+-- the number whose mark is 32 is written as 08, and all other bytes stay
+pub number-08-written-09 : (κs : _) (l : _) (x : _) (y : _) (r : _) (s : _) → put-field.Post κs (AMENDMENT, (l, (valued 32 0 0, (x, (y, (1, tt)))))) r s
+    → now y ≡ bytes "...." → now (s .1 .1 .1 .1 .0) ≡ bytes ".08."
+unfolding writtenBytes hasRoom spliced isValue shown isMark markText isOne
+number-08-written-09 κs l x y r s p e = p .1 ∙ ap (λ b. writtenBytes true (bytes "08") b 1) e
+
+-- bytes with a space among them are no route: values that no line has
+pub route-any-bytes : (κs : _) (l : _) (x : _) (y : _) (n : _) (r : _) (s : _) → put-field.Post κs (ROUTE, (l, (valued 0 0 0, (x, (y, (n, tt)))))) r s
+    → now x ≡ bytes "A B" → r ≡ NoText
+unfolding writtenNext isValue isKindValue plain isRoute all isOf
+route-any-bytes κs l x y n r s p e = p .0 ∙ ap (λ b. writtenNext (isValue ROUTE l b (valued 0 0 0)) (shown ROUTE l b (valued 0 0 0)) (now y) n) e

@@ -1,0 +1,15 @@
+-- `table::field::read_aircraft` meets its contract: it hands on what was read. Assumes nothing.
+use mathlib.Core.Path.{sym, ap, _∙_}
+use Rattle.table.specs.Field.{ofAircraft}
+use borrow.Author.Needs.{needs}
+use Rattle.table.proofs.field.read_aircraft.Statement.{statement}
+use Rattle.table.proofs.field.read_aircraft.Tie as tie
+
+pub read-aircraft-spec : {M : Type 1} → statement M
+read-aircraft-spec =
+    tie.close
+    (tie.spec
+    (λ c κs. search needs) (λ c. search needs) (λ c. search needs) (λ c. search needs)
+    (λ c. ap ofAircraft (sym (c .before .read2 .given .1) ∙ c .before .before .before .read .ensures))
+    (λ c. ap ofAircraft (sym (c .enum-told .given .1) ∙ c .before .before .read .ensures))
+    (λ c. ap ofAircraft (sym (c .enum-told2 .given .1) ∙ c .before .before .read .ensures)))

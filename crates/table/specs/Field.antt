@@ -1,0 +1,186 @@
+-- One field of document 01's table ("Fields"), of any kind: its reading, its text, and the values that some text gives; what
+-- an amendment's number asks for, and what may follow what. Assumes nothing.
+use Prim.Native.Nat.{ℕ}
+use Prim.Native.Char.{code}
+use mathlib.Core.Bool.{Bool, true, cond, not, _&&_, _||_}
+use mathlib.Core.List.{List}
+use lib.Bits.{bitAnd, bitOr}
+use lib.Dec.{eqb}
+use lib.ListN.{getD}
+use Rattle.text.specs.Bytes.{bytes}
+use Rattle.text.specs.Text.{textOf}
+use Rattle.text.specs.declared.Packed.{Packed}
+use Rattle.text.specs.declared.Packed.the-variants as word
+use Rattle.shapes.specs.Picture.{fits}
+use Rattle.rules.specs.Form.{isPosition, isRoute}
+use Rattle.rules.specs.Kind.{FILED-SPEED, FIX, TIME, LEVEL, AMENDMENT}
+use Rattle.fields.specs.Word.{wordOf, isWord}
+use Rattle.fields.specs.Ident.{identOf, tzIdentOf, identText, isIdentValue}
+use Rattle.fields.specs.Aircraft.{aircraftOf, aircraftText, isAircraftValue}
+use Rattle.fields.specs.declared.idents.Ident.{Ident}
+use Rattle.fields.specs.declared.idents.IdentRead.{IdentRead}
+use Rattle.fields.specs.declared.idents.IdentRead.the-variants as ident
+use Rattle.fields.specs.declared.aircraft.Aircraft.{Aircraft}
+use Rattle.fields.specs.declared.aircraft.AircraftRead.{AircraftRead}
+use Rattle.fields.specs.declared.aircraft.AircraftRead.the-variants as aircraft
+use Rattle.table.specs.declared.kinds.Value.{Value}
+use Rattle.table.specs.declared.kinds.FieldRead.{FieldRead}
+use Rattle.table.specs.declared.kinds.FieldRead.the-variants.{Read, Nothing, Number, Two}
+
+-- ---- the kinds that are no single text; the others are those of forms/specs/Kind
+
+abbrev pub IDENT : ℕ
+IDENT = code "I"
+
+abbrev pub TZ-IDENT : ℕ
+TZ-IDENT = code "J"
+
+abbrev pub AIRCRAFT : ℕ
+AIRCRAFT = code "Z"
+
+abbrev pub ROUTE : ℕ
+ROUTE = code "R"
+
+-- the time of FZ and UZ, which the E rule ties to the fix before it
+abbrev pub PLAN-TIME : ℕ
+PLAN-TIME = code "H"
+
+-- what the amendment's number before it asks for
+abbrev pub CONTENT : ℕ
+CONTENT = code "W"
+
+-- ---- amendments: "a number 02, 03, 05, 06, 07, 08, 09 or 10, and its content (ident, aircraft, filed speed, fix, time, level,
+-- level, route)"; "a set of eight marks, one per number"
+
+-- the mark of a number; 0 for what is none of the eight
+unfoldable pub markOf : List ℕ → ℕ
+markOf s =
+    cond (fits (bytes "02") s) 1
+    (cond (fits (bytes "03") s) 2
+    (cond (fits (bytes "05") s) 4
+    (cond (fits (bytes "06") s) 8
+    (cond (fits (bytes "07") s) 16
+    (cond (fits (bytes "08") s) 32
+    (cond (fits (bytes "09") s) 64
+    (cond (fits (bytes "10") s) 128 0)))))))
+
+-- the number of a mark
+unfoldable pub markText : ℕ → List ℕ
+markText m =
+    cond (eqb m 1) (bytes "02")
+    (cond (eqb m 2) (bytes "03")
+    (cond (eqb m 4) (bytes "05")
+    (cond (eqb m 8) (bytes "06")
+    (cond (eqb m 16) (bytes "07")
+    (cond (eqb m 32) (bytes "08")
+    (cond (eqb m 64) (bytes "09") (bytes "10")))))))
+
+unfoldable pub isMark : ℕ → Bool
+isMark m = eqb m 1 || eqb m 2 || eqb m 4 || eqb m 8 || eqb m 16 || eqb m 32 || eqb m 64 || eqb m 128
+
+-- the kind of its content
+unfoldable pub contentOf : ℕ → ℕ
+contentOf m =
+    cond (eqb m 1) IDENT
+    (cond (eqb m 2) AIRCRAFT
+    (cond (eqb m 4) FILED-SPEED
+    (cond (eqb m 8) FIX
+    (cond (eqb m 16) TIME
+    (cond (eqb m 32) LEVEL
+    (cond (eqb m 64) LEVEL
+    (cond (eqb m 128) ROUTE 0)))))))
+
+-- ---- what one field leaves for the next
+
+-- a number its mark; a fix whether it is a position
+unfoldable pub leftOf : ℕ → List ℕ → ℕ
+leftOf k s = cond (eqb k AMENDMENT) (markOf s) (cond (eqb k FIX && isPosition s) 1 0)
+
+-- the marks set after a field
+unfoldable pub marksOf : ℕ → ℕ → List ℕ → ℕ
+marksOf k m s = cond (eqb k AMENDMENT) (bitOr m (markOf s)) m
+
+-- a field of the kind k may follow what was left, p, and the marks m: "no number comes twice"; when the time of FZ and UZ has
+-- E, "the fix must be a position"
+unfoldable pub follows : ℕ → ℕ → ℕ → List ℕ → Bool
+follows k p m s = cond (eqb k AMENDMENT) (eqb (bitAnd m (markOf s)) 0) (cond (eqb k PLAN-TIME && eqb (getD s 0 0) (code "E")) (eqb p 1) true)
+
+-- the kind by which the field is read
+unfoldable pub plain : ℕ → ℕ → ℕ
+plain k p = cond (eqb k CONTENT) (contentOf p) (cond (eqb k PLAN-TIME) TIME k)
+
+-- ---- what is kept of a field
+
+abbrev pub valued : ℕ → ℕ → ℕ → Value
+valued a b c = record { a = a; b = b; c = c }
+
+abbrev pub identIn : Value → Ident
+identIn v = record { key = record { 0 = v .a }; number = record { 0 = v .b } }
+
+abbrev pub aircraftIn : Value → Aircraft
+aircraftIn v = record { prefix = v .a; model = v .b; letter = v .c }
+
+-- the parts after the first, and after the second, are none
+unfoldable pub isOne : Value → Bool
+isOne v = eqb (v .b) 0 && eqb (v .c) 0
+
+unfoldable pub isTwo : Value → Bool
+isTwo v = eqb (v .c) 0
+
+-- ---- reading
+
+abbrev pub ofIdent : IdentRead → FieldRead
+ofIdent (ident.Read i) = Read (valued (i .key .0) (i .number .0) 0)
+ofIdent ident.Nothing = Nothing
+
+abbrev pub ofAircraft : AircraftRead → FieldRead
+ofAircraft (aircraft.Read x) = Read (valued (x .prefix) (x .model) (x .letter))
+ofAircraft aircraft.Nothing = Nothing
+ofAircraft aircraft.Two = Two
+
+abbrev pub ofRoute : Bool → FieldRead
+ofRoute b = cond b (Read (valued 0 0 0)) Nothing
+
+abbrev pub ofWord : Packed → FieldRead
+ofWord (word.Text t) = Read (valued t 0 0)
+ofWord word.Nothing = Nothing
+
+-- a field of the kind k by itself
+unfoldable pub readKind : ℕ → List ℕ → FieldRead
+readKind k s =
+    cond (eqb k IDENT) (ofIdent (identOf s))
+    (cond (eqb k TZ-IDENT) (ofIdent (tzIdentOf s))
+    (cond (eqb k AIRCRAFT) (ofAircraft (aircraftOf s))
+    (cond (eqb k ROUTE) (ofRoute (isRoute s)) (ofWord (wordOf k s)))))
+
+unfoldable pub readMark : List ℕ → FieldRead
+readMark s = cond (eqb (markOf s) 0) Number (Read (valued (markOf s) 0 0))
+
+-- what a field that may not follow answers
+unfoldable pub barred : ℕ → FieldRead
+barred k = cond (eqb k AMENDMENT) Number Nothing
+
+-- a field after what the one before it left, p, and the marks m
+unfoldable pub readIn : ℕ → ℕ → ℕ → List ℕ → FieldRead
+readIn k p m s = cond (follows k p m s) (cond (eqb k AMENDMENT) (readMark s) (readKind (plain k p) s)) (barred k)
+
+-- ---- writing: r is the route, which stands beside the values
+
+-- the values that some text of the kind gives
+unfoldable pub isKindValue : ℕ → List ℕ → Value → Bool
+isKindValue k r v =
+    cond (eqb k IDENT) (isIdentValue (identIn v) && isTwo v)
+    (cond (eqb k TZ-IDENT) (isIdentValue (identIn v) && not (eqb (v .b) 0) && isTwo v)
+    (cond (eqb k AIRCRAFT) (isAircraftValue (aircraftIn v))
+    (cond (eqb k ROUTE) (isRoute r && eqb (v .a) 0 && isOne v) (isWord k (v .a) && isOne v))))
+
+unfoldable pub shownKind : ℕ → List ℕ → Value → List ℕ
+shownKind k r v =
+    cond (eqb k IDENT || eqb k TZ-IDENT) (identText (identIn v)) (cond (eqb k AIRCRAFT) (aircraftText (aircraftIn v)) (cond (eqb k ROUTE) r (textOf (v .a))))
+
+unfoldable pub isValue : ℕ → ℕ → List ℕ → Value → Bool
+isValue k p r v = cond (eqb k AMENDMENT) (isMark (v .a) && isOne v) (isKindValue (plain k p) r v)
+
+-- the text of a value
+unfoldable pub shown : ℕ → ℕ → List ℕ → Value → List ℕ
+shown k p r v = cond (eqb k AMENDMENT) (markText (v .a)) (shownKind (plain k p) r v)

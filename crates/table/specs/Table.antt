@@ -1,0 +1,92 @@
+-- THE TABLE of document 01, "type, fields in order": the fields of each type, how many they are, where a route is; and a body read by them.
+-- Assumes nothing.
+use Prim.Native.Char.{code}
+use Prim.Native.Nat.{ℕ, zero, suc, _+_, _*_, _%_, _-_}
+use mathlib.Core.Bool.{Bool, false, cond, not, _&&_, _||_}
+use mathlib.Core.List.{List, [], _∷_, _++_}
+use lib.Bits.{bitAnd}
+use lib.Count.{ones}
+use lib.Dec.{eqb, leb}
+use lib.ListN.{length, take, replicate}
+use Rattle.rules.specs.Kind.{FILED-SPEED, GROUND-SPEED, POINT, FIX, TIME, CLOCK, ARRIVAL, LEVEL, TRACK-LEVEL, POSITION, AMENDMENT}
+use Rattle.fields.specs.declared.heads.MessageType.{MessageType}
+use Rattle.fields.specs.declared.heads.MessageType.the-variants.{Af, Az, Dz, Fz, Rz, Tz, Uz, Rt, To, Hb}
+use Rattle.table.specs.declared.kinds.Value.{Value}
+use Rattle.table.specs.declared.walk.Answer.{Answer}
+use Rattle.table.specs.declared.walk.Answer.the-variants.{Refused}
+use Rattle.table.specs.declared.walk.Fault.the-variants.{Spacing}
+use Rattle.table.specs.Field.{IDENT, TZ-IDENT, AIRCRAFT, ROUTE, PLAN-TIME, CONTENT}
+use Rattle.table.specs.Spacing.{fieldsOf, fieldsIn}
+use Rattle.table.specs.Read.{answerOf, valuesOf, routeOf}
+
+-- "an amendment is two fields: a number .. and its content"
+abbrev pub amendments : ℕ → List ℕ
+amendments zero = []
+amendments (suc n) = AMENDMENT ∷ CONTENT ∷ amendments n
+
+-- the fields of each type in order; of an AF those with eight amendments
+abbrev pub tableOf : MessageType → List ℕ
+tableOf Az = IDENT ∷ POINT ∷ POINT ∷ ARRIVAL ∷ []
+tableOf Dz = IDENT ∷ AIRCRAFT ∷ POINT ∷ TIME ∷ POINT ∷ CLOCK ∷ []
+tableOf Rz = IDENT ∷ POINT ∷ POINT ∷ []
+tableOf Tz = TZ-IDENT ∷ GROUND-SPEED ∷ TRACK-LEVEL ∷ POSITION ∷ []
+tableOf Fz = IDENT ∷ AIRCRAFT ∷ FILED-SPEED ∷ FIX ∷ PLAN-TIME ∷ LEVEL ∷ ROUTE ∷ []
+tableOf Uz = IDENT ∷ AIRCRAFT ∷ FILED-SPEED ∷ FIX ∷ PLAN-TIME ∷ LEVEL ∷ ROUTE ∷ []
+tableOf Af = IDENT ∷ POINT ∷ POINT ∷ amendments 8
+tableOf Rt = []
+tableOf To = []
+tableOf Hb = []
+
+-- the kind k is among the kinds
+abbrev pub isAmong : ℕ → List ℕ → Bool
+isAmong k [] = false
+isAmong k (j ∷ ks) = eqb j k || isAmong k ks
+
+-- "AF: .. then 1 to 8 amendments"
+abbrev pub hasAmendments : MessageType → Bool
+hasAmendments t = isAmong AMENDMENT (tableOf t)
+
+-- how many fields: as many as the table has; with amendments and the marks m three and two for each of them, and "the count
+-- of marks set is the count of amendments"
+unfoldable pub countWith : MessageType → ℕ → ℕ
+countWith t m = cond (hasAmendments t) (3 + 2 * ones m) (length (tableOf t))
+
+-- wrong are: another count than the table's; "AF: even count of fields, under 5 or over 19"
+unfoldable pub isCount : MessageType → ℕ → Bool
+isCount t n = cond (hasAmendments t) (leb 5 n && leb n 19 && eqb (n % 2) 1) (eqb n (length (tableOf t)))
+
+-- the types whose body is fields; "RT, TO and HB bodies are kept whole"
+abbrev pub hasFields : MessageType → Bool
+hasFields t = not (eqb (length (tableOf t)) 0)
+
+-- a route is among the fields, or the content of an amendment; m is the set of marks, in which 128 stands for the number 10
+abbrev pub hasRouteWith : MessageType → ℕ → Bool
+hasRouteWith t m = isAmong ROUTE (tableOf t) || (hasAmendments t && not (eqb (bitAnd m 128) 0))
+
+-- ---- a body by the table
+
+-- nineteen letters: the table, and dots after it
+unfoldable pub dotted : MessageType → List ℕ
+dotted t = tableOf t ++ replicate (19 - length (tableOf t)) (code ".")
+
+-- the kinds of n fields
+unfoldable pub kindsOf : MessageType → ℕ → List ℕ
+kindsOf t n = take n (tableOf t)
+
+unfoldable pub countIn : List ℕ → ℕ
+countIn s = length (fieldsIn (fieldsOf s))
+
+-- a body read by its type's table
+unfoldable pub answerBy : MessageType → List ℕ → Answer
+answerBy t s = cond (isCount t (countIn s)) (answerOf (kindsOf t (countIn s)) s) (Refused Spacing)
+
+unfoldable pub valuesBy : MessageType → List ℕ → List Value
+valuesBy t s = cond (isCount t (countIn s)) (valuesOf (kindsOf t (countIn s)) s) []
+
+-- the route among its fields
+unfoldable pub routeBy : MessageType → List ℕ → List ℕ
+routeBy t s = routeOf (tableOf t) s
+
+-- its free text: "RT, TO and HB bodies are kept whole"; of the others the route
+abbrev pub freeIn : MessageType → List ℕ → List ℕ
+freeIn t s = cond (hasFields t) (routeBy t s) s

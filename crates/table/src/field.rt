@@ -1,0 +1,280 @@
+// One field read: of a kind by itself, and after the fields before it.
+use crate::kinds;
+use crate::kinds::AIRCRAFT;
+use crate::kinds::CONTENT;
+use crate::kinds::FieldRead;
+use crate::kinds::IDENT;
+use crate::kinds::PLAN_TIME;
+use crate::kinds::ROUTE;
+use crate::kinds::TZ_IDENT;
+use crate::kinds::Value;
+use fields::aircraft::Aircraft;
+use fields::aircraft::AircraftRead;
+use fields::flight::Key;
+use fields::flight::Number;
+use fields::idents::Ident;
+use fields::idents::IdentRead;
+use fields::plan::Time;
+use fields::plan::TimeRead;
+use fields::words;
+use text::Packed;
+use text::Written;
+use text::writing::put_bytes;
+ghost use mathlib.Core.Path.{_≡_};
+ghost use Rattle.rules.specs.Form.{isRoute};
+ghost use Rattle.fields.specs.Word.{wordOf, isWord};
+ghost use Rattle.fields.specs.Ident.{identOf, tzIdentOf, isIdentValue, identText};
+ghost use Rattle.fields.specs.Aircraft.{aircraftOf, isAircraftValue, aircraftText};
+ghost use Rattle.table.specs.Field.{PLAN-TIME, ofIdent, ofAircraft, ofRoute, ofWord, readKind, readIn, identIn, aircraftIn, isOne, isTwo, isMark, markText, isKindValue, shownKind, isValue, shown};
+ghost use Rattle.rules.specs.Kind.{AMENDMENT};
+ghost use mathlib.Core.Bool.{cond, _&&_};
+ghost use mathlib.Core.List.{[], _∷_};
+ghost use lib.Dec.{eqb};
+ghost use Rattle.text.specs.Text.{textOf, writtenNext, writtenBytes};
+
+fn read_ident(s: &[u8]) -> FieldRead
+    ensures { λ r. ⌜ r ≡ ofIdent (identOf (now (s .entry))) ⌝ }
+{
+    let IdentRead::Read(ident) = Ident::read(s) else {
+        return FieldRead::Nothing;
+    };
+    FieldRead::Read(Value {
+        a: ident.key.0,
+        b: ident.number.0,
+        c: 0,
+    })
+}
+
+fn read_tz_ident(s: &[u8]) -> FieldRead
+    ensures { λ r. ⌜ r ≡ ofIdent (tzIdentOf (now (s .entry))) ⌝ }
+{
+    let IdentRead::Read(ident) = Ident::read_tz(s) else {
+        return FieldRead::Nothing;
+    };
+    FieldRead::Read(Value {
+        a: ident.key.0,
+        b: ident.number.0,
+        c: 0,
+    })
+}
+
+fn read_aircraft(s: &[u8]) -> FieldRead
+    ensures { λ r. ⌜ r ≡ ofAircraft (aircraftOf (now (s .entry))) ⌝ }
+{
+    let read = Aircraft::read(s);
+    match read {
+        AircraftRead::Read(aircraft) => FieldRead::Read(Value {
+            a: aircraft.prefix,
+            b: aircraft.model,
+            c: aircraft.letter,
+        }),
+        AircraftRead::Nothing => FieldRead::Nothing,
+        AircraftRead::Two => FieldRead::Two,
+    }
+}
+
+// A route is not kept: it stays a part of the line.
+fn read_route(s: &[u8]) -> FieldRead
+    ensures { λ r. ⌜ r ≡ ofRoute (isRoute (now (s .entry))) ⌝ }
+{
+    if !rules::is_route(s) {
+        return FieldRead::Nothing;
+    }
+    FieldRead::Read(Value { a: 0, b: 0, c: 0 })
+}
+
+fn read_word(kind: u8, s: &[u8]) -> FieldRead
+    ensures { λ r. ⌜ r ≡ ofWord (wordOf kind (now (s .entry))) ⌝ }
+{
+    let Packed::Text(word) = words::read(kind, s) else {
+        return FieldRead::Nothing;
+    };
+    FieldRead::Read(Value {
+        a: word,
+        b: 0,
+        c: 0,
+    })
+}
+
+// A field of a kind by itself.
+pub(crate) fn read_kind(kind: u8, s: &[u8]) -> FieldRead
+    ensures { λ r. ⌜ r ≡ readKind kind (now (s .entry)) ⌝ }
+{
+    match kind {
+        IDENT => read_ident(s),
+        TZ_IDENT => read_tz_ident(s),
+        AIRCRAFT => read_aircraft(s),
+        ROUTE => read_route(s),
+        _ => read_word(kind, s),
+    }
+}
+
+// An amendment's number that is not among the marks.
+fn read_number(marks: u8, s: &[u8]) -> FieldRead
+    ensures { λ r. ⌜ r ≡ readIn AMENDMENT 0 marks (now (s .entry)) ⌝ }
+{
+    let mark = kinds::mark(s);
+    if mark == 0 {
+        return FieldRead::Number;
+    }
+    if marks & mark != 0 {
+        return FieldRead::Number;
+    }
+    FieldRead::Read(Value {
+        a: mark as u64,
+        b: 0,
+        c: 0,
+    })
+}
+
+// The time of FZ and UZ: its own form first, then the E rule.
+fn read_plan_time(left: u8, s: &[u8]) -> FieldRead
+    ensures { λ r. ⌜ r ≡ readIn PLAN-TIME left 0 (now (s .entry)) ⌝ }
+{
+    let TimeRead::Read(time) = Time::read(s) else {
+        return FieldRead::Nothing;
+    };
+    if !kinds::follows(PLAN_TIME, left, 0, s) {
+        return FieldRead::Nothing;
+    }
+    FieldRead::Read(Value {
+        a: time.0,
+        b: 0,
+        c: 0,
+    })
+}
+
+// A field after what the one before it left, and the marks set so far.
+pub(crate) fn read_field(kind: u8, left: u8, marks: u8, s: &[u8]) -> FieldRead
+    ensures { λ r. ⌜ r ≡ readIn kind left marks (now (s .entry)) ⌝ }
+{
+    match kind {
+        rules::AMENDMENT => read_number(marks, s),
+        PLAN_TIME => read_plan_time(left, s),
+        CONTENT => read_kind(kinds::content(left), s),
+        _ => read_kind(kind, s),
+    }
+}
+
+fn put_ident(v: Value, out: &mut [u8], at: usize) -> Written
+    ensures { λ r. ⌜ r ≡ writtenNext (isIdentValue (identIn v) && isTwo v) (identText (identIn v)) (now (out .entry)) at ⌝ }
+    ensures { λ _. ⌜ now (out .exit) ≡ writtenBytes (isIdentValue (identIn v) && isTwo v) (identText (identIn v)) (now (out .entry)) at ⌝ }
+{
+    if v.c != 0 {
+        return Written::NoText;
+    }
+    let ident = Ident {
+        key: Key(v.a),
+        number: Number(v.b),
+    };
+    ident.put(out, at)
+}
+
+fn put_aircraft(v: Value, out: &mut [u8], at: usize) -> Written
+    ensures { λ r. ⌜ r ≡ writtenNext (isAircraftValue (aircraftIn v)) (aircraftText (aircraftIn v)) (now (out .entry)) at ⌝ }
+    ensures { λ _. ⌜ now (out .exit) ≡ writtenBytes (isAircraftValue (aircraftIn v)) (aircraftText (aircraftIn v)) (now (out .entry)) at ⌝ }
+{
+    let aircraft = Aircraft {
+        prefix: v.a,
+        model: v.b,
+        letter: v.c,
+    };
+    aircraft.put(out, at)
+}
+
+// The route itself stands beside its value, which keeps nothing.
+fn put_route(v: Value, route: &[u8], out: &mut [u8], at: usize) -> Written
+    ensures { λ r. ⌜ r ≡ writtenNext (isRoute (now (route .entry)) && eqb (v .a) 0 && isOne v) (now (route .entry)) (now (out .entry)) at ⌝ }
+    ensures { λ _. ⌜ now (out .exit) ≡ writtenBytes (isRoute (now (route .entry)) && eqb (v .a) 0 && isOne v) (now (route .entry)) (now (out .entry)) at ⌝ }
+{
+    if !rules::is_route(route) {
+        return Written::NoText;
+    }
+    if v.a != 0 {
+        return Written::NoText;
+    }
+    if v.b != 0 {
+        return Written::NoText;
+    }
+    if v.c != 0 {
+        return Written::NoText;
+    }
+    put_bytes(route, out, at)
+}
+
+fn put_word(kind: u8, v: Value, out: &mut [u8], at: usize) -> Written
+    ensures { λ r. ⌜ r ≡ writtenNext (isWord kind (v .a) && isOne v) (textOf (v .a)) (now (out .entry)) at ⌝ }
+    ensures { λ _. ⌜ now (out .exit) ≡ writtenBytes (isWord kind (v .a) && isOne v) (textOf (v .a)) (now (out .entry)) at ⌝ }
+{
+    if v.b != 0 {
+        return Written::NoText;
+    }
+    if v.c != 0 {
+        return Written::NoText;
+    }
+    words::put(kind, v.a, out, at)
+}
+
+// A value of a kind by itself.
+fn put_kind(kind: u8, v: Value, route: &[u8], out: &mut [u8], at: usize) -> Written
+    ensures { λ r. ⌜ r ≡ writtenNext (isKindValue kind (now (route .entry)) v) (shownKind kind (now (route .entry)) v) (now (out .entry)) at ⌝ }
+    ensures { λ _. ⌜ now (out .exit) ≡ writtenBytes (isKindValue kind (now (route .entry)) v) (shownKind kind (now (route .entry)) v) (now (out .entry)) at ⌝ }
+{
+    match kind {
+        IDENT => put_ident(v, out, at),
+        TZ_IDENT => {
+            if v.b == 0 {
+                return Written::NoText;
+            }
+            put_ident(v, out, at)
+        }
+        AIRCRAFT => put_aircraft(v, out, at),
+        ROUTE => put_route(v, route, out, at),
+        _ => put_word(kind, v, out, at),
+    }
+}
+
+// The number of a mark, or zeros for what is no mark.
+fn number(mark: u64) -> [u8; 2]
+    ensures { λ r. ⌜ r ≡ cond (isMark mark) (markText mark) (0 ∷ 0 ∷ []) ⌝ }
+{
+    match mark {
+        1 => [b'0', b'2'],
+        2 => [b'0', b'3'],
+        4 => [b'0', b'5'],
+        8 => [b'0', b'6'],
+        16 => [b'0', b'7'],
+        32 => [b'0', b'8'],
+        64 => [b'0', b'9'],
+        128 => [b'1', b'0'],
+        _ => [0, 0],
+    }
+}
+
+fn put_mark(mark: u64, out: &mut [u8], at: usize) -> Written
+    ensures { λ r. ⌜ r ≡ writtenNext (isMark mark) (markText mark) (now (out .entry)) at ⌝ }
+    ensures { λ _. ⌜ now (out .exit) ≡ writtenBytes (isMark mark) (markText mark) (now (out .entry)) at ⌝ }
+{
+    let digits = number(mark);
+    if digits[0] == 0 {
+        return Written::NoText;
+    }
+    put_bytes(&digits, out, at)
+}
+
+// A value after what the field before it left.
+pub fn put_field(kind: u8, left: u8, v: Value, route: &[u8], out: &mut [u8], at: usize) -> Written
+    ensures { λ r. ⌜ r ≡ writtenNext (isValue kind left (now (route .entry)) v) (shown kind left (now (route .entry)) v) (now (out .entry)) at ⌝ }
+    ensures { λ _. ⌜ now (out .exit) ≡ writtenBytes (isValue kind left (now (route .entry)) v) (shown kind left (now (route .entry)) v) (now (out .entry)) at ⌝ }
+{
+    if kind != rules::AMENDMENT {
+        return put_kind(kinds::plain(kind, left), v, route, out, at);
+    }
+    if v.b != 0 {
+        return Written::NoText;
+    }
+    if v.c != 0 {
+        return Written::NoText;
+    }
+    put_mark(v.a, out, at)
+}

@@ -1,0 +1,137 @@
+// The kinds of fields of document 01's table: what an amendment's number asks for, and what one field leaves for the next.
+use rules::is_position;
+ghost use mathlib.Core.Path.{_≡_};
+ghost use Rattle.table.specs.Field.{markOf, contentOf, plain as plainly, leftOf, marksOf, follows as following};
+
+// The kinds that are no single text; the others are those of `forms`.
+pub const IDENT: u8 = b'I';
+
+pub const TZ_IDENT: u8 = b'J';
+
+pub const AIRCRAFT: u8 = b'Z';
+
+pub const ROUTE: u8 = b'R';
+
+// The time of FZ and UZ, which the E rule ties to the fix before it.
+pub const PLAN_TIME: u8 = b'H';
+
+// What the amendment's number before it asks for.
+pub const CONTENT: u8 = b'W';
+
+// What is kept of a field: its word; an ident's key and number; an aircraft's prefix, type and letter; of a route nothing.
+// Parts that a field has not are 0.
+pub struct Value {
+    pub a: u64,
+    pub b: u64,
+    pub c: u64,
+}
+
+// A field that is read; one without a reading (answer 9); a number that is none of the eight or came before (10); an
+// aircraft with two different readings (18).
+pub enum FieldRead {
+    Read(Value),
+    Nothing,
+    Number,
+    Two,
+}
+
+// The mark of an amendment's number, one of eight bits, or 0 for what is none of the eight.
+pub(crate) fn mark(s: &[u8]) -> u8
+    ensures { λ r. ⌜ r ≡ markOf (now (s .entry)) ⌝ }
+{
+    if s.len() != 2 {
+        return 0;
+    }
+    if s[0] == b'1' {
+        if s[1] == b'0' {
+            return 128;
+        }
+        return 0;
+    }
+    if s[0] != b'0' {
+        return 0;
+    }
+    let last = s[1];
+    match last {
+        b'2' => 1,
+        b'3' => 2,
+        b'5' => 4,
+        b'6' => 8,
+        b'7' => 16,
+        b'8' => 32,
+        b'9' => 64,
+        _ => 0,
+    }
+}
+
+// The kind of content that the number with this mark asks for.
+pub(crate) fn content(mark: u8) -> u8
+    ensures { λ r. ⌜ r ≡ contentOf mark ⌝ }
+{
+    match mark {
+        1 => IDENT,
+        2 => AIRCRAFT,
+        4 => rules::FILED_SPEED,
+        8 => rules::FIX,
+        16 => rules::TIME,
+        32 => rules::LEVEL,
+        64 => rules::LEVEL,
+        128 => ROUTE,
+        _ => 0,
+    }
+}
+
+// The kind by which a field is read, after what the field before it left.
+pub fn plain(kind: u8, left: u8) -> u8
+    ensures { λ r. ⌜ r ≡ plainly kind left ⌝ }
+{
+    match kind {
+        CONTENT => content(left),
+        PLAN_TIME => rules::TIME,
+        _ => kind,
+    }
+}
+
+// What a field leaves for the next one: a number its mark, a fix whether it is a position.
+pub fn left(kind: u8, s: &[u8]) -> u8
+    ensures { λ r. ⌜ r ≡ leftOf kind (now (s .entry)) ⌝ }
+{
+    if kind == rules::AMENDMENT {
+        return mark(s);
+    }
+    if kind == rules::FIX {
+        if is_position(s) {
+            return 1;
+        }
+    }
+    0
+}
+
+// The marks set after a field.
+pub fn marks_after(kind: u8, marks: u8, s: &[u8]) -> u8
+    ensures { λ r. ⌜ r ≡ marksOf kind marks (now (s .entry)) ⌝ }
+{
+    if kind == rules::AMENDMENT {
+        return marks | mark(s);
+    }
+    marks
+}
+
+// Whether a field may follow: no number comes twice, and a time with E follows a fix that is a position.
+pub fn follows(kind: u8, left: u8, marks: u8, s: &[u8]) -> bool
+    ensures { λ r. ⌜ r ≡ following kind left marks (now (s .entry)) ⌝ }
+{
+    if kind == rules::AMENDMENT {
+        return marks & mark(s) == 0;
+    }
+    if kind != PLAN_TIME {
+        return true;
+    }
+    if s.len() == 0 {
+        return true;
+    }
+    if s[0] != b'E' {
+        return true;
+    }
+    left == 1
+}
