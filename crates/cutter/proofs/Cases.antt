@@ -12,9 +12,10 @@ use Rattle.text.specs.Text.{hasRoom, spliced}
 use Rattle.text.proofs.Logic.{true-false}
 use Rattle.shapes.specs.Cut.{upTo, has, before}
 use Rattle.shapes.proofs.Laws.{upTo-le}
-use Rattle.cutter.specs.Feed.{lineFeed, most, Line, Whole, TooLong}
+use Rattle.rules.specs.Frame.{lineFeed, longestLine}
+use Rattle.cutter.specs.Feed.{Line, Whole, TooLong}
 use Rattle.cutter.specs.State.{State, Bytes, Mark, stateIn, isAllowed, stateOf, more, moreIn, heldMore}
-use Rattle.cutter.specs.Calls.{start, atStart, wholeIn, withinOf, closeOf, heldClosed, takenOf, cutOf, heldCut, endOf, lineIn, numberOf, endNumber}
+use Rattle.cutter.specs.Calls.{start, atStart, wholeIn, withinOf, closeOf, heldClosed, takenOf, cutOf, heldCut, endOf, lineIn, cutNumber, endNumber}
 use Rattle.cutter.specs.Cases.{toldBy, CutCase, NotAllowed, NoLineFeed, LineEnded, OverlongEnded, CutIs, EndCase, EndIs, EndNotAllowed, AtLineStart, InsideLine}
 use Rattle.cutter.specs.declared.Begun.{Begun}
 use Rattle.cutter.specs.declared.Begun.the-variants.{Held, Overlong}
@@ -46,27 +47,27 @@ inside held (Held n) a q e =
 
 module _ (held : List ℕ) (begun : Begun) (part : List ℕ) (a : isAllowed held begun ≡ true) (f : has lineFeed part ≡ true) where
   abbrev Ended : CutAnswer → List ℕ → Type 0
-  Ended r held′ = CutCase held begun part (numberOf r) (upTo lineFeed part + 1) (toldBy r (lineIn r held′ part)) (Bytes [])
+  Ended r held′ = CutCase held begun part (cutNumber r) (upTo lineFeed part + 1) (toldBy r (lineIn r held′ part)) (Bytes [])
 
   -- in the buffer
   ended-whole : (r : Begun) (held′ : List ℕ) → stateIn held′ r ≡ more (stateIn held begun) (before lineFeed part) → Ended (wholeIn r) held′
-  unfolding numberOf toldBy lineIn stateIn
+  unfolding cutNumber toldBy lineIn stateIn
   ended-whole (Held n) held′ e = LineEnded a f (take n held′) (sym e)
   ended-whole Overlong held′ e = OverlongEnded a f (sym e)
 
   -- whole in the part
   ended-within : begun ≡ start → Ended (withinOf held (before lineFeed part)) held
-  unfolding numberOf toldBy lineIn
+  unfolding cutNumber toldBy lineIn
   ended-within s = go (leb (length (before lineFeed part)) (length held)) refl
     where
       go : (b : Bool) → leb (length (before lineFeed part)) (length held) ≡ b → Ended (withinOf held (before lineFeed part)) held
       go true q =
           let l = leb-true (length (before lineFeed part)) (length held) q in
           let z : Bytes (before lineFeed part) ≡ Bytes (take (length (before lineFeed part)) part) = ap Bytes (sym (take-before part)) in
-          rw q (LineEnded a f (take (length (before lineFeed part)) part) (from-start held begun (before lineFeed part) s ∙ rw (le-leb (length (before lineFeed part)) most (omega (arith, l, allowed-size held begun a))) z))
+          rw q (LineEnded a f (take (length (before lineFeed part)) part) (from-start held begun (before lineFeed part) s ∙ rw (le-leb (length (before lineFeed part)) longestLine (omega (arith, l, allowed-size held begun a))) z))
       go false q =
           let l = leb-false (length (before lineFeed part)) (length held) q in
-          rw q (OverlongEnded a f (from-start held begun (before lineFeed part) s ∙ rw (lt-leb (length (before lineFeed part)) most (omega (arith, l, allowed-size held begun a)))))
+          rw q (OverlongEnded a f (from-start held begun (before lineFeed part) s ∙ rw (lt-leb (length (before lineFeed part)) longestLine (omega (arith, l, allowed-size held begun a)))))
 
   pub ended-case : Ended (closeOf held begun (before lineFeed part)) (heldClosed held begun (before lineFeed part))
   unfolding closeOf heldClosed
@@ -79,7 +80,7 @@ module _ (held : List ℕ) (begun : Begun) (part : List ℕ) (a : isAllowed held
 -- ---- THE CASE OF `cut`
 
 pub cut-case : (held : List ℕ) (begun : Begun) (part : List ℕ) → CutIs held begun part (cutOf held begun part) (heldCut held begun part)
-unfolding cutOf takenOf heldCut numberOf toldBy stateIn
+unfolding cutOf takenOf heldCut cutNumber toldBy stateIn
 cut-case held begun part = go (isAllowed held begun) refl (has lineFeed part) refl
   where
     go : (b : Bool) → isAllowed held begun ≡ b → (t : Bool) → has lineFeed part ≡ t → CutIs held begun part (cutOf held begun part) (heldCut held begun part)
@@ -157,7 +158,7 @@ cut-13 (NoLineFeed p q) e = absurd (omega arith)
 cut-13 (LineEnded p q l z) e = absurd (omega arith)
 cut-13 (OverlongEnded p q z) e = absurd (omega arith)
 
-pub cut-back : (held : List ℕ) (begun : Begun) (part : List ℕ) → numberOf (cutOf held begun part .answer) ≡ 13 → (cutOf held begun part .begun ≡ begun) × (cutOf held begun part .used ≡ 0)
+pub cut-back : (held : List ℕ) (begun : Begun) (part : List ℕ) → cutNumber (cutOf held begun part .answer) ≡ 13 → (cutOf held begun part .begun ≡ begun) × (cutOf held begun part .used ≡ 0)
 unfolding cutOf
 cut-back held begun part e = rw (cut-13 (cut-case held begun part) e) (refl, refl)
 
@@ -172,8 +173,8 @@ end-back held begun e = rw (end-13 (end-case held begun) e)
 
 -- ---- NOTHING IS WRITTEN but at 0
 
-whole-zero : (n : ℕ) → numberOf (wholeIn (Held n)) ≡ 0
-unfolding numberOf
+whole-zero : (n : ℕ) → cutNumber (wholeIn (Held n)) ≡ 0
+unfolding cutNumber
 whole-zero n = refl
 
 more-nothing : (held : List ℕ) (begun : Begun) (s : List ℕ) → moreIn held begun s ≡ Overlong → heldMore held begun s ≡ held
@@ -185,7 +186,7 @@ more-nothing held (Held n) s e = go (hasRoom s held n) refl
     go true q = let z : Held (n + length s) ≡ Overlong = rw q at e in cc
     go false q = rw q
 
-close-nothing : (held : List ℕ) (begun : Begun) (s : List ℕ) → (numberOf (closeOf held begun s) ≡ 0 → ⊥) → heldClosed held begun s ≡ held
+close-nothing : (held : List ℕ) (begun : Begun) (s : List ℕ) → (cutNumber (closeOf held begun s) ≡ 0 → ⊥) → heldClosed held begun s ≡ held
 unfolding closeOf heldClosed
 close-nothing held begun s h = go (atStart begun) refl (moreIn held begun s) refl
   where
@@ -194,8 +195,8 @@ close-nothing held begun s h = go (atStart begun) refl (moreIn held begun s) ref
     go false q (Held n) e = absurd (h (rw (q, e) (whole-zero n)))
     go false q Overlong e = rw q (more-nothing held begun s e)
 
-pub cut-nothing : (held : List ℕ) (begun : Begun) (part : List ℕ) → (numberOf (cutOf held begun part .answer) ≡ 0 → ⊥) → heldCut held begun part ≡ held
-unfolding cutOf takenOf heldCut numberOf
+pub cut-nothing : (held : List ℕ) (begun : Begun) (part : List ℕ) → (cutNumber (cutOf held begun part .answer) ≡ 0 → ⊥) → heldCut held begun part ≡ held
+unfolding cutOf takenOf heldCut cutNumber
 cut-nothing held begun part h = go (isAllowed held begun) refl (has lineFeed part) refl
   where
     go : (b : Bool) → isAllowed held begun ≡ b → (t : Bool) → has lineFeed part ≡ t → heldCut held begun part ≡ held

@@ -1,4 +1,4 @@
--- The lines of a feed: the only ones that have that feed, and the same from whatever state its first bytes are left in. Assumes nothing.
+-- The lines of a feed: the only ones that have that feed, and the same from whatever state its first bytes are stateAfter in. Assumes nothing.
 use mathlib.Core.Path.{_≡_, refl, sym, ap, _∙_}
 use mathlib.Core.Bool.{Bool, true, false, cond, not}
 use mathlib.Core.List.{List, [], _∷_, _++_, map, append-nil}
@@ -11,9 +11,10 @@ use Rattle.shapes.specs.Cut.{upTo, has}
 use Rattle.shapes.specs.Pieces.{pieces, eachAfter, noneHas}
 use Rattle.shapes.proofs.Joins.{no-cut}
 use Rattle.shapes.proofs.Pieces.{piecesAfter, pieces-turn, pieces-text, pieces-none, prefixed, pieces-free, pieces-cut, pieces-one}
-use Rattle.cutter.specs.Feed.{lineFeed, most, feedOf, allButLast, last, textsOf, restOf, Whole, TooLong, lineOf, linesOf}
+use Rattle.rules.specs.Frame.{lineFeed, longestLine}
+use Rattle.cutter.specs.Feed.{feedOf, allButLast, last, textsOf, restOf, Whole, TooLong, lineOf, linesOf}
 use Rattle.cutter.specs.State.{State, Bytes, stateOf, more}
-use Rattle.cutter.specs.Told.{ended, told, left}
+use Rattle.cutter.specs.Told.{ended, told, stateAfter}
 use Rattle.cutter.proofs.States.{more-more}
 
 -- ---- the lines and the rest have that feed
@@ -64,32 +65,32 @@ pub feed-only : (ls : List (List ℕ)) (rest : List ℕ) → noneHas lineFeed ls
 unfolding textsOf restOf
 feed-only ls rest e h = let r = split-last ls rest in rw (only-pieces ls rest e h) (r .0, r .1)
 
--- ---- the lines that come from a state, and the state that is left
+-- ---- the lines that come from a state, and the state that is stateAfter
 
 -- after bytes with no line feed, the same from what they make of the state
 prefix-same : (h : State) (s q : List ℕ) (ps : List (List ℕ))
-    → (told h (prefixed s (q ∷ ps)) ≡ told (more h s) (q ∷ ps)) × (left h (prefixed s (q ∷ ps)) ≡ left (more h s) (q ∷ ps))
-unfolding told left
+    → (told h (prefixed s (q ∷ ps)) ≡ told (more h s) (q ∷ ps)) × (stateAfter h (prefixed s (q ∷ ps)) ≡ stateAfter (more h s) (q ∷ ps))
+unfolding told stateAfter
 prefix-same h s q [] = (refl, sym (more-more h s q))
 prefix-same h s q (p ∷ ps) = (rw (more-more h s q), refl)
 
 module _ (h : State) (s t : List ℕ) (none : has lineFeed s ≡ false) where
-  pub free-same : (told h (pieces lineFeed (s ++ t)) ≡ told (more h s) (pieces lineFeed t)) × (left h (pieces lineFeed (s ++ t)) ≡ left (more h s) (pieces lineFeed t))
+  pub free-same : (told h (pieces lineFeed (s ++ t)) ≡ told (more h s) (pieces lineFeed t)) × (stateAfter h (pieces lineFeed (s ++ t)) ≡ stateAfter (more h s) (pieces lineFeed t))
   free-same =
       rw (pieces-free lineFeed s t (no-cut lineFeed s none), pieces-turn lineFeed t)
       (prefix-same h s (take (upTo lineFeed t) t) (piecesAfter lineFeed (drop (upTo lineFeed t) t)))
 
   -- at a line feed a line is told, and the rest is told from a line's start
-  pub cut-same : (told h (pieces lineFeed (s ++ lineFeed ∷ t)) ≡ ended (more h s) ∷ told (Bytes []) (pieces lineFeed t)) × (left h (pieces lineFeed (s ++ lineFeed ∷ t)) ≡ left (Bytes []) (pieces lineFeed t))
-  unfolding told left
+  pub cut-same : (told h (pieces lineFeed (s ++ lineFeed ∷ t)) ≡ ended (more h s) ∷ told (Bytes []) (pieces lineFeed t)) × (stateAfter h (pieces lineFeed (s ++ lineFeed ∷ t)) ≡ stateAfter (Bytes []) (pieces lineFeed t))
+  unfolding told stateAfter
   cut-same = rw (pieces-cut lineFeed s t (no-cut lineFeed s none), pieces-turn lineFeed t) (refl, refl)
 
 -- from a line's start they are the lines of the feed, and the unended rest
 ended-line : (p : List ℕ) → ended (more (Bytes []) p) ≡ lineOf p
 unfolding more lineOf
-ended-line p = go (leb (length p) most) refl
+ended-line p = go (leb (length p) longestLine) refl
   where
-    go : (b : Bool) → leb (length p) most ≡ b → ended (stateOf p) ≡ cond (leb (length p) most) (Whole p) TooLong
+    go : (b : Bool) → leb (length p) longestLine ≡ b → ended (stateOf p) ≡ cond (leb (length p) longestLine) (Whole p) TooLong
     go true q = rw q
     go false q = rw q
 
@@ -103,13 +104,13 @@ pub start-lines : (feed : List ℕ) → told (Bytes []) (pieces lineFeed feed) �
 unfolding linesOf textsOf
 start-lines feed = told-lines (pieces lineFeed feed)
 
-left-rest : (ps : List (List ℕ)) → left (Bytes []) ps ≡ stateOf (last ps)
-unfolding left last more
+left-rest : (ps : List (List ℕ)) → stateAfter (Bytes []) ps ≡ stateOf (last ps)
+unfolding stateAfter last more
 left-rest [] = refl
 left-rest (p ∷ []) = refl
 left-rest (p ∷ (q ∷ ps)) = left-rest (q ∷ ps)
 
-pub start-rest : (feed : List ℕ) → left (Bytes []) (pieces lineFeed feed) ≡ stateOf (restOf feed)
+pub start-rest : (feed : List ℕ) → stateAfter (Bytes []) (pieces lineFeed feed) ≡ stateOf (restOf feed)
 unfolding restOf
 start-rest feed = left-rest (pieces lineFeed feed)
 
@@ -122,11 +123,11 @@ no-feed x q = rw q
 -- what is said of two texts from a state
 abbrev Then : State → List ℕ → List ℕ → Type 0
 Then h a b =
-    (told h (pieces lineFeed (a ++ b)) ≡ told h (pieces lineFeed a) ++ told (left h (pieces lineFeed a)) (pieces lineFeed b))
-    × (left h (pieces lineFeed (a ++ b)) ≡ left (left h (pieces lineFeed a)) (pieces lineFeed b))
+    (told h (pieces lineFeed (a ++ b)) ≡ told h (pieces lineFeed a) ++ told (stateAfter h (pieces lineFeed a)) (pieces lineFeed b))
+    × (stateAfter h (pieces lineFeed (a ++ b)) ≡ stateAfter (stateAfter h (pieces lineFeed a)) (pieces lineFeed b))
 
 pub feed-then : (h : State) (a b : List ℕ) → Then h a b
-unfolding told left pieces has upTo
+unfolding told stateAfter pieces has upTo
 feed-then h [] b = free-same h [] b refl
 feed-then h (x ∷ a) b = go (eqb x lineFeed) refl (feed-then (Bytes []) a b) (feed-then (more h (x ∷ [])) a b)
   where

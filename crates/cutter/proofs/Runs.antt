@@ -11,13 +11,14 @@ use Rattle.text.proofs.Logic.{true-false}
 use Rattle.shapes.specs.Cut.{upTo, has, before, after}
 use Rattle.shapes.specs.Pieces.{pieces}
 use Rattle.shapes.proofs.Joins.{cut-whole, whole-has, before-none, no-cut}
-use Rattle.cutter.specs.Feed.{lineFeed, most, Line, Whole, TooLong}
+use Rattle.rules.specs.Frame.{lineFeed, longestLine}
+use Rattle.cutter.specs.Feed.{Line, Whole, TooLong}
 use Rattle.cutter.specs.State.{State, Bytes, Mark, stateIn, isAllowed, stateOf, more}
 use Rattle.cutter.specs.Calls.{atStart, heldClosed, takenOf, cutOf, heldCut, endOf, lineIn}
 use Rattle.cutter.specs.Cases.{toldBy, CutCase, NotAllowed, NoLineFeed, LineEnded, OverlongEnded, CutIs, EndCase, EndNotAllowed, AtLineStart, InsideLine}
 use Rattle.cutter.specs.Run.{concat, atEnd, Fed, done, used, called}
 use Rattle.cutter.specs.declared.Begun.{Begun}
-use Rattle.cutter.specs.Told.{ended, told, left}
+use Rattle.cutter.specs.Told.{ended, told, stateAfter}
 use Rattle.cutter.proofs.States.{allowed-size, start-allowed, grown, more-none}
 use Rattle.cutter.proofs.Cases.{cut-case}
 use Rattle.cutter.proofs.Feeds.{free-same, cut-same}
@@ -46,10 +47,10 @@ end-still held begun a = rw a (start-allowed held (allowed-size held begun a))
 
 -- ---- the calls, and the lines of the whole
 
--- what the calls told from a state, and the state that they left
+-- what the calls told from a state, and the state that they stateAfter
 pub record Same (held : List ℕ) (begun : Begun) (feed : List ℕ) (ls : List Line) (held′ : List ℕ) (begun′ : Begun) : Type 0 where
   pub lines : ls ≡ told (stateIn held begun) (pieces lineFeed feed)
-  pub state : stateIn held′ begun′ ≡ left (stateIn held begun) (pieces lineFeed feed)
+  pub state : stateIn held′ begun′ ≡ stateAfter (stateIn held begun) (pieces lineFeed feed)
   pub still : isAllowed held′ begun′ ≡ true
 
 -- one call, and then the rest of its part and the other parts
@@ -71,7 +72,7 @@ module _ (held : List ℕ) (begun : Begun) (part feed held₁ : List ℕ) (begun
       let f = cut-same (stateIn held begun) b (t ++ feed) (whole-has lineFeed b (before-none lineFeed part)) in
       let w : part ++ feed ≡ b ++ lineFeed ∷ (t ++ feed) = ap (λ (p : List ℕ). p ++ feed) (sym (cut-whole lineFeed part q)) ∙ append-assoc b (lineFeed ∷ t) feed in
       let m : ls ≡ told (Bytes []) (pieces lineFeed (t ++ feed)) = rw e at (s .lines) in
-      let n : stateIn held′ begun′ ≡ left (Bytes []) (pieces lineFeed (t ++ feed)) = rw e at (s .state) in
+      let n : stateIn held′ begun′ ≡ stateAfter (Bytes []) (pieces lineFeed (t ++ feed)) = rw e at (s .state) in
       record { lines = rw (w, f .0, z, ← m); state = rw (w, f .1) n; still = s .still }
 
   step : {n u : ℕ} {ts : List Line} {h : State} → CutCase held begun part n u ts h → isAllowed held begun ≡ true → stateIn held₁ begun₁ ≡ h
@@ -83,7 +84,7 @@ module _ (held : List ℕ) (begun : Begun) (part feed held₁ : List ℕ) (begun
 
 pub run : {held : List ℕ} {begun : Begun} {parts : List (List ℕ)} {ls : List Line} {held′ : List ℕ} {begun′ : Begun}
     → Fed held begun parts ls held′ begun′ → isAllowed held begun ≡ true → Same held begun (concat parts) ls held′ begun′
-unfolding concat told left pieces
+unfolding concat told stateAfter pieces
 run (done {held = held} {begun = begun}) a = record { lines = refl; state = sym (more-none held begun a); still = a }
 run (used f) a = run f a
 run (called {held = held} {begun = begun} {part = part} {parts = parts} {r = r} {held₁ = held₁} {ls = ls} {held′ = held′} {begun′ = begun′} c l f) a =
@@ -94,9 +95,9 @@ run (called {held = held} {begun = begun} {part = part} {parts = parts} {r = r} 
 -- ---- at the end
 
 rest-none : (s : List ℕ) → stateOf s ≡ Bytes [] → s ≡ []
-rest-none s e = go (leb (length s) most) refl
+rest-none s e = go (leb (length s) longestLine) refl
   where
-    go : (b : Bool) → leb (length s) most ≡ b → s ≡ []
+    go : (b : Bool) → leb (length s) longestLine ≡ b → s ≡ []
     go true q = let z : Bytes s ≡ Bytes [] = rw q at e in cc
     go false q = let z : Mark ≡ Bytes [] = rw q at e in cc
 

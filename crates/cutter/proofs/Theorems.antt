@@ -7,9 +7,10 @@ use mathlib.Core.List.{List}
 use Prim.Native.Nat.{ℕ, _≤_, _<_}
 use lib.ListN.{length}
 use denote.Ref.{now}
-use Rattle.cutter.specs.Feed.{most, restOf, Line, linesOf}
+use Rattle.rules.specs.Frame.{longestLine}
+use Rattle.cutter.specs.Feed.{restOf, Line, linesOf}
 use Rattle.cutter.specs.State.{stateIn, isAllowed}
-use Rattle.cutter.specs.Calls.{start, numberOf, endNumber}
+use Rattle.cutter.specs.Calls.{start, cutNumber, endNumber}
 use Rattle.cutter.specs.Cases.{CutIs, EndIs}
 use Rattle.cutter.specs.Run.{concat, atEnd, Cuts, Hands, Ends, Fed}
 use Rattle.cutter.specs.declared.Begun.{Begun}
@@ -51,10 +52,10 @@ end-leaves-allowed κs a r s p h = rw (p .0) (end-still (now (a .0)) (a .1 .0) h
 
 -- ---- A REFUSED CALL HANDS THE STATE BACK EQUAL, and uses no byte; nothing is written in the buffer but at 0
 
-pub cut-refused : (κs : _) (a : _) (r : _) (s : _) → cut.Post κs a r s → numberOf (r .answer) ≡ 13 → (r .begun ≡ a .1 .0) × (r .used ≡ 0)
+pub cut-refused : (κs : _) (a : _) (r : _) (s : _) → cut.Post κs a r s → cutNumber (r .answer) ≡ 13 → (r .begun ≡ a .1 .0) × (r .used ≡ 0)
 cut-refused κs a r s p h = rw (p .0) (cut-back (now (a .0)) (a .1 .0) (now (a .1 .1 .0)) (rw (← (p .0)) h))
 
-pub cut-writes : (κs : _) (a : _) (r : _) (s : _) → cut.Post κs a r s → (numberOf (r .answer) ≡ 0 → ⊥) → now (s .0) ≡ now (a .0)
+pub cut-writes : (κs : _) (a : _) (r : _) (s : _) → cut.Post κs a r s → (cutNumber (r .answer) ≡ 0 → ⊥) → now (s .0) ≡ now (a .0)
 cut-writes κs a r s p h = p .1 .0 ∙ cut-nothing (now (a .0)) (a .1 .0) (now (a .1 .1 .0)) (rw (← (p .0)) h)
 
 pub end-refused : (κs : _) (a : _) (r : _) (s : _) → end.Post κs a r s → endNumber (r .answer) ≡ 13 → r .begun ≡ a .1 .0
@@ -71,7 +72,7 @@ cut-goes-on κs a r s p h k = rw (p .0) (cut-used (now (a .0)) (a .1 .0) (now (a
 -- whatever the parts, and whatever stood in the buffer: calling `cut` until each part is used tells the lines of the whole, in order,
 -- and `end` then answers by the unended rest
 pub whatever-the-parts : (parts : List (List ℕ)) (ls : List Line) (held held′ : List ℕ) (begun′ : Begun) (e : AfterEnd)
-    → length held ≡ most → Fed held start parts ls held′ begun′ → Ends held′ begun′ e
+    → length held ≡ longestLine → Fed held start parts ls held′ begun′ → Ends held′ begun′ e
     → (ls ≡ linesOf (concat parts)) × (endNumber (e .answer) ≡ atEnd (restOf (concat parts)))
 unfolding stateIn
 whatever-the-parts parts ls held held′ begun′ e z f q =
@@ -80,8 +81,8 @@ whatever-the-parts parts ls held held′ begun′ e z f q =
 
 -- so two ways of cutting one feed tell the same
 pub cut-anywhere : (parts parts′ : List (List ℕ)) (ls ls′ : List Line) (held held₁ held′ held′₁ : List ℕ) (begun₁ begun′₁ : Begun) (e e′ : AfterEnd)
-    → concat parts ≡ concat parts′ → length held ≡ most → Fed held start parts ls held₁ begun₁ → Ends held₁ begun₁ e
-    → length held′ ≡ most → Fed held′ start parts′ ls′ held′₁ begun′₁ → Ends held′₁ begun′₁ e′
+    → concat parts ≡ concat parts′ → length held ≡ longestLine → Fed held start parts ls held₁ begun₁ → Ends held₁ begun₁ e
+    → length held′ ≡ longestLine → Fed held′ start parts′ ls′ held′₁ begun′₁ → Ends held′₁ begun′₁ e′
     → (ls ≡ ls′) × (endNumber (e .answer) ≡ endNumber (e′ .answer))
 cut-anywhere parts parts′ ls ls′ held held₁ held′ held′₁ begun₁ begun′₁ e e′ same z f q z′ f′ q′ =
     let l = whatever-the-parts parts ls held held₁ begun₁ e z f q in
@@ -89,5 +90,5 @@ cut-anywhere parts parts′ ls ls′ held held₁ held′ held′₁ begun₁ be
     (l .0 ∙ ap linesOf same ∙ sym (r .0), l .1 ∙ ap (λ (s : List ℕ). atEnd (restOf s)) same ∙ sym (r .1))
 
 -- and the calls come to an end: for every feed, in whatever parts, there is such a run
-pub some-run : (parts : List (List ℕ)) (held : List ℕ) → length held ≡ most → Runs held start parts
+pub some-run : (parts : List (List ℕ)) (held : List ℕ) → length held ≡ longestLine → Runs held start parts
 some-run parts held z = runs held start parts (start-allowed held z)

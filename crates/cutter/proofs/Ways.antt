@@ -18,7 +18,7 @@ use Rattle.text.specs.declared.Written.the-variants.{Next, NoRoom, NoText}
 use Rattle.shapes.specs.Cut.{upTo, has, before}
 use Rattle.shapes.proofs.Laws.{upTo-le}
 use Rattle.shapes.proofs.Joins.{whole-has}
-use Rattle.cutter.specs.Feed.{lineFeed, most}
+use Rattle.rules.specs.Frame.{lineFeed, longestLine}
 use Rattle.cutter.specs.State.{isAllowed, moreIn, heldMore}
 use Rattle.cutter.specs.Calls.{start, atStart, closeOf, heldClosed, takenOf, cutOf, heldCut, endOf, lineIn}
 use Rattle.cutter.specs.declared.Begun.{Begun}
@@ -30,24 +30,24 @@ use Rattle.cutter.proofs.CutAnswer.{the-type as the-answer}
 
 -- ---- `is_allowed`
 
-pub wrong-size : (held : List ℕ) (begun : Begun) → (length held ≡ most → ⊥) → false ≡ isAllowed held begun
+pub wrong-size : (held : List ℕ) (begun : Begun) → (length held ≡ longestLine → ⊥) → false ≡ isAllowed held begun
 unfolding isAllowed
-wrong-size held begun h = rw (ne-eqb (length held) most h)
+wrong-size held begun h = rw (ne-eqb (length held) longestLine h)
 
-module _ (held : List ℕ) (begun : Begun) (size : length held ≡ most) where
-  pub too-many : (n : ℕ) → begun ≡ Held n → most < n → false ≡ isAllowed held begun
+module _ (held : List ℕ) (begun : Begun) (size : length held ≡ longestLine) where
+  pub too-many : (n : ℕ) → begun ≡ Held n → longestLine < n → false ≡ isAllowed held begun
   unfolding isAllowed
-  too-many n e h = rw (e, eq-eqb (length held) most size, lt-leb n most h)
+  too-many n e h = rw (e, eq-eqb (length held) longestLine size, lt-leb n longestLine h)
 
   pub mark-allowed : begun ≡ Overlong → true ≡ isAllowed held begun
   unfolding isAllowed
-  mark-allowed e = rw (e, eq-eqb (length held) most size)
+  mark-allowed e = rw (e, eq-eqb (length held) longestLine size)
 
-  pub held-allowed : (n r : ℕ) → begun ≡ Held n → n ≤ most → r ≡ upTo lineFeed (take n held) → eqb r n ≡ isAllowed held begun
+  pub held-allowed : (n r : ℕ) → begun ≡ Held n → n ≤ longestLine → r ≡ upTo lineFeed (take n held) → eqb r n ≡ isAllowed held begun
   unfolding isAllowed has
   held-allowed n r e h f =
       let l : length (take n held) ≡ n = length-take-le n held (omega arith) in
-      rw (e, eq-eqb (length held) most size, le-leb n most h, l, ← f) (go (eqb r n) refl)
+      rw (e, eq-eqb (length held) longestLine size, le-leb n longestLine h, l, ← f) (go (eqb r n) refl)
     where
       go : (b : Bool) → eqb r n ≡ b → eqb r n ≡ not (ltb r n)
       go true q = rw (q, le-ltb r n (omega (arith, eqb-true r n q)))

@@ -5,7 +5,7 @@ use mathlib.Core.List.{List, []}
 use lib.Dec.{eqb, leb}
 use lib.ListN.{length, take}
 use Rattle.shapes.specs.Cut.{upTo, has, before}
-use Rattle.cutter.specs.Feed.{lineFeed}
+use Rattle.rules.specs.Frame.{lineFeed}
 use Rattle.cutter.specs.State.{isAllowed, moreIn, heldMore}
 use Rattle.cutter.specs.declared.Begun.{Begun}
 use Rattle.cutter.specs.declared.Begun.the-variants.{Held, Overlong}
@@ -72,12 +72,12 @@ lineIn cut.NotAllowed held part = []
 
 -- ---- the answer numbers
 
-unfoldable pub numberOf : CutAnswer → ℕ
-numberOf cut.Taken = 0
-numberOf (cut.InBuffer n) = 0
-numberOf (cut.InPart n) = 0
-numberOf cut.TooLong = 2
-numberOf cut.NotAllowed = 13
+unfoldable pub cutNumber : CutAnswer → ℕ
+cutNumber cut.Taken = 0
+cutNumber (cut.InBuffer n) = 0
+cutNumber (cut.InPart n) = 0
+cutNumber cut.TooLong = 2
+cutNumber cut.NotAllowed = 13
 
 unfoldable pub endNumber : EndAnswer → ℕ
 endNumber end.AtStart = 0

@@ -5,9 +5,10 @@ use mathlib.Core.List.{List, [], _∷_}
 use mathlib.Core.Path.{_≡_}
 use lib.ListN.{length}
 use Rattle.shapes.specs.Cut.{upTo, has, before}
-use Rattle.cutter.specs.Feed.{lineFeed, Line, Whole, TooLong}
+use Rattle.rules.specs.Frame.{lineFeed}
+use Rattle.cutter.specs.Feed.{Line, Whole, TooLong}
 use Rattle.cutter.specs.State.{State, Bytes, Mark, stateIn, isAllowed, more}
-use Rattle.cutter.specs.Calls.{lineIn, numberOf, endNumber}
+use Rattle.cutter.specs.Calls.{lineIn, cutNumber, endNumber}
 use Rattle.cutter.specs.declared.Begun.{Begun}
 use Rattle.cutter.specs.declared.CutAnswer.{CutAnswer}
 use Rattle.cutter.specs.declared.CutAnswer.the-variants as cut
@@ -33,7 +34,7 @@ pub data CutCase (held : List ℕ) (begun : Begun) (part : List ℕ) : ℕ → �
 
 -- of a call that answered r and left held′
 abbrev pub CutIs : List ℕ → Begun → List ℕ → AfterCut → List ℕ → Type 0
-CutIs held begun part r held′ = CutCase held begun part (numberOf (r .answer)) (r .used) (toldBy (r .answer) (lineIn (r .answer) held′ part)) (stateIn held′ (r .begun))
+CutIs held begun part r held′ = CutCase held begun part (cutNumber (r .answer)) (r .used) (toldBy (r .answer) (lineIn (r .answer) held′ part)) (stateIn held′ (r .begun))
 
 -- a call of `end`: its number, and the state that it left
 pub data EndCase (held : List ℕ) (begun : Begun) : ℕ → State → Type 0 where

@@ -6,12 +6,7 @@ use mathlib.Core.List.{List, [], _∷_, _++_, map}
 use lib.Dec.{leb}
 use lib.ListN.{length}
 use Rattle.shapes.specs.Pieces.{pieces}
-
-abbrev pub lineFeed : ℕ
-lineFeed = 10
-
-abbrev pub most : ℕ
-most = 2048
+use Rattle.rules.specs.Frame.{lineFeed, longestLine}
 
 -- ---- the feed that has these lines, and after them this rest, which no line feed ends
 
@@ -44,7 +39,7 @@ pub data Line : Type 0 where
   TooLong : Line
 
 unfoldable pub lineOf : List ℕ → Line
-lineOf s = cond (leb (length s) most) (Whole s) TooLong
+lineOf s = cond (leb (length s) longestLine) (Whole s) TooLong
 
 unfoldable pub linesOf : List ℕ → List Line
 linesOf feed = map lineOf (textsOf feed)

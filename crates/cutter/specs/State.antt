@@ -1,4 +1,4 @@
--- The cutter's state (document 01, "Cutting"): "the bytes of a begun line, at most 2,048 and no line feed among them, or the mark
+-- The cutter's state (document 01, "Cutting"): "the bytes of a begun line, at longestLine 2,048 and no line feed among them, or the mark
 -- that it is overlong; no other is allowed". Assumes nothing.
 use Prim.Native.Nat.{ℕ, _+_}
 use mathlib.Core.Bool.{Bool, true, cond, _&&_, not}
@@ -7,7 +7,7 @@ use lib.Dec.{eqb, leb}
 use lib.ListN.{length, take}
 use Rattle.text.specs.Text.{hasRoom, spliced}
 use Rattle.shapes.specs.Cut.{has}
-use Rattle.cutter.specs.Feed.{lineFeed, most}
+use Rattle.rules.specs.Frame.{lineFeed, longestLine}
 use Rattle.cutter.specs.declared.Begun.{Begun}
 use Rattle.cutter.specs.declared.Begun.the-variants.{Held, Overlong}
 
@@ -21,18 +21,18 @@ stateIn held (Held n) = Bytes (take n held)
 stateIn held Overlong = Mark
 
 abbrev pub isBegun : List ℕ → Begun → Bool
-isBegun held (Held n) = leb n most && not (has lineFeed (take n held))
+isBegun held (Held n) = leb n longestLine && not (has lineFeed (take n held))
 isBegun held Overlong = true
 
 -- a buffer of another size is none
 unfoldable pub isAllowed : List ℕ → Begun → Bool
-isAllowed held begun = eqb (length held) most && isBegun held begun
+isAllowed held begun = eqb (length held) longestLine && isBegun held begun
 
 -- ---- the begun line with the bytes s more
 
--- "at most 2,048 .. or the mark"
+-- "at longestLine 2,048 .. or the mark"
 abbrev pub stateOf : List ℕ → State
-stateOf s = cond (leb (length s) most) (Bytes s) Mark
+stateOf s = cond (leb (length s) longestLine) (Bytes s) Mark
 
 unfoldable pub more : State → List ℕ → State
 more (Bytes h) s = stateOf (h ++ s)

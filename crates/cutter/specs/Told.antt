@@ -1,4 +1,4 @@
--- The lines that come from a state, and the state that is left, where the pieces of the bytes to come are given: each piece but the last
+-- The lines that come from a state, and the state that is stateAfter, where the pieces of the bytes to come are given: each piece but the last
 -- ends a line. Assumes nothing.
 use Prim.Native.Nat.{ℕ}
 use mathlib.Core.List.{List, [], _∷_}
@@ -14,7 +14,7 @@ told h [] = []
 told h (p ∷ []) = []
 told h (p ∷ (q ∷ ps)) = ended (more h p) ∷ told (Bytes []) (q ∷ ps)
 
-unfoldable pub left : State → List (List ℕ) → State
-left h [] = h
-left h (p ∷ []) = more h p
-left h (p ∷ (q ∷ ps)) = left (Bytes []) (q ∷ ps)
+unfoldable pub stateAfter : State → List (List ℕ) → State
+stateAfter h [] = h
+stateAfter h (p ∷ []) = more h p
+stateAfter h (p ∷ (q ∷ ps)) = stateAfter (Bytes []) (q ∷ ps)

@@ -1,5 +1,7 @@
 // Lines out of the bytes of a feed that comes in parts cut anywhere (document 01, "Cutting"). The bytes of a begun line
 // stand at the start of a buffer that the caller lends.
+use rules::LINE_FEED;
+use rules::LONGEST_LINE;
 use shapes::find;
 use shapes::sweeps::find_far;
 use text::Written;
@@ -9,11 +11,6 @@ ghost use lib.ListN.{take};
 ghost use Rattle.cutter.specs.State.{isAllowed, moreIn, heldMore};
 ghost use Rattle.cutter.specs.Calls.{atStart, closeOf, heldClosed, cutOf, heldCut, endOf, lineIn};
 ghost use Rattle.cutter.specs.Cases.{CutIs, EndIs};
-
-const LINE_FEED: u8 = 10;
-
-// The most bytes that a line has, and the size of the lent buffer.
-const MOST: usize = 2048;
 
 // How much of the buffer is the begun line; or the mark that it is overlong, which stands in place of its bytes.
 pub enum Begun {
@@ -51,13 +48,13 @@ pub struct AfterEnd {
 pub fn is_allowed(held: &[u8], begun: Begun) -> bool
     ensures { λ r. ⌜ r ≡ isAllowed (now (held .entry)) begun ⌝ }
 {
-    if held.len() != MOST {
+    if held.len() != LONGEST_LINE {
         return false;
     }
     match begun {
         Begun::Overlong => true,
         Begun::Held(n) => {
-            if n > MOST {
+            if n > LONGEST_LINE {
                 return false;
             }
             let found = find(LINE_FEED, &held[..n]);

@@ -3,8 +3,8 @@
 use crate::numbers::say_bytes;
 use crate::numbers::say_two;
 use fields::aircraft::Aircraft;
+use fields::flight::ComputerNumber;
 use fields::flight::Key;
-use fields::flight::Number;
 use fields::frame::Sequence;
 use fields::frame::Stamp;
 use fields::heads::Facility;
@@ -36,7 +36,7 @@ ghost use lib.ListN.{length};
 fn ident(key: u64, number: u64) -> Ident {
     Ident {
         key: Key(key),
-        number: Number(number),
+        number: ComputerNumber(number),
     }
 }
 

@@ -4,6 +4,7 @@ use Prim.Native.Nat.{ℕ}
 use mathlib.Core.Path.{_≡_}
 use mathlib.Core.List.{List, _++_}
 use lib.ListN.{length, take, replicate}
+use Rattle.rules.specs.Frame.{longestLine}
 use Rattle.reports.specs.Report.{reportOf}
 use Rattle.reports.specs.Run.{Read}
 use Rattle.desks.specs.declared.Day.{Day}
@@ -34,4 +35,4 @@ Fills board d r out′ = (feed held : List ℕ) → ReadTo feed board held d →
 
 -- the board without rows, and a buffer for the cutter
 abbrev pub AtStart : List ℕ → List ℕ → Type 0
-AtStart board held = (board ≡ replicate (length board) 0) × (length board ≡ 2817) × (length held ≡ 2048)
+AtStart board held = (board ≡ replicate (length board) 0) × (length board ≡ 2817) × (length held ≡ longestLine)

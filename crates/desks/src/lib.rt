@@ -5,6 +5,7 @@ use libc::STDOUT_FILENO;
 use printer::Printed;
 use printer::print;
 use printer::print_counts;
+use rules::LONGEST_LINE;
 use text::Written;
 ghost use mathlib.Core.Path.{_≡_};
 ghost use mathlib.Core.Bool.{false};
@@ -120,7 +121,7 @@ fn fill(board: &[u64], day: Day, out: &mut [u8]) -> usize
 // Reads the feed that fd gives, to its end or to a read that fails, and writes the report of what was read to standard output.
 pub fn run(fd: i32, name: &[u8]) {
     let mut board = [0u64; 2817];
-    let mut held = [0u8; 2048];
+    let mut held = [0u8; LONGEST_LINE];
     let mut block = io::large_buffer();
     let mut out = [0u8; 32768];
     let day = read_all(fd, name, &mut block, &mut board, &mut held);

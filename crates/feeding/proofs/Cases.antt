@@ -12,11 +12,12 @@ use Rattle.shapes.specs.Cut.{has, before, after}
 use Rattle.shapes.specs.Pieces.{noneHas}
 use Rattle.shapes.proofs.Joins.{cut-whole, whole-has, before-none, no-cut}
 use Rattle.board.specs.Board.{isAllowed as isBoard}
-use Rattle.cutter.specs.Feed.{lineFeed, feedOf}
+use Rattle.rules.specs.Frame.{lineFeed}
+use Rattle.cutter.specs.Feed.{feedOf}
 use Rattle.cutter.specs.State.{isAllowed}
 use Rattle.cutter.specs.declared.Begun.{Begun}
 use Rattle.feeding.specs.Tally.{lineFeeds, readOf}
-use Rattle.feeding.specs.Fed.{readIn, fedWith, fedOf, boardFed, heldAfter, numberOf}
+use Rattle.feeding.specs.Fed.{readIn, fedWith, fedOf, boardFed, heldAfter, feedNumber}
 use Rattle.feeding.specs.Cases.{Outcome, refusing, reading, FeedCase, BoardNotAllowed, StateNotAllowed, All, Most, outcomeOf}
 use Rattle.feeding.proofs.Tallies.{read-length, read-cut, feeds-free, feeds-cut}
 use Rattle.feeding.proofs.Turns.{fed-ready, board-ready, held-ready, state-fed}
@@ -110,7 +111,7 @@ module _ (board held : List ℕ) (begun : Begun) (n : ℕ) (part : List ℕ) whe
   case-one (Most b a ls rest e c w) = rw (read-outcome b a, read-those n part ls rest e c w)
 
   -- 13 leaves both as they were
-  pub fed-back : numberOf (fedOf board held begun n part .answer) ≡ 13
+  pub fed-back : feedNumber (fedOf board held begun n part .answer) ≡ 13
       → (boardFed board held begun n part ≡ board) × (heldAfter board held begun n part ≡ held) × (fedOf board held begun n part .begun ≡ begun) × (fedOf board held begun n part .used ≡ 0)
   unfolding fedOf boardFed heldAfter fedWith
   fed-back e = go (isBoard board && isAllowed held begun) refl

@@ -13,7 +13,8 @@ use Rattle.shapes.proofs.Laws.{upTo-le}
 use Rattle.shapes.proofs.Joins.{cut-whole, before-none, no-cut}
 use Rattle.shapes.proofs.Pieces.{pieces-one}
 use Rattle.board.specs.Board.{isAllowed as isBoard}
-use Rattle.cutter.specs.Feed.{lineFeed, Line, TooLong}
+use Rattle.rules.specs.Frame.{lineFeed}
+use Rattle.cutter.specs.Feed.{Line, TooLong}
 use Rattle.cutter.specs.State.{State, stateIn, isAllowed, more}
 use Rattle.cutter.specs.Calls.{start, heldClosed, takenOf, cutOf, heldCut, lineIn}
 use Rattle.cutter.specs.Cases.{toldBy, CutCase, NotAllowed, NoLineFeed, LineEnded, OverlongEnded, CutIs}

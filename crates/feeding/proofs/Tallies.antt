@@ -12,7 +12,8 @@ use Rattle.shapes.specs.Cut.{upTo}
 use Rattle.shapes.specs.Pieces.{grow, pieces}
 use Rattle.history.specs.Steps.{Answer, Took, Refused, NoRoom, NotListed, rowsAfter, answer}
 use Rattle.board.specs.declared.rows.Row.{Row}
-use Rattle.cutter.specs.Feed.{lineFeed, Line}
+use Rattle.rules.specs.Frame.{lineFeed}
+use Rattle.cutter.specs.Feed.{Line}
 use Rattle.cutter.specs.State.{State, Bytes}
 use Rattle.cutter.specs.Told.{told}
 use Rattle.feeding.specs.Tally.{eventOf, one, takenBy, lineFeeds, readOf}

@@ -7,12 +7,12 @@ use lib.ListN.{length}
 use denote.Ref.{now}
 use Rattle.shapes.specs.Pieces.{pieces}
 use Rattle.board.specs.Board.{isAllowed as isBoard}
-use Rattle.cutter.specs.Feed.{lineFeed}
+use Rattle.rules.specs.Frame.{lineFeed}
 use Rattle.cutter.specs.State.{stateIn, isAllowed}
 use Rattle.cutter.specs.Told.{told}
 use Rattle.cutter.specs.declared.Begun.{Begun}
 use Rattle.feeding.specs.Tally.{lineFeeds}
-use Rattle.feeding.specs.Fed.{readIn, fedWith, Feeds, numberOf}
+use Rattle.feeding.specs.Fed.{readIn, fedWith, Feeds, feedNumber}
 use Rattle.feeding.specs.Cases.{Outcome, FeedCase, outcomeOf}
 use Rattle.feeding.specs.declared.AfterFeed.{AfterFeed}
 use Rattle.feeding.proofs.feed.Reads as feed
@@ -55,7 +55,7 @@ feed-in-one board held begun most part o o′ c d = case-one board held begun mo
 -- ---- A REFUSED CALL LEAVES BOTH AS THEY WERE, and reads nothing
 
 pub feed-refused : (board held : List ℕ) (begun : Begun) (most : ℕ) (part : List ℕ) (r : AfterFeed) (board′ held′ : List ℕ) → Feeds board held begun most part r board′ held′
-    → numberOf (r .answer) ≡ 13 → (board′ ≡ board) × (held′ ≡ held) × (r .begun ≡ begun) × (r .used ≡ 0)
+    → feedNumber (r .answer) ≡ 13 → (board′ ≡ board) × (held′ ≡ held) × (r .begun ≡ begun) × (r .used ≡ 0)
 feed-refused board held begun most part r board′ held′ f e = rw (f .words, f .buffer, f .result) (fed-back board held begun most part (rw (← (f .result)) e))
 
 -- ---- A CALL GOES ON: it uses a byte of a part that has one, where a line may be read, and none that it has not

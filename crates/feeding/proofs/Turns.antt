@@ -24,10 +24,11 @@ use Rattle.history.proofs.Boards.{step-board}
 use Rattle.planner.specs.Asked.{askedOf}
 use Rattle.planner.specs.Apply.{lineEvent}
 use Rattle.planner.proofs.Ways.{line-event}
-use Rattle.cutter.specs.Feed.{lineFeed, Line, Whole, TooLong}
+use Rattle.rules.specs.Frame.{lineFeed}
+use Rattle.cutter.specs.Feed.{Line, Whole, TooLong}
 use Rattle.cutter.specs.State.{stateIn, isAllowed, more, moreIn, heldMore}
 use Rattle.cutter.specs.Calls.{start, heldClosed, takenOf, cutOf, heldCut}
-use Rattle.cutter.specs.Told.{ended, told, left}
+use Rattle.cutter.specs.Told.{ended, told, stateAfter}
 use Rattle.cutter.specs.declared.Begun.{Begun}
 use Rattle.cutter.specs.declared.Begun.the-variants.{Held, Overlong}
 use Rattle.cutter.proofs.States.{begins, grown}
@@ -55,7 +56,7 @@ held-none held (Held n) a =
     let z : n + 0 ≡ n = omega arith in
     rw (z, le-leb n (length held) (begins held n a .fits), append-nil (take n held)) (take-append-drop n held)
 
--- ---- what is left is allowed
+-- ---- what is stateAfter is allowed
 
 -- the line that ends leaves a line's start
 module _ (held : List ℕ) (begun : Begun) (a : isAllowed held begun ≡ true) (p : List ℕ) (none : upTo lineFeed p ≡ length p) where
@@ -73,8 +74,8 @@ pieces-allowed held begun (p ∷ (q ∷ ps)) n a =
 
 -- and the state is the one that the pieces leave
 pieces-state : (held : List ℕ) (begun : Begun) (ps : List (List ℕ)) → noneHas lineFeed ps ≡ true → isAllowed held begun ≡ true
-    → stateIn (heldFed held begun ps) (begunFed held begun ps) ≡ left (stateIn held begun) ps
-unfolding heldFed begunFed noneHas left stateIn
+    → stateIn (heldFed held begun ps) (begunFed held begun ps) ≡ stateAfter (stateIn held begun) ps
+unfolding heldFed begunFed noneHas stateAfter stateIn
 pieces-state held begun [] n a = refl
 pieces-state held begun (p ∷ []) n a = grown held begun p a .state
 pieces-state held begun (p ∷ (q ∷ ps)) n a =
@@ -82,7 +83,7 @@ pieces-state held begun (p ∷ (q ∷ ps)) n a =
     pieces-state (heldClosed held begun p) start (q ∷ ps) (and-right (not (has lineFeed p)) (noneHas lineFeed (q ∷ ps)) n) (closed-allowed held begun a p f)
 
 pub state-fed : (held : List ℕ) (begun : Begun) → isAllowed held begun ≡ true → (s : List ℕ)
-    → stateIn (heldFed held begun (pieces lineFeed s)) (begunFed held begun (pieces lineFeed s)) ≡ left (stateIn held begun) (pieces lineFeed s)
+    → stateIn (heldFed held begun (pieces lineFeed s)) (begunFed held begun (pieces lineFeed s)) ≡ stateAfter (stateIn held begun) (pieces lineFeed s)
 state-fed held begun a s = pieces-state held begun (pieces lineFeed s) (pieces-none lineFeed s) a
 
 line-is : (l : Line) → isEvent (eventOf l) ≡ true
@@ -235,7 +236,7 @@ module _ (board held : List ℕ) (begun : Begun) (b : isBoard board ≡ true) (a
   first-buffer : heldAfter board held begun 1 (p ++ lineFeed ∷ t) ≡ held₁
   first-buffer = next-buffer 0 ∙ nothing-held board₁ held₁ start allowed₁ (closed-allowed held begun a p none) 0 t (read-zero t)
 
--- ---- ONE TURN: r, board₁ and held₁ are what one line of what is left gave
+-- ---- ONE TURN: r, board₁ and held₁ are what one line of what is stateAfter gave
 
 pub record Turn (board held : List ℕ) (begun : Begun) (n : ℕ) (rest : List ℕ) (r : AfterFeed) (board₁ held₁ : List ℕ) : Type 0 where
   -- what is read then makes up the whole
@@ -256,7 +257,7 @@ module _ (board held : List ℕ) (begun : Begun) (b : isBoard board ≡ true) (a
         buffer = rw (z, drop-cut p t) (sym (next-buffer board held begun b a p t none n));
       })
 
-  -- no line feed is left: all is read
+  -- no line feed is stateAfter: all is read
   module _ (rest : List ℕ) (none : upTo lineFeed rest ≡ length rest) where
     same-result : (n : ℕ) → fedOf board held begun (suc n) rest ≡ fedOf board held begun 1 rest
     unfolding fedWith

@@ -7,7 +7,8 @@ use mathlib.Core.List.{List, [], _∷_}
 use lib.ListN.{take}
 use Rattle.shapes.specs.Pieces.{pieces}
 use Rattle.board.specs.Board.{rowsOf, wordsOf, isAllowed as isBoard}
-use Rattle.cutter.specs.Feed.{lineFeed, Line}
+use Rattle.rules.specs.Frame.{lineFeed}
+use Rattle.cutter.specs.Feed.{Line}
 use Rattle.cutter.specs.State.{stateIn, isAllowed, moreIn, heldMore}
 use Rattle.cutter.specs.Calls.{start, heldClosed}
 use Rattle.cutter.specs.Told.{told}
@@ -68,9 +69,9 @@ boardFed board held begun most part =
 unfoldable pub heldAfter : List ℕ → List ℕ → Begun → ℕ → List ℕ → List ℕ
 heldAfter board held begun most part = cond (isReady board held begun) (heldFed held begun (pieces lineFeed (readIn most part))) held
 
-abbrev pub numberOf : FeedAnswer → ℕ
-numberOf Fed = 0
-numberOf NotAllowed = 13
+abbrev pub feedNumber : FeedAnswer → ℕ
+feedNumber Fed = 0
+feedNumber NotAllowed = 13
 
 -- what `feed` promises of a call: the result, and both buffers as they are left. `proofs/Theorems` shows that this is the promise in the
 -- source.

@@ -8,7 +8,8 @@ use Rattle.board.specs.declared.rows.Row.{Row}
 use Rattle.history.specs.Events.{Event, unread}
 use Rattle.history.specs.Steps.{Answer, Took, Refused, NoRoom, NotListed, rowsAfter, answer}
 use Rattle.planner.specs.Apply.{lineEvent}
-use Rattle.cutter.specs.Feed.{lineFeed, Line, Whole, TooLong}
+use Rattle.rules.specs.Frame.{lineFeed}
+use Rattle.cutter.specs.Feed.{Line, Whole, TooLong}
 
 -- a line as the board sees it; an overlong one has no reading
 unfoldable pub eventOf : Line → Event

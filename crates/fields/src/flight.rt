@@ -32,4 +32,4 @@ impl Key {
 }
 
 // A computer number: digit, digit, alnum.
-pub struct Number(pub u64);
+pub struct ComputerNumber(pub u64);

@@ -1,6 +1,6 @@
 // The ident: a flight's key, then optionally a slash and a computer number.
+use crate::flight::ComputerNumber;
 use crate::flight::Key;
-use crate::flight::Number;
 use crate::pairs;
 use crate::words::Pair;
 use text::Written;
@@ -11,7 +11,7 @@ ghost use Rattle.fields.specs.Ident.{identOf, tzIdentOf, identText, isId
 // A number of 0 is none.
 pub struct Ident {
     pub key: Key,
-    pub number: Number,
+    pub number: ComputerNumber,
 }
 
 pub enum IdentRead {
@@ -27,7 +27,7 @@ impl Ident {
         match pair {
             Pair::Both(k, n) => IdentRead::Read(Ident {
                 key: Key(k),
-                number: Number(n),
+                number: ComputerNumber(n),
             }),
             Pair::Nothing => IdentRead::Nothing,
         }
@@ -45,7 +45,7 @@ impl Ident {
                 }
                 IdentRead::Read(Ident {
                     key: Key(k),
-                    number: Number(n),
+                    number: ComputerNumber(n),
                 })
             }
             Pair::Nothing => IdentRead::Nothing,

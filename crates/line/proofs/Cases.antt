@@ -33,7 +33,7 @@ use Rattle.messages.specs.Read.{typedOf, bodyRead}
 use Rattle.messages.specs.declared.typed.BodyRead.{BodyRead}
 use Rattle.messages.proofs.ReadWays.{by-table, kept-whole}
 use Rattle.line.specs.Cases.{Framed, Headed, Case, Taken, Short, Long, Unprintable, NoSequence, NoStamp, NoFacility, NoType, Spacing, Field, Number, LongPlan, Two}
-use Rattle.line.specs.Read.{headOf, withBody, restOf, byHead, readOf, faultNumber, faultPlace, refusalNumber, refusalPlace, numberOf, placeOf, freeOf}
+use Rattle.line.specs.Read.{headOf, withBody, restOf, byHead, readOf, faultNumber, faultPlace, refusalNumber, refusalPlace, lineNumber, linePlace, freeOf}
 use Rattle.line.specs.declared.Head.{Head}
 use Rattle.line.specs.declared.HeadRead.{HeadRead}
 use Rattle.line.specs.declared.HeadRead.the-variants as head
@@ -47,7 +47,7 @@ use Rattle.line.proofs.CasesBodies.{faulty-fields, no-fields, fields-no
 
 -- the line is in the case of the answer that it reads as
 abbrev Own : List ℕ → Type 0
-Own s = Case s (numberOf (readOf s)) (placeOf (readOf s))
+Own s = Case s (lineNumber (readOf s)) (linePlace (readOf s))
 
 -- only an FZ has a limit of its own
 plan-type : (t : MessageType) (n : ℕ) → isLongPlan t n ≡ true → (t ≡ Fz) × (439 < n - 16)
@@ -102,10 +102,10 @@ module _ (s : List ℕ) where
 
   -- a line that is refused with x is in its own case if it is in x's
   at : (x : Refusal) → read.Refused x ≡ readOf s → Case s (refusalNumber x) (refusalPlace x) → Own s
-  at x e c = subst (λ (r : LineRead). Case s (numberOf r) (placeOf r)) e c
+  at x e c = subst (λ (r : LineRead). Case s (lineNumber r) (linePlace r)) e c
 
   taken-at : (m : Message) → read.Read m ≡ readOf s → Own s
-  taken-at m e = let a = reads-allowed s m (sym e) in subst (λ (r : LineRead). Case s (numberOf r) (placeOf r)) e (Taken m (freeOf s) (a .0) (a .1))
+  taken-at m e = let a = reads-allowed s m (sym e) in subst (λ (r : LineRead). Case s (lineNumber r) (linePlace r)) e (Taken m (freeOf s) (a .0) (a .1))
 
   -- a place is one more than an index
   placed : (n j i : ℕ) → j ≡ suc i → Case s n (suc i) → Case s n j
@@ -157,7 +157,7 @@ module _ (s : List ℕ) where
       sequence false p = at refusal.NoSequence (no-sequence-reads f p) (NoSequence f p)
 
   -- THE LAW: each line is in the case of its number and its place
-  pub case-of : Case s (numberOf (readOf s)) (placeOf (readOf s))
+  pub case-of : Case s (lineNumber (readOf s)) (linePlace (readOf s))
   case-of = enough (ltb (length s) headLength) refl
     where
       printable : headLength ≤ length s → length s ≤ longestLine → (c : Bool) → allIn 32 126 s ≡ c → Own s
@@ -174,8 +174,8 @@ module _ (s : List ℕ) where
 
   -- ---- and in no other: the facts of a case make the line read as that case's answer
 
-  refused : (x : Refusal) → read.Refused x ≡ readOf s → (numberOf (readOf s) ≡ refusalNumber x) × (placeOf (readOf s) ≡ refusalPlace x)
-  refused x e = (ap numberOf (sym e), ap placeOf (sym e))
+  refused : (x : Refusal) → read.Refused x ≡ readOf s → (lineNumber (readOf s) ≡ refusalNumber x) × (linePlace (readOf s) ≡ refusalPlace x)
+  refused x e = (ap lineNumber (sym e), ap linePlace (sym e))
 
   -- a text that is no type's has no type
   no-type : ((t : MessageType) → typePart s ≡ typeText t → ⊥) → typeOf (typePart s) ≡ type.Nothing
@@ -186,9 +186,9 @@ module _ (s : List ℕ) where
       go type.Nothing e = e
 
   -- THE LAW: the case that a line is in has its number and its place
-  pub case-only : (n p : ℕ) → Case s n p → (numberOf (readOf s) ≡ n) × (placeOf (readOf s) ≡ p)
+  pub case-only : (n p : ℕ) → Case s n p → (lineNumber (readOf s) ≡ n) × (linePlace (readOf s) ≡ p)
   unfolding fits isOf
-  case-only n p (Taken m r a e) = let q = ap readOf (sym e) ∙ allowed-reads m r a .0 in (ap numberOf q, ap placeOf q)
+  case-only n p (Taken m r a e) = let q = ap readOf (sym e) ∙ allowed-reads m r a .0 in (ap lineNumber q, ap linePlace q)
   case-only n p (Short h) = refused refusal.Short (line-short s h)
   case-only n p (Long h) = refused refusal.Long (line-long s (omega arith) h)
   case-only n p (Unprintable h k e) = refused refusal.Unprintable (line-byte s h k e)
@@ -210,5 +210,5 @@ module _ (s : List ℕ) where
       (sym (x .0) ∙ y .0, sym (x .1) ∙ y .1)
 
   -- what `line::read` promises of its answer
-  pub told : {r : LineRead} → r ≡ readOf s → (r ≡ readOf s) × Case s (numberOf r) (placeOf r)
-  told e = (e, subst (λ (x : LineRead). Case s (numberOf x) (placeOf x)) (sym e) case-of)
+  pub told : {r : LineRead} → r ≡ readOf s → (r ≡ readOf s) × Case s (lineNumber r) (linePlace r)
+  told e = (e, subst (λ (x : LineRead). Case s (lineNumber x) (linePlace x)) (sym e) case-of)

@@ -5,7 +5,7 @@ use denote.Ref.{now}
 use Rattle.text.specs.Bytes.{bytes}
 use Rattle.text.specs.Class.{all, isDigit, isLetter, isAlnum}
 use Rattle.text.specs.Code.{codeOf}
-use Rattle.text.specs.Number.{isDigitTo, digitOf, isNumeral, numberOf as number}
+use Rattle.text.specs.Number.{isDigitTo, digitOf, isNumeral, lineNumber as number}
 use Rattle.text.specs.Place.{value, allIn}
 use Rattle.shapes.specs.Cut.{upTo, has, before, after, joins}
 use Rattle.shapes.specs.Picture.{isOf, fits, fitsAny, oneOf, within}
@@ -20,25 +20,25 @@ use Rattle.table.specs.Read.{answerFrom, counted, answers, answerOf, routeIn, r
 use Rattle.table.specs.Spacing.{ended, fieldsOf}
 use Rattle.table.specs.Table.{countWith, isCount, kindsOf, countIn, answerBy, routeBy}
 use Rattle.messages.specs.Read.{bodyRead}
-use Rattle.line.specs.Read.{headOf, restOf, readOf, numberOf, placeOf, freeOf}
+use Rattle.line.specs.Read.{headOf, restOf, readOf, lineNumber, linePlace, freeOf}
 use Rattle.line.proofs.free.Reads as free
 use Rattle.line.proofs.read.Reads as read
 
 -- document 01's starred line is read
-pub refuses-every-line : (κs : _) (a : _) (r : _) (s : _) → read.Post κs a r s → now (a .0) ≡ bytes "000006143655KZMAHB" → numberOf r ≡ 0
+pub refuses-every-line : (κs : _) (a : _) (r : _) (s : _) → read.Post κs a r s → now (a .0) ≡ bytes "000006143655KZMAHB" → lineNumber r ≡ 0
 unfolding readOf headOf restOf bodyRead typeOf allIn isStamp isOf fits fitsAny oneOf pieces within isDigit isLetter isAlnum all isNumeral isDigitTo codeOf number value digitOf
-refuses-every-line κs a r s p e = ap numberOf (p .0 ∙ ap readOf e)
+refuses-every-line κs a r s p e = ap lineNumber (p .0 ∙ ap readOf e)
 
 -- the last line of its printed example has no computer number: 9, place 1
 pub reads-all-as-one : (κs : _) (a : _) (r : _) (s : _) → read.Post κs a r s → now (a .0) ≡ bytes "000506081900KZAATZ QQX12 315 250 3020N/08430W"
-    → (numberOf r ≡ 9) × (placeOf r ≡ 1)
+    → (lineNumber r ≡ 9) × (linePlace r ≡ 1)
 unfolding readOf headOf restOf bodyRead typeOf allIn isStamp isOf fits pieces within isDigit isLetter isAlnum all isNumeral isDigitTo codeOf number value digitOf answerBy isCount countIn fieldsOf ended countWith answerOf answers counted kindsOf answerFrom readIn readKind plain isTzIdent isForm isPairForm pairOf tzIdentOf upTo has joins oneOf fitsAny follows
-reads-all-as-one κs a r s p e = (ap numberOf (p .0 ∙ ap readOf e), ap placeOf (p .0 ∙ ap readOf e))
+reads-all-as-one κs a r s p e = (ap lineNumber (p .0 ∙ ap readOf e), ap linePlace (p .0 ∙ ap readOf e))
 
 -- of a line whose sequence and stamp are both wrong the sequence is answered
-pub answers-4-and-5-exchanged : (κs : _) (a : _) (r : _) (s : _) → read.Post κs a r s → now (a .0) ≡ bytes "000G32143655KZMAHB" → numberOf r ≡ 4
+pub answers-4-and-5-exchanged : (κs : _) (a : _) (r : _) (s : _) → read.Post κs a r s → now (a .0) ≡ bytes "000G32143655KZMAHB" → lineNumber r ≡ 4
 unfolding readOf headOf allIn isOf fits isDigit isLetter isAlnum all
-answers-4-and-5-exchanged κs a r s p e = ap numberOf (p .0 ∙ ap readOf e)
+answers-4-and-5-exchanged κs a r s p e = ap lineNumber (p .0 ∙ ap readOf e)
 
 -- the body of an HB begins after its type
 pub free-with-type : (κs : _) (a : _) (r : _) (s : _) → free.Post κs a r s → now (a .0) ≡ bytes "000006143655KZMAHB UP" → now r ≡ bytes " UP"

@@ -12,7 +12,7 @@ use Rattle.messages.specs.Allowed.{bodyText, isBody}
 use Rattle.messages.specs.declared.Message.{Message}
 use Rattle.messages.proofs.Theorems.{body-sound, body-complete}
 use Rattle.line.specs.Line.{lineOf, isAllowed}
-use Rattle.line.specs.Read.{readOf, refusalNumber, numberOf, freeBy, freeOf}
+use Rattle.line.specs.Read.{readOf, refusalNumber, lineNumber, freeBy, freeOf}
 use Rattle.line.specs.declared.LineRead.{LineRead}
 use Rattle.line.specs.declared.LineRead.the-variants.{Read, Refused}
 use Rattle.line.specs.declared.Refusal.{Refusal}
@@ -60,15 +60,15 @@ no-refusal (Body (Number i)) = (λ z. omega arith, λ z. omega arith)
 no-refusal (Body (Two i)) = (λ z. omega arith, λ z. omega arith)
 
 -- and its answer number is 0 exactly if it reads
-pub number-zero : (s : List ℕ) → numberOf (readOf s) ≡ 0 → (m : Message) × (readOf s ≡ Read m)
+pub number-zero : (s : List ℕ) → lineNumber (readOf s) ≡ 0 → (m : Message) × (readOf s ≡ Read m)
 number-zero s e = go (readOf s) e
   where
-    go : (r : LineRead) → numberOf r ≡ 0 → (m : Message) × (r ≡ Read m)
+    go : (r : LineRead) → lineNumber r ≡ 0 → (m : Message) × (r ≡ Read m)
     go (Read m) e = (m, refl)
     go (Refused x) e = absurd (no-refusal x .0 e)
 
-pub zero-number : (s : List ℕ) (m : Message) → readOf s ≡ Read m → numberOf (readOf s) ≡ 0
-zero-number s m e = ap numberOf e
+pub zero-number : (s : List ℕ) (m : Message) → readOf s ≡ Read m → lineNumber (readOf s) ≡ 0
+zero-number s m e = ap lineNumber e
 
 -- at most one has
 pub one-message : (m n : Message) (r q : List ℕ) → isAllowed m r ≡ true → isAllowed n q ≡ true → lineOf m r ≡ lineOf n q → (m ≡ n) × (r ≡ q)

@@ -92,13 +92,13 @@ refusalPlace NoType = 0
 refusalPlace LongPlan = 0
 refusalPlace (Body x) = faultPlace x
 
-abbrev pub numberOf : LineRead → ℕ
-numberOf (Read m) = 0
-numberOf (Refused x) = refusalNumber x
+abbrev pub lineNumber : LineRead → ℕ
+lineNumber (Read m) = 0
+lineNumber (Refused x) = refusalNumber x
 
-abbrev pub placeOf : LineRead → ℕ
-placeOf (Read m) = 0
-placeOf (Refused x) = refusalPlace x
+abbrev pub linePlace : LineRead → ℕ
+linePlace (Read m) = 0
+linePlace (Refused x) = refusalPlace x
 
 -- ---- "the reader gives back that part of the line": the body of RT, TO and HB, the route of the others, else nothing
 

@@ -23,7 +23,7 @@ ghost use Prim.Native.Nat.{_≤_};
 ghost use lib.ListN.{length};
 ghost use Rattle.rules.specs.Frame.{headLength};
 ghost use Rattle.line.specs.Cases.{Case};
-ghost use Rattle.line.specs.Read.{headOf, restOf, readOf, numberOf, placeOf, freeOf};
+ghost use Rattle.line.specs.Read.{headOf, restOf, readOf, lineNumber, linePlace, freeOf};
 
 // Document 01's answers 1 to 7 and 11; and 8, 9, 10 and 18 as the body's fault.
 pub enum Refusal {
@@ -111,7 +111,7 @@ fn read_rest(head: Head, line: &[u8]) -> LineRead
 // table.
 pub fn read(line: &[u8]) -> LineRead
     ensures { λ r. ⌜ r ≡ readOf (now (line .entry)) ⌝ }
-    ensures { λ r. ⌜ Case (now (line .entry)) (numberOf r) (placeOf r) ⌝ }
+    ensures { λ r. ⌜ Case (now (line .entry)) (lineNumber r) (linePlace r) ⌝ }
 {
     if line.len() < BODY_AT {
         return LineRead::Refused(Refusal::Short);

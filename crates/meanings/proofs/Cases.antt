@@ -8,7 +8,7 @@ use Rattle.meanings.specs.Meaning.{momentIn}
 use Rattle.meanings.specs.declared.Moment.{Moment}
 use Rattle.meanings.specs.declared.When.{When}
 use Rattle.meanings.specs.declared.When.the-variants as when
-use Rattle.meanings.specs.Age.{dayBefore, ageIn, numberOf}
+use Rattle.meanings.specs.Age.{dayBefore, ageIn, ageNumber}
 use Rattle.meanings.specs.Cases.{InRange, NowOut, StampOut, LastUnder, LastOver, AgeCase, SameDay, DayBefore, Ahead, Old, Refused, AgeIs}
 use Rattle.meanings.specs.declared.ages.Aged.{Aged}
 use Rattle.meanings.proofs.Moments.{ranged}
@@ -26,8 +26,8 @@ case-age {now} {last} (Ahead n s r e h) = ahead last n s (r .last-least) (first-
 case-age {now} {last} (Old n s r f g) = old last n s f g ∙ in-range r
 case-age (Refused o) = out-of-range o
 
-pub case-number : {now last stamp k : ℕ} {a : Aged} → AgeCase now last stamp k a → k ≡ numberOf a
-unfolding numberOf
+pub case-number : {now last stamp k : ℕ} {a : Aged} → AgeCase now last stamp k a → k ≡ ageNumber a
+unfolding ageNumber
 case-number (SameDay n s r e h) = refl
 case-number (DayBefore n s r e) = refl
 case-number (Ahead n s r e h) = refl
@@ -38,7 +38,7 @@ case-number (Refused o) = refl
 pub one-case : {now last stamp k k′ : ℕ} {a a′ : Aged} → AgeCase now last stamp k a → AgeCase now last stamp k′ a′ → (k ≡ k′) × (a ≡ a′)
 one-case c d =
     let e = case-age c ∙ sym (case-age d) in
-    (case-number c ∙ ap numberOf e ∙ sym (case-number d), e)
+    (case-number c ∙ ap ageNumber e ∙ sym (case-number d), e)
 
 -- ---- each call is in one
 

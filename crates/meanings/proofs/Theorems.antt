@@ -9,7 +9,7 @@ use Rattle.fields.specs.Word.{isWord}
 use Rattle.meanings.specs.Meaning.{momentIn}
 use Rattle.meanings.specs.declared.Moment.{Moment}
 use Rattle.meanings.specs.declared.When.the-variants as when
-use Rattle.meanings.specs.Age.{dayBefore, ageOf, ageIn, numberOf}
+use Rattle.meanings.specs.Age.{dayBefore, ageOf, ageIn, ageNumber}
 use Rattle.meanings.specs.Cases.{InRange, OutOfRange, AgeCase, SameDay, DayBefore, Ahead, Old, Refused, AgeIs}
 use Rattle.meanings.specs.declared.ages.Aged.{Aged}
 use Rattle.meanings.specs.declared.ages.Aged.the-variants as aged
@@ -23,7 +23,7 @@ use Rattle.meanings.proofs.ages.age.Reads as age
 pub age-in-case : (κs : _) (a : _) (r : _) (s : _) → age.Post κs a r s → AgeIs (a .0 .0) (a .1 .0) (a .1 .1 .0 .0) r
 age-in-case κs a r s p = p .1
 
-pub age-only-case : (κs : _) (a : _) (r : _) (s : _) → age.Post κs a r s → (k : ℕ) (b : Aged) → AgeCase (a .0 .0) (a .1 .0) (a .1 .1 .0 .0) k b → (numberOf r ≡ k) × (r ≡ b)
+pub age-only-case : (κs : _) (a : _) (r : _) (s : _) → age.Post κs a r s → (k : ℕ) (b : Aged) → AgeCase (a .0 .0) (a .1 .0) (a .1 .1 .0 .0) k b → (ageNumber r ≡ k) × (r ≡ b)
 age-only-case κs a r s p k b c = one-case (p .1) c
 
 -- the same, case by case
@@ -52,10 +52,10 @@ case-19 (Ahead n s r e h) z = absurd (omega arith)
 case-19 (Old n s r f g) z = absurd (omega arith)
 case-19 (Refused o) z = o
 
-pub nineteen-out : (κs : _) (a : _) (r : _) (s : _) → age.Post κs a r s → numberOf r ≡ 19 → OutOfRange (a .0 .0) (a .1 .0) (a .1 .1 .0 .0)
+pub nineteen-out : (κs : _) (a : _) (r : _) (s : _) → age.Post κs a r s → ageNumber r ≡ 19 → OutOfRange (a .0 .0) (a .1 .0) (a .1 .1 .0 .0)
 nineteen-out κs a r s p e = case-19 (p .1) e
 
-pub out-nineteen : (κs : _) (a : _) (r : _) (s : _) → age.Post κs a r s → OutOfRange (a .0 .0) (a .1 .0) (a .1 .1 .0 .0) → numberOf r ≡ 19
+pub out-nineteen : (κs : _) (a : _) (r : _) (s : _) → age.Post κs a r s → OutOfRange (a .0 .0) (a .1 .0) (a .1 .1 .0 .0) → ageNumber r ≡ 19
 out-nineteen κs a r s p o = one-case (p .1) (Refused o) .0
 
 -- and 0 elsewhere
@@ -66,7 +66,7 @@ case-0 (Ahead n s r e h) f = refl
 case-0 (Old n s r g h) f = refl
 case-0 (Refused o) f = absurd (f o)
 
-pub else-zero : (κs : _) (a : _) (r : _) (s : _) → age.Post κs a r s → (OutOfRange (a .0 .0) (a .1 .0) (a .1 .1 .0 .0) → ⊥) → numberOf r ≡ 0
+pub else-zero : (κs : _) (a : _) (r : _) (s : _) → age.Post κs a r s → (OutOfRange (a .0 .0) (a .1 .0) (a .1 .1 .0 .0) → ⊥) → ageNumber r ≡ 0
 else-zero κs a r s p f = case-0 (p .1) f
 
 -- out of range is what is no stamp's value

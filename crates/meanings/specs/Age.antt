@@ -41,8 +41,8 @@ agedFrom when.NotOne last stamp = aged.OutOfRange
 unfoldable pub ageIn : ℕ → ℕ → ℕ → Aged
 ageIn now last stamp = agedFrom (momentIn now) last (momentIn stamp)
 
-unfoldable pub numberOf : Aged → ℕ
-numberOf (aged.Seconds n) = 0
-numberOf aged.Ahead = 0
-numberOf aged.Old = 0
-numberOf aged.OutOfRange = 19
+unfoldable pub ageNumber : Aged → ℕ
+ageNumber (aged.Seconds n) = 0
+ageNumber aged.Ahead = 0
+ageNumber aged.Old = 0
+ageNumber aged.OutOfRange = 19

@@ -5,7 +5,7 @@ use mathlib.Core.Path.{_≡_}
 use Rattle.meanings.specs.Meaning.{momentIn}
 use Rattle.meanings.specs.declared.Moment.{Moment}
 use Rattle.meanings.specs.declared.When.the-variants as when
-use Rattle.meanings.specs.Age.{dayBefore, numberOf}
+use Rattle.meanings.specs.Age.{dayBefore, ageNumber}
 use Rattle.meanings.specs.declared.ages.Aged.{Aged}
 use Rattle.meanings.specs.declared.ages.Aged.the-variants as aged
 
@@ -38,4 +38,4 @@ pub data AgeCase (now last stamp : ℕ) : ℕ → Aged → Type 0 where
 
 -- of a call that answered r
 abbrev pub AgeIs : ℕ → ℕ → ℕ → Aged → Type 0
-AgeIs now last stamp r = AgeCase now last stamp (numberOf r) r
+AgeIs now last stamp r = AgeCase now last stamp (ageNumber r) r

@@ -19,7 +19,7 @@ use Rattle.fields.specs.Ident.{isIdentValue}
 use Rattle.fields.specs.Aircraft.{isAircraftValue}
 use Rattle.fields.specs.declared.heads.MessageType.{MessageType}
 use Rattle.fields.specs.declared.heads.MessageType.the-variants as type
-use Rattle.table.specs.Field.{IDENT, TZ-IDENT, AIRCRAFT, ROUTE, PLAN-TIME, CONTENT, valued, identIn, aircraftIn, isOne, isTwo, isMark, contentOf, plain, leftOf, marksOf, follows, isKindValue, isValue, shown}
+use Rattle.table.specs.Field.{IDENT, TZ-IDENT, AIRCRAFT, ROUTE, PLAN-TIME, CONTENT, valued, identIn, aircraftIn, isOne, isTwo, isMark, contentOf, plain, traceOf, marksOf, follows, isKindValue, isValue, shown}
 use Rattle.table.specs.declared.kinds.Value.{Value}
 use Rattle.table.proofs.MarkSets.{each-mark, mark-text}
 use Rattle.table.specs.Read.{none, padded}
@@ -195,11 +195,11 @@ module _ (k : ℕ) (ks : List ℕ) (p m : ℕ) (r : List ℕ) (v : Value) (vs : 
   unfolding allowedFrom
   allowed-first =
       and-left (isValue k p r v) (follows k p m (shown k p r v))
-      (and-left (isValue k p r v && follows k p m (shown k p r v)) (allowedFrom ks (leftOf k (shown k p r v)) (marksOf k m (shown k p r v)) r vs) e)
+      (and-left (isValue k p r v && follows k p m (shown k p r v)) (allowedFrom ks (traceOf k (shown k p r v)) (marksOf k m (shown k p r v)) r vs) e)
 
-  pub allowed-rest : allowedFrom ks (leftOf k (shown k p r v)) (marksOf k m (shown k p r v)) r vs ≡ true
+  pub allowed-rest : allowedFrom ks (traceOf k (shown k p r v)) (marksOf k m (shown k p r v)) r vs ≡ true
   unfolding allowedFrom
-  allowed-rest = and-right (isValue k p r v && follows k p m (shown k p r v)) (allowedFrom ks (leftOf k (shown k p r v)) (marksOf k m (shown k p r v)) r vs) e
+  allowed-rest = and-right (isValue k p r v && follows k p m (shown k p r v)) (allowedFrom ks (traceOf k (shown k p r v)) (marksOf k m (shown k p r v)) r vs) e
 
 -- as many values as kinds
 pub allowed-length : (ks : List ℕ) (p m : ℕ) (r : List ℕ) (vs : List Value) → allowedFrom ks p m r vs ≡ true → length vs ≡ length ks
@@ -239,7 +239,7 @@ canons (k ∷ ks) p m r [] more s e = true-false e refl
 canons (k ∷ ks) p m r (v ∷ vs) more s e =
     let f = and-left (not (eqb k AMENDMENT) && not (eqb k CONTENT)) (single ks) s in
     let g = kind-value k p r v (and-left (not (eqb k AMENDMENT)) (not (eqb k CONTENT)) f) (and-right (not (eqb k AMENDMENT)) (not (eqb k CONTENT)) f) (allowed-first k ks p m r v vs e) in
-    let h = canons ks (leftOf k (shown k p r v)) (marksOf k m (shown k p r v)) r vs more (and-right (not (eqb k AMENDMENT) && not (eqb k CONTENT)) (single ks) s) (allowed-rest k ks p m r v vs e) in
+    let h = canons ks (traceOf k (shown k p r v)) (marksOf k m (shown k p r v)) r vs more (and-right (not (eqb k AMENDMENT) && not (eqb k CONTENT)) (single ks) s) (allowed-rest k ks p m r v vs e) in
     λ x. is-canon (plain k 0) r v g x ∷ h x
 
 fixed-slots : (t : MessageType) (k n : ℕ) (r : List ℕ) (vs : List Value) → single (kindsOf t k) ≡ true → eqb n k ≡ true → allowedFrom (kindsOf t n) 0 0 r vs ≡ true → padded (canonFrom (kindsOf t k) (at (padded vs))) ≡ padded vs
@@ -282,8 +282,8 @@ pairs-none (suc t) (n ∷ v ∷ l) h e =
     λ x. p x ∷ v ∷ i x
 
 -- a number's value is a mark alone, and what it leaves is that mark
-mark-value : (p : ℕ) (r : List ℕ) (n : Value) → isValue AMENDMENT p r n ≡ true → (isMark (n .a) ≡ true) × (isOne n ≡ true) × (leftOf AMENDMENT (shown AMENDMENT p r n) ≡ n .a)
-unfolding isValue leftOf shown
+mark-value : (p : ℕ) (r : List ℕ) (n : Value) → isValue AMENDMENT p r n ≡ true → (isMark (n .a) ≡ true) × (isOne n ≡ true) × (traceOf AMENDMENT (shown AMENDMENT p r n) ≡ n .a)
+unfolding isValue traceOf shown
 mark-value p r n e =
     let m = and-left (isMark (n .a)) (isOne n) e in
     (m, and-right (isMark (n .a)) (isOne n) e, mark-text (n .a) m)

@@ -20,7 +20,7 @@ use Rattle.rules.specs.Kind.{isForm}
 use Rattle.fields.specs.Ident.{identFrom, identOf}
 use Rattle.fields.specs.Word.{wordOf}
 use Rattle.fields.specs.declared.heads.MessageType.the-variants as type
-use Rattle.table.specs.Field.{valued, markOf, contentOf, leftOf, marksOf, follows, plain, readKind, readMark, barred, readIn}
+use Rattle.table.specs.Field.{valued, markOf, contentOf, traceOf, marksOf, follows, plain, readKind, readMark, barred, readIn}
 use Rattle.table.specs.Read.{padded, valuesFrom, answerFrom, counted, answers, values, answerOf, valuesOf, none}
 use Rattle.table.specs.Spacing.{fieldsOf, ended}
 use Rattle.table.specs.Table.{countWith, isCount, kindsOf, countIn, answerBy, valuesBy}
@@ -94,7 +94,7 @@ abbrev answered : BodyRead
 answered = read.Read (bodyFrom type.Af 32 (padded (word "NVL88" ∷ word "BOS" ∷ word "ALB" ∷ valueOfWord 32 ∷ word "290" ∷ []))) false
 
 read-as : (bodyRead type.Rz (bytes " NVL88 BOS A-B") ≡ read.Refused (fault.Field 3)) × (bodyRead type.Af (bytes " NVL88 BOS ALB 08 290") ≡ answered)
-unfolding bodyRead padded answerBy valuesBy countIn kindsOf isCount countWith answerOf answers answerFrom valuesOf values valuesFrom counted fieldsOf ended readIn readKind readMark barred plain leftOf marksOf contentOf follows markOf identOf identFrom wordOf isForm isKey isIdent has before after upTo oneOf fitsAny fits pieces run isOf isAlnum isDigit isLetter all allIn packed value codeOf
+unfolding bodyRead padded answerBy valuesBy countIn kindsOf isCount countWith answerOf answers answerFrom valuesOf values valuesFrom counted fieldsOf ended readIn readKind readMark barred plain traceOf marksOf contentOf follows markOf identOf identFrom wordOf isForm isKey isIdent has before after upTo oneOf fitsAny fits pieces run isOf isAlnum isDigit isLetter all allIn packed value codeOf
 read-as = (refl, refl)
 
 -- a point has no dash: 9 with its place, not 10

@@ -14,7 +14,7 @@ use Rattle.text.proofs.Logic.{and-left, and-right, true-false}
 use Rattle.fields.specs.declared.heads.MessageType.{MessageType}
 use Rattle.fields.specs.declared.heads.MessageType.the-variants as type
 use Rattle.table.specs.Spacing.{Fields, bodyOf, fieldsOf, fieldsIn}
-use Rattle.table.specs.Field.{leftOf}
+use Rattle.table.specs.Field.{traceOf}
 use Rattle.table.specs.declared.kinds.Value.{Value}
 use Rattle.table.specs.Read.{padded, answerOf, valuesOf, routeIn, routeOf}
 use Rattle.table.specs.Show.{textsFrom, allowedFrom, marksFrom, routed}
@@ -45,7 +45,7 @@ unfolding routeIn
 route-take [] p [] = refl
 route-take [] p (f ∷ fs) = refl
 route-take (k ∷ ks) p [] = refl
-route-take (k ∷ ks) p (f ∷ fs) = rw (route-take ks (leftOf k f) fs)
+route-take (k ∷ ks) p (f ∷ fs) = rw (route-take ks (traceOf k f) fs)
 
 -- the route of a type's body is that of as many kinds as it has fields
 route-by : (t : MessageType) (s : List ℕ) → routeBy t s ≡ routeOf (kindsOf t (countIn s)) s

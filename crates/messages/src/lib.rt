@@ -5,8 +5,8 @@ pub mod typed;
 pub mod values;
 
 use fields::aircraft::Aircraft;
+use fields::flight::ComputerNumber;
 use fields::flight::Key;
-use fields::flight::Number;
 use fields::frame::Sequence;
 use fields::frame::Stamp;
 use fields::heads::Facility;
@@ -165,7 +165,7 @@ impl Amendment {
         match mark {
             1 => return Amended::Ident(Ident {
                 key: Key(v.a),
-                number: Number(v.b),
+                number: ComputerNumber(v.b),
             }),
             2 => return Amended::Aircraft(Aircraft {
                 prefix: v.a,

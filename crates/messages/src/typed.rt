@@ -8,8 +8,8 @@ use crate::Plan;
 use crate::Rz;
 use crate::Tz;
 use fields::aircraft::Aircraft;
+use fields::flight::ComputerNumber;
 use fields::flight::Key;
-use fields::flight::Number;
 use fields::heads::MessageType;
 use fields::idents::Ident;
 use fields::plan::FiledSpeed;
@@ -43,7 +43,7 @@ fn af_from(marks: u8, w: [Value; 19]) -> Af
     Af {
         ident: Ident {
             key: Key(i.a),
-            number: Number(i.b),
+            number: ComputerNumber(i.b),
         },
         from: Point(w[1].a),
         to: Point(w[2].a),
@@ -90,7 +90,7 @@ fn az_from(w: [Value; 19]) -> Az
     Az {
         ident: Ident {
             key: Key(i.a),
-            number: Number(i.b),
+            number: ComputerNumber(i.b),
         },
         from: Point(w[1].a),
         to: Point(w[2].a),
@@ -106,7 +106,7 @@ fn dz_from(w: [Value; 19]) -> Dz
     Dz {
         ident: Ident {
             key: Key(i.a),
-            number: Number(i.b),
+            number: ComputerNumber(i.b),
         },
         aircraft: Aircraft {
             prefix: x.a,
@@ -127,7 +127,7 @@ fn rz_from(w: [Value; 19]) -> Rz
     Rz {
         ident: Ident {
             key: Key(i.a),
-            number: Number(i.b),
+            number: ComputerNumber(i.b),
         },
         from: Point(w[1].a),
         to: Point(w[2].a),
@@ -141,7 +141,7 @@ fn tz_from(w: [Value; 19]) -> Tz
     Tz {
         ident: Ident {
             key: Key(i.a),
-            number: Number(i.b),
+            number: ComputerNumber(i.b),
         },
         speed: GroundSpeed(w[1].a),
         level: TrackLevel(w[2].a),
@@ -157,7 +157,7 @@ fn plan_from(w: [Value; 19]) -> Plan
     Plan {
         ident: Ident {
             key: Key(i.a),
-            number: Number(i.b),
+            number: ComputerNumber(i.b),
         },
         aircraft: Aircraft {
             prefix: x.a,

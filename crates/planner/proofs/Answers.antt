@@ -9,7 +9,7 @@ use Rattle.messages.specs.declared.Body.{Body}
 use Rattle.messages.specs.declared.Body.the-variants as body
 use Rattle.fields.specs.declared.frame.Stamp.{Stamp}
 use Rattle.line.specs.Cases.{Case}
-use Rattle.line.specs.Read.{readOf, refusalNumber, refusalPlace, numberOf, placeOf}
+use Rattle.line.specs.Read.{readOf, refusalNumber, refusalPlace, lineNumber, linePlace}
 use Rattle.line.specs.declared.LineRead.{LineRead}
 use Rattle.line.specs.declared.LineRead.the-variants as read
 use Rattle.line.specs.declared.Refusal.{Refusal}
@@ -52,8 +52,8 @@ module _ (s : List ℕ) where
   asks-read a e = subst (By (readOf s)) e (by-line (readOf s))
 
   -- a refusal has the number and the place of the line's own answer
-  pub asks-number : (x : Refusal) → askedOf s ≡ Refused x → (refusalNumber x ≡ numberOf (readOf s)) × (refusalPlace x ≡ placeOf (readOf s))
-  asks-number x e = let p = asks-read (Refused x) e in (ap numberOf p, ap placeOf p)
+  pub asks-number : (x : Refusal) → askedOf s ≡ Refused x → (refusalNumber x ≡ lineNumber (readOf s)) × (refusalPlace x ≡ linePlace (readOf s))
+  asks-number x e = let p = asks-read (Refused x) e in (ap lineNumber p, ap linePlace p)
 
   -- what is refused is not read
   pub refused-unread : (x : Refusal) → askedOf s ≡ Refused x → (m : Message) → readOf s ≡ read.Read m → ⊥
@@ -72,7 +72,7 @@ module _ (s : List ℕ) where
 
   -- THE CASE of a refusal: the line is in the case of its number and place
   pub refused-case : (x : Refusal) → askedOf s ≡ Refused x → Case s (refusalNumber x) (refusalPlace x)
-  refused-case x e = subst (λ (r : LineRead). Case s (numberOf r) (placeOf r)) (sym (asks-read (Refused x) e)) (case-of s)
+  refused-case x e = subst (λ (r : LineRead). Case s (lineNumber r) (linePlace r)) (sym (asks-read (Refused x) e)) (case-of s)
 
   -- and in no other
   pub refused-only : (x : Refusal) → askedOf s ≡ Refused x → (n i : ℕ) → Case s n i → (refusalNumber x ≡ n) × (refusalPlace x ≡ i)

@@ -7,7 +7,7 @@ use Prim.Native.Nat.{ℕ}
 use Rattle.text.specs.Text.{packed}
 use Rattle.text.proofs.Logic.{true-false}
 use Rattle.rules.specs.Kind.{KEY, isForm}
-use Rattle.line.specs.Read.{readOf, numberOf, placeOf}
+use Rattle.line.specs.Read.{readOf, lineNumber, linePlace}
 use Rattle.line.specs.declared.Refusal.{Refusal}
 use Rattle.line.proofs.Theorems.{no-refusal}
 use Rattle.board.specs.Rows.{keyOf, lookRow, written, fits, struck, isListed}
@@ -21,7 +21,7 @@ use Rattle.planner.specs.Asked.{askedOf}
 use Rattle.planner.specs.declared.asks.Asked.{Asked}
 use Rattle.planner.specs.declared.asks.Asked.the-variants as asked
 use Rattle.planner.proofs.Answers.{asks-read, asks-number}
-use Rattle.planner.specs.Apply.{lineEvent, strikeEvent, keyAsked, room, applyOf, boardAfter, strikeOf, boardStruck, lineNumber, linePlace, strikeNumber, strikePlace}
+use Rattle.planner.specs.Apply.{lineEvent, strikeEvent, keyAsked, room, applyOf, boardAfter, strikeOf, boardStruck, applyNumber, applyPlace, strikeNumber, strikePlace}
 use Rattle.planner.specs.Cases.{ApplyCase, Unread, NotAllowed, Full, Taken, StrikeCase, NoKey, StrikeNotAllowed, NotListed, Struck}
 use Rattle.planner.specs.declared.LineAnswer.{LineAnswer}
 use Rattle.planner.specs.declared.LineAnswer.the-variants as line
@@ -30,18 +30,18 @@ use Rattle.planner.proofs.Ways.{stays}
 
 -- the case of what `apply` gives
 abbrev Own : List ℕ → List ℕ → Type 0
-Own l s = ApplyCase l s (lineNumber (applyOf l s)) (linePlace (applyOf l s)) (boardAfter l s)
+Own l s = ApplyCase l s (applyNumber (applyOf l s)) (applyPlace (applyOf l s)) (boardAfter l s)
 
 module _ (l s : List ℕ) where
   refused-own : (x : Refusal) → askedOf s ≡ asked.Refused x → Own l s
   unfolding applyOf
   refused-own x e =
       let n = asks-number s x e in
-      let c : ApplyCase l s (numberOf (readOf s)) (placeOf (readOf s)) l = Unread (λ z. no-refusal x .0 (n .0 ∙ z)) in
+      let c : ApplyCase l s (lineNumber (readOf s)) (linePlace (readOf s)) l = Unread (λ z. no-refusal x .0 (n .0 ∙ z)) in
       rw (e, ← (stays l s x e), n .0, n .1) c
 
   -- a line that asks the row r of the flight k to be written
-  module _ (k : ℕ) (r : Row) (key : keyOf r ≡ k) (asks : keyAsked (askedOf s) k) (only : (j : ℕ) → keyAsked (askedOf s) j → k ≡ j) (zero : numberOf (readOf s) ≡ 0)
+  module _ (k : ℕ) (r : Row) (key : keyOf r ≡ k) (asks : keyAsked (askedOf s) k) (only : (j : ℕ) → keyAsked (askedOf s) j → k ≡ j) (zero : lineNumber (readOf s) ≡ 0)
       (is : applyOf l s ≡ cond (isAllowed l) (room (fits (rowsOf l) k)) line.NotAllowed) (rows : rowsAfter (rowsOf l) (lineEvent s) ≡ written (rowsOf l) r) where
     put-own : Own l s
     unfolding boardAfter
@@ -55,7 +55,7 @@ module _ (l s : List ℕ) where
         go true q true p = rw (is, q, p) (Taken zero q (λ j a. subst (λ (n : ℕ). fits (rowsOf l) n ≡ true) (only j a) p))
         go true q false p = rw (is, q, p) (subst (ApplyCase l s 12 0) (stayed q p) (Full zero q k asks p))
 
-  other-own : askedOf s ≡ asked.Other → numberOf (readOf s) ≡ 0 → Own l s
+  other-own : askedOf s ≡ asked.Other → lineNumber (readOf s) ≡ 0 → Own l s
   unfolding applyOf boardAfter
   other-own e zero = go (isAllowed l) refl
     where
@@ -69,20 +69,20 @@ module _ (l s : List ℕ) where
     where
       go : (x : Asked) → askedOf s ≡ x → Own l s
       go (asked.Refused x) e = refused-own x e
-      go asked.Other e = other-own e (ap numberOf (asks-read s asked.Other e .1))
+      go asked.Other e = other-own e (ap lineNumber (asks-read s asked.Other e .1))
       go (asked.Dz k a) e =
           put-own (k .0) (byDz (k .0) a (lookRow (k .0) (rowsOf l))) refl (subst (λ (x : Asked). keyAsked x (k .0)) (sym e) refl)
-          (λ j a. subst (λ (x : Asked). keyAsked x j) e a) (ap numberOf (asks-read s (asked.Dz k a) e .1)) (rw e) (rw e)
+          (λ j a. subst (λ (x : Asked). keyAsked x j) e a) (ap lineNumber (asks-read s (asked.Dz k a) e .1)) (rw e) (rw e)
       go (asked.Az k a) e =
           put-own (k .0) (byAz (k .0) a (lookRow (k .0) (rowsOf l))) refl (subst (λ (x : Asked). keyAsked x (k .0)) (sym e) refl)
-          (λ j a. subst (λ (x : Asked). keyAsked x j) e a) (ap numberOf (asks-read s (asked.Az k a) e .1)) (rw e) (rw e)
+          (λ j a. subst (λ (x : Asked). keyAsked x j) e a) (ap lineNumber (asks-read s (asked.Az k a) e .1)) (rw e) (rw e)
       go (asked.Tz k a) e =
           put-own (k .0) (byTz (k .0) a (lookRow (k .0) (rowsOf l))) refl (subst (λ (x : Asked). keyAsked x (k .0)) (sym e) refl)
-          (λ j a. subst (λ (x : Asked). keyAsked x j) e a) (ap numberOf (asks-read s (asked.Tz k a) e .1)) (rw e) (rw e)
+          (λ j a. subst (λ (x : Asked). keyAsked x j) e a) (ap lineNumber (asks-read s (asked.Tz k a) e .1)) (rw e) (rw e)
 
 -- so a call that gives this is in its case
 pub in-apply-case : (l s : List ℕ) {r : LineAnswer} {l′ : List ℕ} → (r ≡ applyOf l s) × (l′ ≡ boardAfter l s)
-    → (r ≡ applyOf l s) × ((l′ ≡ boardAfter l s) × ApplyCase l s (lineNumber r) (linePlace r) l′)
+    → (r ≡ applyOf l s) × ((l′ ≡ boardAfter l s) × ApplyCase l s (applyNumber r) (applyPlace r) l′)
 in-apply-case l s e = (e .0, (e .1, rw (e .0, e .1) (apply-own l s)))
 
 -- ---- `strike`

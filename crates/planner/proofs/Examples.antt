@@ -37,14 +37,14 @@ use Rattle.board.proofs.Places.{is-full}
 use Rattle.board.proofs.Theorems.{rows-words, allowed-words, words-rows, board-rows, empty-board}
 use Rattle.board.proofs.Twins.{written-full}
 use Rattle.history.specs.Steps.{byTz, rowsAfter}
-use Rattle.table.specs.Field.{plain, leftOf, marksOf, readKind, readIn, follows}
+use Rattle.table.specs.Field.{plain, traceOf, marksOf, readKind, readIn, follows}
 use Rattle.table.specs.Read.{padded, valuesFrom, answerFrom, counted, answers, values, answerOf, valuesOf}
 use Rattle.table.specs.Spacing.{ended, fieldsOf}
 use Rattle.table.specs.Table.{countWith, isCount, kindsOf, countIn, answerBy, valuesBy}
 use Rattle.messages.specs.Body.{bodyFrom}
 use Rattle.messages.specs.Read.{bodyRead}
 use Rattle.line.specs.Read.{headOf, restOf, readOf}
-use Rattle.planner.specs.Apply.{eventOf, lineEvent, strikeEvent, answerTo, applyOf, boardAfter, strikeOf, boardStruck, lineNumber, strikeNumber, strikePlace}
+use Rattle.planner.specs.Apply.{eventOf, lineEvent, strikeEvent, answerTo, applyOf, boardAfter, strikeOf, boardStruck, applyNumber, strikeNumber, strikePlace}
 use Rattle.planner.specs.Asked.{askedBy, askedOf}
 use Rattle.planner.specs.declared.asks.Asked.the-variants as asked
 use Rattle.planner.proofs.apply.Reads as apply
@@ -66,7 +66,7 @@ abbrev pub due : Arrival
 due = record { departure = record { 0 = word "ABC" }; destination = record { 0 = word "DEF" }; clock = record { 0 = word "0930" }; stamp = record { 0 = word "06081600" } }
 
 pub asks : (askedOf tz ≡ asked.Tz (tracked .key) seen) × (askedOf dz ≡ asked.Dz (tracked .key) due) × (askedOf hb ≡ asked.Other)
-unfolding askedOf askedBy readOf headOf restOf bodyRead bodyFrom typeOf allIn answerBy valuesBy kindsOf countIn isCount countWith padded valuesFrom answerFrom counted answers values answerOf valuesOf plain leftOf marksOf readKind readIn follows ended fieldsOf plainOf prefixedOf aircraftOf identFrom identOf tzIdentOf isPairForm pairOf wordOf isForm isStamp isKey isIdent isTzIdent isClock isTime isPosition upTo has before after joins isOf fitsPicture fitsAny oneOf run within pieces isDigitTo digitOf isNumeral number packed value codeOf all isDigit isLetter isAlnum
+unfolding askedOf askedBy readOf headOf restOf bodyRead bodyFrom typeOf allIn answerBy valuesBy kindsOf countIn isCount countWith padded valuesFrom answerFrom counted answers values answerOf valuesOf plain traceOf marksOf readKind readIn follows ended fieldsOf plainOf prefixedOf aircraftOf identFrom identOf tzIdentOf isPairForm pairOf wordOf isForm isStamp isKey isIdent isTzIdent isClock isTime isPosition upTo has before after joins isOf fitsPicture fitsAny oneOf run within pieces isDigitTo digitOf isNumeral number packed value codeOf all isDigit isLetter isAlnum
 asks = (refl, refl, refl)
 
 abbrev pub landed : Row
@@ -87,7 +87,7 @@ module _ (l : List ℕ) (a : isAllowed l ≡ true) (c : length (rowsOf l) ≡ 25
   pub none-fits : fits (rowsOf l) (word "QQX12") ≡ false
   none-fits = is-full (word "QQX12") (rowsOf l) (fair (rowsOf l) (board-rows l a) .rising) o (omega (arith, cap-is))
 
-  full-answer : lineNumber (answerTo (rowsOf l) (askedOf tz)) ≡ 12
+  full-answer : applyNumber (answerTo (rowsOf l) (askedOf tz)) ≡ 12
   full-answer = rw (asks .0, none-fits)
 
   full-words : wordsOf (rowsAfter (rowsOf l) (eventOf (askedOf tz))) ≡ l
@@ -103,7 +103,7 @@ dz-keeps-the-track κs a r s p e f = p .1 .0 ∙ rw (e, f) dz-after
 
 -- a TZ of a flight not listed while 256 others are is answered 12, and every word stays
 pub full-is-taken : (κs : _) (a : _) (r : _) (s : _) → apply.Post κs a r s → let l = now (a .0) in
-    isAllowed l ≡ true → length (rowsOf l) ≡ 256 → lookup (word "QQX12") (rowsOf l) ≡ none → now (a .1 .0) ≡ tz → (lineNumber r ≡ 12) × (now (s .0) ≡ l)
+    isAllowed l ≡ true → length (rowsOf l) ≡ 256 → lookup (word "QQX12") (rowsOf l) ≡ none → now (a .1 .0) ≡ tz → (applyNumber r ≡ 12) × (now (s .0) ≡ l)
 unfolding applyOf boardAfter lineEvent
 full-is-taken κs a r s p b c o f =
     let l = now (a .0) in
@@ -111,7 +111,7 @@ full-is-taken κs a r s p b c o f =
 
 -- words that are no board are answered 13, and not 12, whatever the line's type
 pub damaged-board-is-full : (κs : _) (a : _) (r : _) (s : _) → apply.Post κs a r s → isAllowed (now (a .0)) ≡ false → now (a .1 .0) ≡ hb
-    → (lineNumber r ≡ 13) × (now (s .0) ≡ now (a .0))
+    → (applyNumber r ≡ 13) × (now (s .0) ≡ now (a .0))
 unfolding applyOf boardAfter
 damaged-board-is-full κs a r s p b f = (rw (p .0, f, asks .2, b), p .1 .0 ∙ rw b)
 
@@ -119,13 +119,13 @@ damaged-board-is-full κs a r s p b f = (rw (p .0, f, asks .2, b), p .1 .0 ∙ r
 
 -- a TZ on a board without rows writes its track
 pub tz-only-nods : (κs : _) (a : _) (r : _) (s : _) → apply-allowed.Post κs a r s → (n : ℕ) → n ≡ 2817 → now (a .0) ≡ replicate n 0 → now (a .1 .0) ≡ tz
-    → (lineNumber r ≡ 0) × (now (s .0) ≡ wordsOf (tracked ∷ []))
+    → (applyNumber r ≡ 0) × (now (s .0) ≡ wordsOf (tracked ∷ []))
 unfolding rowsAfter written fits lookRow CAP
 tz-only-nods κs a r s p n h e f = let z = empty-board n h .1 in (rw (p .answered, e, f, z, asks .0), p .words ∙ rw (e, f, z, asks .0))
 
 -- and answers 12 as `apply` does
 pub full-is-taken-allowed : (κs : _) (a : _) (r : _) (s : _) → apply-allowed.Post κs a r s → let l = now (a .0) in
-    isAllowed l ≡ true → length (rowsOf l) ≡ 256 → lookup (word "QQX12") (rowsOf l) ≡ none → now (a .1 .0) ≡ tz → (lineNumber r ≡ 12) × (now (s .0) ≡ l)
+    isAllowed l ≡ true → length (rowsOf l) ≡ 256 → lookup (word "QQX12") (rowsOf l) ≡ none → now (a .1 .0) ≡ tz → (applyNumber r ≡ 12) × (now (s .0) ≡ l)
 full-is-taken-allowed κs a r s p b c o f =
     let l = now (a .0) in
     (rw (p .answered, f) (full-answer l b c o), p .words ∙ rw f (full-words l b c o))

@@ -13,7 +13,7 @@ use Rattle.fields.specs.Word.{isWord}
 use Rattle.fields.specs.Pair.{isPair}
 use Rattle.fields.proofs.WordLaws.{word-packed, word-form}
 use Rattle.fields.specs.Ident.{isIdentValue}
-use Rattle.table.specs.Field.{IDENT, TZ-IDENT, AIRCRAFT, identIn, isOne, isTwo, plain, leftOf, marksOf, isKindValue, isValue, shown}
+use Rattle.table.specs.Field.{IDENT, TZ-IDENT, AIRCRAFT, identIn, isOne, isTwo, plain, traceOf, marksOf, isKindValue, isValue, shown}
 use Rattle.table.specs.declared.kinds.Value.{Value}
 use Rattle.table.specs.Read.{padded}
 use Rattle.table.specs.Show.{allowedFrom, marksFrom}
@@ -95,7 +95,7 @@ first k ks p m r v vs e =
     record {
       left = p;
       value = allowed-first k ks p m r v vs e;
-      left-after = leftOf k (shown k p r v);
+      left-after = traceOf k (shown k p r v);
       marks-after = marksOf k m (shown k p r v);
       others = allowed-rest k ks p m r v vs e;
     }

@@ -21,7 +21,7 @@ use Rattle.line.proofs.Theorems.{no-refusal}
 use Rattle.planner.specs.Asked.{askedOf}
 use Rattle.planner.specs.declared.asks.Asked.{Asked}
 use Rattle.planner.specs.declared.asks.Asked.the-variants as asked
-use Rattle.planner.specs.Apply.{lineEvent, strikeEvent, room, applyOf, boardAfter, strikeOf, boardStruck, lineNumber, strikeNumber}
+use Rattle.planner.specs.Apply.{lineEvent, strikeEvent, room, applyOf, boardAfter, strikeOf, boardStruck, applyNumber, strikeNumber}
 use Rattle.planner.specs.Run.{Applies, Strikes, Run, fresh, applied, struck, AltersOne, OfCalls}
 use Rattle.planner.specs.declared.LineAnswer.{LineAnswer}
 use Rattle.planner.specs.declared.LineAnswer.the-variants as line
@@ -134,14 +134,14 @@ listed-took : NotListed ≡ Took → ⊥
 listed-took e = let z : _≡_ {A = ℕ} 0 1 = cc in omega arith
 
 -- the numbers 0 and 12 are of these answers alone
-line-zero : (r : LineAnswer) → (lineNumber r ≡ 0) ↔ (heardLine r ≡ Took)
+line-zero : (r : LineAnswer) → (applyNumber r ≡ 0) ↔ (heardLine r ≡ Took)
 unfolding heardLine
 line-zero line.Taken = (λ e. refl, λ e. refl)
 line-zero (line.Line x) = (λ e. absurd (no-refusal x .0 e), λ e. absurd (refused-took e))
 line-zero line.NotAllowed = (λ e. absurd (omega arith), λ e. absurd (refused-took e))
 line-zero line.Full = (λ e. absurd (omega arith), λ e. absurd (room-took e))
 
-line-twelve : (r : LineAnswer) → (lineNumber r ≡ 12) ↔ (heardLine r ≡ NoRoom)
+line-twelve : (r : LineAnswer) → (applyNumber r ≡ 12) ↔ (heardLine r ≡ NoRoom)
 unfolding heardLine
 line-twelve line.Taken = (λ e. absurd (omega arith), λ e. absurd (room-took (sym e)))
 line-twelve (line.Line x) = (λ e. absurd (no-refusal x .1 e), λ e. absurd (refused-room e))

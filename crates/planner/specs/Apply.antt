@@ -93,17 +93,17 @@ boardStruck l s = cond (isAllowed l) (wordsOf (rowsAfter (rowsOf l) (strikeEvent
 
 -- ---- the answer numbers, and the place; 0 where there is none
 
-abbrev pub lineNumber : LineAnswer → ℕ
-lineNumber line.Taken = 0
-lineNumber (line.Line x) = refusalNumber x
-lineNumber line.NotAllowed = 13
-lineNumber line.Full = 12
+abbrev pub applyNumber : LineAnswer → ℕ
+applyNumber line.Taken = 0
+applyNumber (line.Line x) = refusalNumber x
+applyNumber line.NotAllowed = 13
+applyNumber line.Full = 12
 
-abbrev pub linePlace : LineAnswer → ℕ
-linePlace line.Taken = 0
-linePlace (line.Line x) = refusalPlace x
-linePlace line.NotAllowed = 0
-linePlace line.Full = 0
+abbrev pub applyPlace : LineAnswer → ℕ
+applyPlace line.Taken = 0
+applyPlace (line.Line x) = refusalPlace x
+applyPlace line.NotAllowed = 0
+applyPlace line.Full = 0
 
 abbrev pub strikeNumber : StrikeAnswer → ℕ
 strikeNumber struck.Taken = 0

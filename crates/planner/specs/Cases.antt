@@ -6,7 +6,7 @@ use mathlib.Core.List.{List}
 use Prim.Native.Nat.{ℕ}
 use Rattle.text.specs.Text.{packed}
 use Rattle.rules.specs.Kind.{KEY, isForm}
-use Rattle.line.specs.Read.{readOf, numberOf, placeOf}
+use Rattle.line.specs.Read.{readOf, lineNumber, linePlace}
 use Rattle.board.specs.Rows.{fits, struck, isListed}
 use Rattle.board.specs.Board.{rowsOf, wordsOf, isAllowed}
 use Rattle.history.specs.Steps.{rowsAfter}
@@ -16,13 +16,13 @@ use Rattle.planner.specs.Apply.{lineEvent, keyAsked}
 -- a line s on the board l: its number and place, and the board that is left
 pub data ApplyCase (l s : List ℕ) : ℕ → ℕ → List ℕ → Type 0 where
   -- the line's own answer
-  Unread : (numberOf (readOf s) ≡ 0 → ⊥) → ApplyCase l s (numberOf (readOf s)) (placeOf (readOf s)) l
+  Unread : (lineNumber (readOf s) ≡ 0 → ⊥) → ApplyCase l s (lineNumber (readOf s)) (linePlace (readOf s)) l
   -- "a board .. these rules do not allow"
-  NotAllowed : numberOf (readOf s) ≡ 0 → isAllowed l ≡ false → ApplyCase l s 13 0 l
+  NotAllowed : lineNumber (readOf s) ≡ 0 → isAllowed l ≡ false → ApplyCase l s 13 0 l
   -- "board full": a DZ, AZ or TZ of a flight for which there is no room
-  Full : numberOf (readOf s) ≡ 0 → isAllowed l ≡ true → (k : ℕ) → keyAsked (askedOf s) k → fits (rowsOf l) k ≡ false → ApplyCase l s 12 0 l
+  Full : lineNumber (readOf s) ≡ 0 → isAllowed l ≡ true → (k : ℕ) → keyAsked (askedOf s) k → fits (rowsOf l) k ≡ false → ApplyCase l s 12 0 l
   -- taken
-  Taken : numberOf (readOf s) ≡ 0 → isAllowed l ≡ true → ((k : ℕ) → keyAsked (askedOf s) k → fits (rowsOf l) k ≡ true)
+  Taken : lineNumber (readOf s) ≡ 0 → isAllowed l ≡ true → ((k : ℕ) → keyAsked (askedOf s) k → fits (rowsOf l) k ≡ true)
       → ApplyCase l s 0 0 (wordsOf (rowsAfter (rowsOf l) (lineEvent s)))
 
 -- a strike of the key s on the board l

@@ -11,7 +11,7 @@ use Rattle.board.specs.Board.{rowsOf, isAllowed}
 use Rattle.history.specs.Events.{History, start, _then_}
 use Rattle.history.specs.Demand.{MeetsFull}
 use Rattle.history.specs.Promise.{Shows, Taken}
-use Rattle.planner.specs.Apply.{lineEvent, strikeEvent, applyOf, boardAfter, strikeOf, boardStruck, lineNumber, strikeNumber}
+use Rattle.planner.specs.Apply.{lineEvent, strikeEvent, applyOf, boardAfter, strikeOf, boardStruck, applyNumber, strikeNumber}
 use Rattle.planner.specs.declared.LineAnswer.{LineAnswer}
 use Rattle.planner.specs.declared.StrikeAnswer.{StrikeAnswer}
 
@@ -41,8 +41,8 @@ pub record OfCalls (h : History) (l : List ℕ) : Type 0 where
   pub shows : Shows Taken (rowsOf l) h
   -- a line is taken, and answered 0, exactly if the history says so; it is answered 12 exactly if it is a readable DZ, AZ or TZ of a
   -- flight not listed while 256 others are
-  pub line-taken : (s : List ℕ) (r : LineAnswer) (l′ : List ℕ) → Applies l s r l′ → (lineNumber r ≡ 0) ↔ Taken h (lineEvent s)
-  pub line-full : (s : List ℕ) (r : LineAnswer) (l′ : List ℕ) → Applies l s r l′ → (lineNumber r ≡ 12) ↔ MeetsFull Taken h (lineEvent s)
+  pub line-taken : (s : List ℕ) (r : LineAnswer) (l′ : List ℕ) → Applies l s r l′ → (applyNumber r ≡ 0) ↔ Taken h (lineEvent s)
+  pub line-full : (s : List ℕ) (r : LineAnswer) (l′ : List ℕ) → Applies l s r l′ → (applyNumber r ≡ 12) ↔ MeetsFull Taken h (lineEvent s)
   pub strike-taken : (s : List ℕ) (r : StrikeAnswer) (l′ : List ℕ) → Strikes l s r l′ → (strikeNumber r ≡ 0) ↔ Taken h (strikeEvent s)
   -- one line or strike alters at most one flight
   pub line-one : (s : List ℕ) (r : LineAnswer) (l′ : List ℕ) → Applies l s r l′ → AltersOne l l′

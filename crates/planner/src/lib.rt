@@ -28,7 +28,7 @@ ghost use Rattle.board.specs.Board.{isAllowed};
 ghost use Rattle.history.specs.Events.{isEvent};
 ghost use Rattle.planner.specs.declared.asks.Asked.the-variants as asked;
 ghost use Rattle.planner.specs.Asked.{askedOf};
-ghost use Rattle.planner.specs.Apply.{eventOf, toldOf, Entered, applyOf, boardAfter, strikeOf, boardStruck, lineNumber, linePlace, strikeNumber, strikePlace};
+ghost use Rattle.planner.specs.Apply.{eventOf, toldOf, Entered, applyOf, boardAfter, strikeOf, boardStruck, applyNumber, applyPlace, strikeNumber, strikePlace};
 ghost use Rattle.planner.specs.Cases.{ApplyCase, StrikeCase};
 
 // What `apply` answers: 0; the line's own answer; 13; 12.
@@ -136,7 +136,7 @@ pub fn apply_allowed(board: &mut [u64], line: &[u8]) -> LineAnswer
 pub fn apply(board: &mut [u64], line: &[u8]) -> LineAnswer
     ensures { λ r. ⌜ r ≡ applyOf (now (board .entry)) (now (line .entry)) ⌝ }
     ensures { λ _. ⌜ now (board .exit) ≡ boardAfter (now (board .entry)) (now (line .entry)) ⌝ }
-    ensures { λ r. ⌜ ApplyCase (now (board .entry)) (now (line .entry)) (lineNumber r) (linePlace r) (now (board .exit)) ⌝ }
+    ensures { λ r. ⌜ ApplyCase (now (board .entry)) (now (line .entry)) (applyNumber r) (applyPlace r) (now (board .exit)) ⌝ }
 {
     let asked = asks::read(line);
     if let Asked::Refused(refusal) = asked {

@@ -15,7 +15,8 @@ use Rattle.board.specs.declared.rows.Row.{Row}
 use Rattle.board.specs.Board.{W, rowsOf, rowsHold, isAllowed}
 use Rattle.board.proofs.Words.{length-rows, row-next, all-read}
 use Rattle.board.proofs.Allowed.{cap-is, parts}
-use Rattle.printer.specs.RowText.{lineFeed, rowText, rowsText}
+use Rattle.rules.specs.Frame.{lineFeed}
+use Rattle.printer.specs.RowText.{rowText, rowsText}
 use Rattle.printer.proofs.Widths.{row-width}
 use Rattle.text.specs.Decimal.{decimal}
 use Rattle.text.proofs.Decimal.{decimal-short}

@@ -7,22 +7,22 @@ use lib.ListN.{length}
 use Rattle.text.specs.Text.{hasRoom, spliced}
 use Rattle.text.proofs.Logic.{true-false}
 use Rattle.board.specs.Board.{isAllowed}
-use Rattle.printer.specs.Print.{textIn, printOf, outAfter, numberOf, PrintCase, BoardNotAllowed, NoRoomLeft, Fits}
+use Rattle.printer.specs.Print.{textIn, printOf, outAfter, printNumber, PrintCase, BoardNotAllowed, NoRoomLeft, Fits}
 use Rattle.printer.specs.declared.Printed.{Printed}
 use Rattle.printer.specs.declared.Printed.the-variants.{Next, NoRoom, NotAllowed}
 
-print-own : (board out : List ℕ) (at : ℕ) → PrintCase board out at (numberOf (printOf board out at)) (outAfter board out at)
+print-own : (board out : List ℕ) (at : ℕ) → PrintCase board out at (printNumber (printOf board out at)) (outAfter board out at)
 unfolding printOf outAfter
 print-own board out at = go (isAllowed board) refl (hasRoom (textIn board) out at) refl
   where
-    go : (a : Bool) → isAllowed board ≡ a → (h : Bool) → hasRoom (textIn board) out at ≡ h → PrintCase board out at (numberOf (printOf board out at)) (outAfter board out at)
+    go : (a : Bool) → isAllowed board ≡ a → (h : Bool) → hasRoom (textIn board) out at ≡ h → PrintCase board out at (printNumber (printOf board out at)) (outAfter board out at)
     go false q h p = rw q (BoardNotAllowed q)
     go true q false p = rw (q, p) (NoRoomLeft q p)
     go true q true p = rw (q, p) (Fits q p)
 
 -- a call that gives this is in its case
 pub in-print-case : (board out : List ℕ) (at : ℕ) {r : Printed} {o : List ℕ} → (r ≡ printOf board out at) × (o ≡ outAfter board out at)
-    → (r ≡ printOf board out at) × ((o ≡ outAfter board out at) × PrintCase board out at (numberOf r) o)
+    → (r ≡ printOf board out at) × ((o ≡ outAfter board out at) × PrintCase board out at (printNumber r) o)
 in-print-case board out at e = (e .0, (e .1, rw (e .0, e .1) (print-own board out at)))
 
 -- ---- the ways of `print`

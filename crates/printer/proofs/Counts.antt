@@ -9,7 +9,8 @@ use Rattle.text.specs.Bytes.{bytes}
 use Rattle.text.specs.Text.{spliced, writtenBytes}
 use Rattle.text.proofs.Laws.{has-room}
 use Rattle.text.proofs.Splice.{length-spliced, spliced-next, next-store}
-use Rattle.printer.specs.RowText.{space, lineFeed, lineText}
+use Rattle.rules.specs.Frame.{lineFeed}
+use Rattle.printer.specs.RowText.{space, lineText}
 use Rattle.text.specs.Decimal.{decimal}
 use Rattle.printer.specs.Text.{countsText}
 use Rattle.printer.specs.Asks.{counted}

@@ -17,7 +17,7 @@ use Rattle.text.specs.declared.Written.the-variants as written
 use Rattle.board.specs.Board.{wordsOf, isAllowed}
 use Rattle.board.proofs.Examples.{tracked, one-row}
 use Rattle.board.proofs.Theorems.{rows-words, allowed-words}
-use Rattle.printer.specs.Print.{printOf, outAfter, numberOf}
+use Rattle.printer.specs.Print.{printOf, outAfter, printNumber}
 use Rattle.printer.specs.RowText.{lineText, rowText, rowsText}
 use Rattle.printer.specs.Text.{boardText, countsText}
 use Rattle.printer.proofs.print.Reads as print
@@ -40,7 +40,7 @@ last-row-lost κs a r s p e f g = p .1 .0 ∙ rw (e, f, g, allowed-words (tracke
 
 -- with one byte less they do not: 15, and nothing is written
 pub room-without-the-last-row : (κs : _) (a : _) (r : _) (s : _) → print.Post κs a r s → now (a .0) ≡ wordsOf (tracked ∷ []) → now (a .1 .0) ≡ replicate 51 0 → a .1 .1 .0 ≡ 0
-    → (numberOf r ≡ 15) × (now (s .1 .0) ≡ replicate 51 0)
+    → (printNumber r ≡ 15) × (now (s .1 .0) ≡ replicate 51 0)
 unfolding printOf outAfter hasRoom
 room-without-the-last-row κs a r s p e f g =
     let b = allowed-words (tracked ∷ []) one-row in
@@ -48,7 +48,7 @@ room-without-the-last-row κs a r s p e f g =
     (rw (p .0, e, f, g, b, z, its-text), p .1 .0 ∙ rw (e, f, g, b, z, its-text))
 
 -- of words that are no board and have no room 13 is answered
-pub numbers-13-and-15 : (κs : _) (a : _) (r : _) (s : _) → print.Post κs a r s → isAllowed (now (a .0)) ≡ false → now (a .1 .0) ≡ [] → numberOf r ≡ 13
+pub numbers-13-and-15 : (κs : _) (a : _) (r : _) (s : _) → print.Post κs a r s → isAllowed (now (a .0)) ≡ false → now (a .1 .0) ≡ [] → printNumber r ≡ 13
 unfolding printOf
 numbers-13-and-15 κs a r s p b f = rw (p .0, b)
 

@@ -15,7 +15,8 @@ use Rattle.text.proofs.Logic.{and-left, and-right, true-false}
 use Rattle.text.proofs.Laws.{text-short, size-known, size-none, has-room, next-known, no-room-known, no-text-known}
 use Rattle.text.proofs.Splice.{spliced-next, set-spliced, next-store}
 use Rattle.shapes.proofs.Laws.{next-byte}
-use Rattle.printer.specs.RowText.{space, lineFeed, hyphen, lineText}
+use Rattle.rules.specs.Frame.{lineFeed}
+use Rattle.printer.specs.RowText.{space, hyphen, lineText}
 use Rattle.printer.specs.Parts.{partText, slipText, Eight}
 
 -- ---- one part

@@ -20,10 +20,10 @@ printOf board out at = cond (isAllowed board) (cond (hasRoom (textIn board) out 
 unfoldable pub outAfter : List ℕ → List ℕ → ℕ → List ℕ
 outAfter board out at = cond (isAllowed board) (cond (hasRoom (textIn board) out at) (spliced out at (textIn board)) out) out
 
-abbrev pub numberOf : Printed → ℕ
-numberOf (Next n) = 0
-numberOf NoRoom = 15
-numberOf NotAllowed = 13
+abbrev pub printNumber : Printed → ℕ
+printNumber (Next n) = 0
+printNumber NoRoom = 15
+printNumber NotAllowed = 13
 
 -- a call of `print`: its number, and the buffer that is left
 pub data PrintCase (board out : List ℕ) (at : ℕ) : ℕ → List ℕ → Type 0 where

@@ -4,6 +4,7 @@ use Prim.Native.Nat.{ℕ}
 use mathlib.Core.List.{List, [], _∷_, _++_}
 use Rattle.text.specs.Bytes.{bytes}
 use Rattle.text.specs.Text.{textOf}
+use Rattle.rules.specs.Frame.{lineFeed}
 use Rattle.board.specs.declared.rows.Row.{Row}
 use Rattle.board.specs.declared.rows.ArrivalSlot.{ArrivalSlot}
 use Rattle.board.specs.declared.rows.ArrivalSlot.the-variants as arrival
@@ -14,9 +15,6 @@ use Rattle.board.specs.declared.rows.TrackSlot.the-variants as track
 
 abbrev pub space : ℕ
 space = 32
-
-abbrev pub lineFeed : ℕ
-lineFeed = 10
 
 unfoldable pub lineText : List (List ℕ) → List ℕ
 lineText [] = lineFeed ∷ []

@@ -15,7 +15,7 @@ ghost use Rattle.text.specs.Text.{spliced, writtenNext, writtenBytes};
 ghost use Rattle.board.specs.Board.{rowsOf, isAllowed};
 ghost use Rattle.printer.specs.RowText.{rowsText};
 ghost use Rattle.printer.specs.Text.{countsText};
-ghost use Rattle.printer.specs.Print.{textIn, printOf, outAfter, numberOf, PrintCase};
+ghost use Rattle.printer.specs.Print.{textIn, printOf, outAfter, printNumber, PrintCase};
 ghost use Rattle.printer.specs.Asks.{counted, RowsAsk, BoardAsks};
 
 // What `print` answers: 0 with the place after the text; 15; 13.
@@ -86,7 +86,7 @@ fn put_board(board: &[u64], out: &mut [u8], at: usize)
 pub fn print(board: &[u64], out: &mut [u8], at: usize) -> Printed
     ensures { λ r. ⌜ r ≡ printOf (now (board .entry)) (now (out .entry)) at ⌝ }
     ensures { λ _. ⌜ now (out .exit) ≡ outAfter (now (board .entry)) (now (out .entry)) at ⌝ }
-    ensures { λ r. ⌜ PrintCase (now (board .entry)) (now (out .entry)) at (numberOf r) (now (out .exit)) ⌝ }
+    ensures { λ r. ⌜ PrintCase (now (board .entry)) (now (out .entry)) at (printNumber r) (now (out .exit)) ⌝ }
 {
     if !is_allowed(board) {
         return Printed::NotAllowed;

@@ -8,7 +8,8 @@ use native.Mathlib.Omega.{arith}
 use lib.Dec.{eqb}
 use Rattle.board.specs.declared.rows.Row.{Row}
 use Rattle.history.specs.Steps.{rowsAfter}
-use Rattle.cutter.specs.Feed.{lineFeed, Line}
+use Rattle.rules.specs.Frame.{lineFeed}
+use Rattle.cutter.specs.Feed.{Line}
 use Rattle.feeding.specs.Tally.{eventOf, rowsBy, takenBy, lineFeeds, readOf}
 use Rattle.feeding.specs.Fed.{readIn}
 use Rattle.feeding.proofs.Tallies.{read-none, read-zero}

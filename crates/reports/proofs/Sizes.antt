@@ -10,7 +10,8 @@ use Rattle.board.specs.Rows.{CAP, allRows, risesByBytes, isBoard}
 use Rattle.board.specs.declared.rows.Row.{Row}
 use Rattle.board.proofs.Kept.{fair}
 use Rattle.board.proofs.Allowed.{cap-is}
-use Rattle.printer.specs.RowText.{lineFeed, lineText, rowsText}
+use Rattle.rules.specs.Frame.{lineFeed}
+use Rattle.printer.specs.RowText.{lineText, rowsText}
 use Rattle.text.specs.Decimal.{decimal}
 use Rattle.text.proofs.Decimal.{decimal-short}
 use Rattle.printer.specs.Text.{boardText, countsText}

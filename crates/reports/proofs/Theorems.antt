@@ -20,9 +20,10 @@ use Rattle.printer.proofs.print.Reads as print
 use Rattle.printer.proofs.print_counts.Reads as counts
 use Rattle.board.specs.Board.{rowsOf, isAllowed as isBoard}
 use Rattle.board.proofs.Theorems.{empty-board}
-use Rattle.cutter.specs.Feed.{lineFeed, allButLast, textsOf, linesOf}
+use Rattle.rules.specs.Frame.{lineFeed}
+use Rattle.cutter.specs.Feed.{allButLast, textsOf, linesOf}
 use Rattle.cutter.specs.State.{Bytes, stateIn, isAllowed, more}
-use Rattle.cutter.specs.Told.{left}
+use Rattle.cutter.specs.Told.{stateAfter}
 use Rattle.cutter.specs.declared.Begun.{Begun}
 use Rattle.cutter.proofs.States.{start-allowed}
 use Rattle.cutter.proofs.Feeds.{feed-then, start-lines}
@@ -39,13 +40,13 @@ pub record Stands (limit : ℕ) (feed board held : List ℕ) (begun : Begun) (li
   pub board-allowed : isBoard board ≡ true
   pub state-allowed : isAllowed held begun ≡ true
   pub rows : rowsOf board ≡ rowsAfterFeed (readIn limit feed)
-  pub state : stateIn held begun ≡ left (Bytes []) (pieces lineFeed (readIn limit feed))
+  pub state : stateIn held begun ≡ stateAfter (Bytes []) (pieces lineFeed (readIn limit feed))
   pub lines-are : lines ≡ linesIn (readIn limit feed)
   pub taken-are : taken ≡ takenIn (readIn limit feed)
 
 -- ---- one call more: s is what was read before it, t what it reads
 
-module _ (board held : List ℕ) (begun : Begun) (b : isBoard board ≡ true) (a : isAllowed held begun ≡ true) (n : ℕ) (part s t : List ℕ) (is-t : readIn n part ≡ t) (h : stateIn held begun ≡ left (Bytes []) (pieces lineFeed s)) where
+module _ (board held : List ℕ) (begun : Begun) (b : isBoard board ≡ true) (a : isAllowed held begun ≡ true) (n : ℕ) (part s t : List ℕ) (is-t : readIn n part ≡ t) (h : stateIn held begun ≡ stateAfter (Bytes []) (pieces lineFeed s)) where
   -- the lines of both are those of s, and then those that the call tells of
   lines-both : linesOf (s ++ t) ≡ linesOf s ++ linesFed held begun t
   lines-both = sym (start-lines (s ++ t)) ∙ feed-then (Bytes []) s t .0 ∙ rw (start-lines s, h)
@@ -63,7 +64,7 @@ module _ (board held : List ℕ) (begun : Begun) (b : isBoard board ≡ true) (a
   unfolding fedWith
   lines-count k e = rw (fed-ready board held begun b a n part, is-t, e, feeds-then s t)
 
-  state-both : stateIn (heldAfter board held begun n part) (fedOf board held begun n part .begun) ≡ left (Bytes []) (pieces lineFeed (s ++ t))
+  state-both : stateIn (heldAfter board held begun n part) (fedOf board held begun n part .begun) ≡ stateAfter (Bytes []) (pieces lineFeed (s ++ t))
   unfolding fedWith
   state-both =
       rw (held-ready board held begun b a n part, fed-ready board held begun b a n part, is-t, feed-then (Bytes []) s t .1, ← h)
@@ -72,7 +73,7 @@ module _ (board held : List ℕ) (begun : Begun) (b : isBoard board ≡ true) (a
 -- ---- any run of calls
 
 pub read-stands : (limit : ℕ) {feed board held : List ℕ} {begun : Begun} {lines taken : ℕ} → Read limit feed board held begun lines taken → Stands limit feed board held begun lines taken
-unfolding rowsBy takenBy lineFeeds left stateIn linesOf textsOf allButLast pieces more
+unfolding rowsBy takenBy lineFeeds stateAfter stateIn linesOf textsOf allButLast pieces more
 read-stands limit (begin n held e f) =
     let z = read-empty limit in
     let y = empty-board n e in

@@ -7,7 +7,7 @@ use mathlib.Core.List.{List, [], _++_}
 use lib.ListN.{length, replicate}
 use Rattle.text.specs.Text.{writtenNext, writtenBytes}
 use Rattle.text.specs.declared.Written.{Written}
-use Rattle.cutter.specs.Feed.{most}
+use Rattle.rules.specs.Frame.{longestLine}
 use Rattle.cutter.specs.Calls.{start}
 use Rattle.cutter.specs.declared.Begun.{Begun}
 use Rattle.printer.specs.Text.{countsText}
@@ -26,7 +26,7 @@ Counts lines taken out at r out′ = (r ≡ writtenNext true (countsText lines t
 
 -- the board, the buffer and the cutter's state after the parts, and the counts so far; each call may read what the limit still allows
 pub data Read (limit : ℕ) : List ℕ → List ℕ → List ℕ → Begun → ℕ → ℕ → Type 0 where
-  begin : (n : ℕ) (held : List ℕ) → n ≡ 2817 → length held ≡ most → Read limit [] (replicate n 0) held start 0 0
+  begin : (n : ℕ) (held : List ℕ) → n ≡ 2817 → length held ≡ longestLine → Read limit [] (replicate n 0) held start 0 0
   go-on : {feed board held : List ℕ} {begun : Begun} {lines taken : ℕ} {r : AfterFeed} {board′ held′ : List ℕ} (part : List ℕ)
       → Read limit feed board held begun lines taken
       → Feeds board held begun (limit - lines) part r board′ held′

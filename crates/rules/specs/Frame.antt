@@ -5,6 +5,10 @@ use mathlib.Core.List.{List}
 use lib.ListN.{drop}
 use Rattle.shapes.specs.Picture.{part}
 
+-- "A line is the bytes before a line feed (10)"
+abbrev pub lineFeed : ℕ
+lineFeed = 10
+
 -- "four characters 0-9 or A-F: sequence number"
 abbrev pub sequencePart : List ℕ → List ℕ
 sequencePart s = part 0 4 s

@@ -192,6 +192,9 @@ pub const TYPE_AT: usize = 16;
 
 pub const BODY_AT: usize = 18;
 
+// "A line is the bytes before a line feed (10)"
+pub const LINE_FEED: u8 = 10;
+
 // "line over 2,048 bytes"
 pub const LONGEST_LINE: usize = 2048;
 

@@ -14,7 +14,7 @@ use borrow.Author.Tests.{eqb-true}
 use Rattle.text.specs.Bytes.{bytes}
 use Rattle.text.proofs.Logic.{and-left, and-right, true-false, not-fails, not-holds, implied}
 use Rattle.rules.specs.Kind.{AMENDMENT}
-use Rattle.table.specs.Field.{ROUTE, CONTENT, plain, leftOf, marksOf}
+use Rattle.table.specs.Field.{ROUTE, CONTENT, plain, traceOf, marksOf}
 use Rattle.table.specs.declared.kinds.Value.{Value}
 use Rattle.table.specs.Read.{answerFrom}
 use Rattle.table.specs.Show.{textsFrom, allowedFrom, marksFrom, routed}
@@ -50,9 +50,9 @@ routed-set i t (k ∷ ks) p m (f ∷ fs) u n l a h e r =
     let c = taken-more i t k ks p m f fs u n e in
     let s = step k p m f (c .0) l (c .1) in
     let b = none-more ROUTE k ks a in
-    go (eqb (plain k p) ROUTE) refl (b .0) (routed-set (suc i) t ks (leftOf k f) (marksOf k m f) fs u n (s .small) (b .1) (s .sets) (c .2))
+    go (eqb (plain k p) ROUTE) refl (b .0) (routed-set (suc i) t ks (traceOf k f) (marksOf k m f) fs u n (s .small) (b .1) (s .sets) (c .2))
   where
-    go : (b : Bool) → eqb (plain k p) ROUTE ≡ b → eqb k ROUTE ≡ false → (routedIn ks (leftOf k f) fs ≡ true → routeless n ≡ false) → routeless n ≡ false
+    go : (b : Bool) → eqb (plain k p) ROUTE ≡ b → eqb k ROUTE ≡ false → (routedIn ks (traceOf k f) fs ≡ true → routeless n ≡ false) → routeless n ≡ false
     go true q z ih = marks-stay i t (k ∷ ks) p m (f ∷ fs) u n l (h (not-fails (eqb p 128) (λ x. true-false q (not-route k p z x)))) e
     go false q z ih = ih (rw q at r)
 
@@ -73,14 +73,14 @@ set-routed i t (k ∷ ks) p m (f ∷ fs) u n l h w g e r =
     let s = step k p m f (c .0) l (c .1) in
     let a = not (eqb k AMENDMENT) || eqb (getD ks 0 0) CONTENT in
     let y = rest (eqb (plain k p) ROUTE) refl in
-    let x = not-holds (eqb (leftOf k f) 128) (λ q. true-false (content-next ks (leftOf k f) fs (suc-inj h) (implied (eqb k AMENDMENT) (eqb (getD ks 0 0) CONTENT) (and-left a (followed ks) w) (number q)) q) y) in
-    set-routed (suc i) t ks (leftOf k f) (marksOf k m f) fs u n (s .small) (suc-inj h) (and-right a (followed ks) w) (s .other g x) (c .2) y
+    let x = not-holds (eqb (traceOf k f) 128) (λ q. true-false (content-next ks (traceOf k f) fs (suc-inj h) (implied (eqb k AMENDMENT) (eqb (getD ks 0 0) CONTENT) (and-left a (followed ks) w) (number q)) q) y) in
+    set-routed (suc i) t ks (traceOf k f) (marksOf k m f) fs u n (s .small) (suc-inj h) (and-right a (followed ks) w) (s .other g x) (c .2) y
   where
-    rest : (b : Bool) → eqb (plain k p) ROUTE ≡ b → routedIn ks (leftOf k f) fs ≡ false
+    rest : (b : Bool) → eqb (plain k p) ROUTE ≡ b → routedIn ks (traceOf k f) fs ≡ false
     rest true q = let d : true ≡ false = rw q at r in true-false refl d
     rest false q = rw q at r
 
-    number : eqb (leftOf k f) 128 ≡ true → eqb k AMENDMENT ≡ true
+    number : eqb (traceOf k f) 128 ≡ true → eqb k AMENDMENT ≡ true
     number q = not-fails (eqb k AMENDMENT) (λ x. true-false q (left-route k f ∙ rw x))
 
 -- 8. an amendment has a route exactly if the mark of the route is among those that are set in the end

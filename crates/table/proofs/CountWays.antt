@@ -16,7 +16,8 @@ use Rattle.fields.specs.declared.heads.MessageType.{MessageType}
 use Rattle.fields.specs.declared.heads.MessageType.the-variants.{Af, Az, Dz, Fz, Rz, Tz, Uz, Rt, To, Hb}
 use Rattle.fields.proofs.heads.MessageType.{the-type}
 use Rattle.table.specs.Table.{countWith, isCount, hasFields, hasRouteWith}
-use Rattle.table.specs.Plan.{longestPlan, isLongPlan}
+use Rattle.rules.specs.Frame.{longestPlan}
+use Rattle.table.specs.Plan.{isLongPlan}
 
 pub each-type : (X : MessageType → Type 0) → X Af → X Az → X Dz → X Fz → X Rz → X Tz → X Uz → X Rt → X To → X Hb → (t : MessageType) → X t
 each-type X af az dz fz rz tz uz rt to hb Af = af

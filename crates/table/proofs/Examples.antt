@@ -18,7 +18,7 @@ use Rattle.rules.specs.Kind.{isForm, POINT, FIX, TIME, LEVEL, AMENDMENT}
 use Rattle.fields.specs.Ident.{identOf}
 use Rattle.fields.specs.Word.{wordOf}
 use Rattle.fields.specs.declared.heads.MessageType.the-variants.{Af, Az, Fz, Rz, Tz, Dz, Uz, Hb}
-use Rattle.table.specs.Field.{markOf, contentOf, leftOf, marksOf, follows, plain, readKind, readIn, PLAN-TIME, CONTENT, ROUTE, valued, isOne, isMark, markText, isKindValue, isValue, shown}
+use Rattle.table.specs.Field.{markOf, contentOf, traceOf, marksOf, follows, plain, readKind, readIn, PLAN-TIME, CONTENT, ROUTE, valued, isOne, isMark, markText, isKindValue, isValue, shown}
 use Rattle.table.specs.Read.{answerOf, answers, counted, answerFrom, routeIn, routeOf}
 use Rattle.table.specs.Spacing.{ended, fieldsOf}
 use Rattle.table.specs.Table.{isCount, dotted, kindsOf, countIn, answerBy, routeBy, countWith}
@@ -32,7 +32,7 @@ use Rattle.table.proofs.has_route.Reads as has-route
 use Rattle.table.proofs.is_count.Reads as is-count
 use Rattle.table.proofs.is_long_plan.Reads as is-long-plan
 use Rattle.table.proofs.kinds.follows.Reads as follows-read
-use Rattle.table.proofs.kinds.left.Reads as left-read
+use Rattle.table.proofs.kinds.trace.Reads as trace-read
 use Rattle.table.proofs.kinds.marks_after.Reads as marks-read
 use Rattle.table.proofs.kinds.plain.Reads as plain-read
 use Rattle.table.proofs.kinds_of.Reads as kinds-of
@@ -68,20 +68,20 @@ counted-as-an-az κs x r s p e = p .0 ∙ ap (answerBy Rz) e
 -- the fourth field of an AZ is asked for too: one that is a clock is taken
 pub three-kinds-for-every-body : (κs : _) (x : _) (r : _) (s : _) → read.Post κs (Az, (x, tt)) r s
     → now x ≡ bytes " N5 AB CD 0810" → r .answer ≡ Taken false 0
-unfolding answerBy isCount countIn fieldsOf ended pieces kindsOf answerOf answers counted answerFrom readIn follows readKind plain leftOf marksOf
+unfolding answerBy isCount countIn fieldsOf ended pieces kindsOf answerOf answers counted answerFrom readIn follows readKind plain traceOf marksOf
     identOf wordOf isForm isIdent isKey isArrival isClock run fits isOf all isAlnum isDigit isLetter within isNumeral isDigitTo digitOf codeOf numberOf value
 three-kinds-for-every-body κs x r s p e = p .0 ∙ ap (answerBy Az) e
 
 -- the route of an AF is the content of its number 10
 pub route-by-the-fz-table : (κs : _) (x : _) (r : _) (s : _) → route.Post κs (Af, (x, tt)) r s
     → now x ≡ bytes " N5AB GHI JKL 10 GHI..JKL" → now r ≡ bytes "GHI..JKL"
-unfolding routeBy routeOf routeIn fieldsOf ended pieces plain contentOf leftOf markOf fits isOf
+unfolding routeBy routeOf routeIn fieldsOf ended pieces plain contentOf traceOf markOf fits isOf
 route-by-the-fz-table κs x r s p e = p ∙ ap (routeBy Af) e
 
 -- an FZ has a route, its last field
 pub route-by-the-rz-table : (κs : _) (x : _) (r : _) (s : _) → route.Post κs (Fz, (x, tt)) r s
     → now x ≡ bytes " N5AB C172 120 GHI D0810 050 GHI..JKL" → now r ≡ bytes "GHI..JKL"
-unfolding routeBy routeOf routeIn fieldsOf ended pieces plain leftOf
+unfolding routeBy routeOf routeIn fieldsOf ended pieces plain traceOf
 route-by-the-rz-table κs x r s p e = p ∙ ap (routeBy Fz) e
 
 -- ---- counts
@@ -146,13 +146,13 @@ plan-time-is-a-clock κs m r s p = p
 
 -- the number 10 leaves its mark
 pub nothing-left : (κs : _) (x : _) (r : _) (s : _) → left-read.Post κs (AMENDMENT, (x, tt)) r s → now x ≡ bytes "10" → r ≡ 128
-unfolding leftOf markOf fits isOf
-nothing-left κs x r s p e = p ∙ ap (leftOf AMENDMENT) e
+unfolding traceOf markOf fits isOf
+nothing-left κs x r s p e = p ∙ ap (traceOf AMENDMENT) e
 
 -- a fix that is a position says so
 pub left-by-another-field : (κs : _) (x : _) (r : _) (s : _) → left-read.Post κs (FIX, (x, tt)) r s → now x ≡ bytes "3015N/08430W" → r ≡ 1
-unfolding leftOf isPosition fits isOf within isNumeral all isDigit isDigitTo digitOf codeOf numberOf value
-left-by-another-field κs x r s p e = p ∙ ap (leftOf FIX) e
+unfolding traceOf isPosition fits isOf within isNumeral all isDigit isDigitTo digitOf codeOf numberOf value
+left-by-another-field κs x r s p e = p ∙ ap (traceOf FIX) e
 
 -- after 02 and then 10 both marks are set
 pub marks-before-lost : (κs : _) (x : _) (r : _) (s : _) → marks-read.Post κs (AMENDMENT, (1, (x, tt))) r s → now x ≡ bytes "10" → r ≡ 129

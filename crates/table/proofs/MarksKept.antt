@@ -14,7 +14,7 @@ use borrow.Author.Tests.{eqb-true, eqb-false}
 use Rattle.text.proofs.Logic.{and-left, true-false, not-holds}
 use Rattle.rules.specs.Form.{isPosition}
 use Rattle.rules.specs.Kind.{FIX, AMENDMENT}
-use Rattle.table.specs.Field.{markOf, markText, isMark, isOne, readIn, leftOf, marksOf, follows, isValue, shown}
+use Rattle.table.specs.Field.{markOf, markText, isMark, isOne, readIn, traceOf, marksOf, follows, isValue, shown}
 use Rattle.table.specs.declared.kinds.Value.{Value}
 use Rattle.table.specs.declared.kinds.FieldRead.the-variants as field
 use Rattle.table.proofs.FieldLaws.{in-sound}
@@ -29,11 +29,11 @@ times k [] = 0
 times k (j ∷ ks) = cond (eqb j k) (suc (times k ks)) (times k ks)
 
 -- the mark 128 is left by its number only
-pub left-route : (k : ℕ) (s : List ℕ) → eqb (leftOf k s) 128 ≡ cond (eqb k AMENDMENT) (eqb (markOf s) 128) false
-unfolding leftOf
+pub left-route : (k : ℕ) (s : List ℕ) → eqb (traceOf k s) 128 ≡ cond (eqb k AMENDMENT) (eqb (markOf s) 128) false
+unfolding traceOf
 left-route k s = go (eqb k AMENDMENT) refl (eqb k FIX && isPosition s) refl
   where
-    go : (b : Bool) → eqb k AMENDMENT ≡ b → (c : Bool) → (eqb k FIX && isPosition s) ≡ c → eqb (leftOf k s) 128 ≡ cond (eqb k AMENDMENT) (eqb (markOf s) 128) false
+    go : (b : Bool) → eqb k AMENDMENT ≡ b → (c : Bool) → (eqb k FIX && isPosition s) ≡ c → eqb (traceOf k s) 128 ≡ cond (eqb k AMENDMENT) (eqb (markOf s) 128) false
     go true q c z = rw q
     go false q true z = rw (q, z)
     go false q false z = rw (q, z)
@@ -47,9 +47,9 @@ pub record Step (k m : ℕ) (s : List ℕ) : Type 0 where
   pub small : marksOf k m s < 256
   pub count : ones (marksOf k m s) ≡ cond (eqb k AMENDMENT) (suc (ones m)) (ones m)
   pub keeps : routeless m ≡ false → routeless (marksOf k m s) ≡ false
-  pub sets : eqb (leftOf k s) 128 ≡ true → routeless (marksOf k m s) ≡ false
-  pub other : routeless m ≡ true → eqb (leftOf k s) 128 ≡ false → routeless (marksOf k m s) ≡ true
-  pub fresh : routeless m ≡ false → eqb (leftOf k s) 128 ≡ false
+  pub sets : eqb (traceOf k s) 128 ≡ true → routeless (marksOf k m s) ≡ false
+  pub other : routeless m ≡ true → eqb (traceOf k s) 128 ≡ false → routeless (marksOf k m s) ≡ true
+  pub fresh : routeless m ≡ false → eqb (traceOf k s) 128 ≡ false
 
 -- a number that is read has a mark, which is not in the set yet
 number-read : (k p m : ℕ) (s : List ℕ) (v : Value) → eqb k AMENDMENT ≡ true → readIn k p m s ≡ field.Read v → (isMark (markOf s) ≡ true) × (bitAnd m (markOf s) ≡ 0)
@@ -74,17 +74,17 @@ step k p m s v l e = go (eqb k AMENDMENT) refl
     go true q =
         let x = number-read k p m s v q e in
         let y = set-more m (markOf s) l (x .0) (x .1) in
-        let is : eqb (leftOf k s) 128 ≡ eqb (markOf s) 128 = left-route k s ∙ rw q in
+        let is : eqb (traceOf k s) 128 ≡ eqb (markOf s) 128 = left-route k s ∙ rw q in
         record {
           small = rw q (y .0);
           count = rw q (y .1);
           keeps = λ h. rw q (set-keeps m (markOf s) l (x .0) h);
           sets = λ h. rw q (set-route m (markOf s) l (sym is ∙ h));
           other = λ h g. rw q (set-other m (markOf s) l (x .0) (sym is ∙ g) h);
-          fresh = λ h. not-holds (eqb (leftOf k s) 128) (λ g. eqb-false (bitAnd m 128) 0 h (rw (eqb-true (markOf s) 128 (sym is ∙ g)) at (x .1)));
+          fresh = λ h. not-holds (eqb (traceOf k s) 128) (λ g. eqb-false (bitAnd m 128) 0 h (rw (eqb-true (markOf s) 128 (sym is ∙ g)) at (x .1)));
         }
     go false q =
-        let is : eqb (leftOf k s) 128 ≡ false = left-route k s ∙ rw q in
+        let is : eqb (traceOf k s) 128 ≡ false = left-route k s ∙ rw q in
         record { small = rw q l; count = rw q; keeps = λ h. rw q h; sets = λ h. true-false h is; other = λ h g. rw q h; fresh = λ h. is }
 
 -- the marks that are set in the end: one more for each number
@@ -95,7 +95,7 @@ marks-number i t (k ∷ ks) p m [] u n l h e = absurd (omega arith)
 marks-number i t (k ∷ ks) p m (f ∷ fs) u n l h e =
     let c = taken-more i t k ks p m f fs u n e in
     let s = step k p m f (c .0) l (c .1) in
-    let x = marks-number (suc i) t ks (leftOf k f) (marksOf k m f) fs u n (s .small) (suc-inj h) (c .2) in
+    let x = marks-number (suc i) t ks (traceOf k f) (marksOf k m f) fs u n (s .small) (suc-inj h) (c .2) in
     (x .0, go (eqb k AMENDMENT) refl (s .count) (x .1))
   where
     go : (b : Bool) → eqb k AMENDMENT ≡ b → ones (marksOf k m f) ≡ cond (eqb k AMENDMENT) (suc (ones m)) (ones m) → ones n ≡ times AMENDMENT ks + ones (marksOf k m f) → ones n ≡ times AMENDMENT (k ∷ ks) + ones m
@@ -110,4 +110,4 @@ marks-stay i t (k ∷ ks) p m [] u n l h e = let z : m ≡ n = cc in rw z at h
 marks-stay i t (k ∷ ks) p m (f ∷ fs) u n l h e =
     let c = taken-more i t k ks p m f fs u n e in
     let s = step k p m f (c .0) l (c .1) in
-    marks-stay (suc i) t ks (leftOf k f) (marksOf k m f) fs u n (s .small) (s .keeps h) (c .2)
+    marks-stay (suc i) t ks (traceOf k f) (marksOf k m f) fs u n (s .small) (s .keeps h) (c .2)

@@ -9,10 +9,10 @@ use lib.ListN.{length, take}
 use Rattle.text.proofs.Logic.{true-false}
 use Rattle.table.specs.Spacing.{bodyOf, allFields, Split, Fields, Wrong, fieldsOf}
 use Rattle.table.proofs.SpacingLaws.{fields-text, fields-body}
-use Rattle.table.specs.Field.{readIn, leftOf, marksOf}
+use Rattle.table.specs.Field.{readIn, traceOf, marksOf}
 use Rattle.table.specs.declared.kinds.FieldRead.{FieldRead}
 use Rattle.table.specs.declared.kinds.FieldRead.the-variants as field
-use Rattle.table.specs.Fault.{leftAfter, marksAfter, First}
+use Rattle.table.specs.Fault.{traceAfter, marksAfter, First}
 use Rattle.table.specs.Read.{more, valuesFrom, faultAt, orElse, answerFrom, counted, answers, answerOf}
 use Rattle.table.specs.declared.walk.Answer.{Answer}
 use Rattle.table.specs.declared.walk.Answer.the-variants.{Refused}
@@ -24,9 +24,9 @@ no-spacing : (i : ℕ) (t : Bool) (ks : List ℕ) (p m : ℕ) (fs : List (List �
 unfolding answerFrom
 no-spacing i t [] p m fs e = not-taken t m Spacing (sym e)
 no-spacing i t (k ∷ ks) p m [] e = not-taken t m Spacing (sym e)
-no-spacing i t (k ∷ ks) p m (f ∷ fs) e = go (readIn k p m f) refl (no-spacing (suc i) t ks (leftOf k f) (marksOf k m f) fs)
+no-spacing i t (k ∷ ks) p m (f ∷ fs) e = go (readIn k p m f) refl (no-spacing (suc i) t ks (traceOf k f) (marksOf k m f) fs)
   where
-    go : (a : FieldRead) → readIn k p m f ≡ a → (answerFrom (suc i) t ks (leftOf k f) (marksOf k m f) fs ≡ Refused Spacing → ⊥) → ⊥
+    go : (a : FieldRead) → readIn k p m f ≡ a → (answerFrom (suc i) t ks (traceOf k f) (marksOf k m f) fs ≡ Refused Spacing → ⊥) → ⊥
     go (field.Read v) q ih = ih (rw q at e)
     go field.Nothing q ih = let d : Refused (Field i) ≡ Refused Spacing = rw q at e in let z : _≡_ {A = ℕ} 0 1 = cc in omega arith
     go field.Number q ih = let d : Refused (Number i) ≡ Refused Spacing = rw q at e in let z : _≡_ {A = ℕ} 0 1 = cc in omega arith
@@ -90,17 +90,17 @@ or-fault n field.Two rest h = refl
 -- 4. a fault is that of the first field that is not read
 fault-first : (n : ℕ) (t : Bool) (ks : List ℕ) (p m : ℕ) (fs : List (List ℕ)) (j : ℕ) (a : FieldRead) → isFault a ≡ true → answerFrom n t ks p m fs ≡ Refused (faultAt j a)
     → let i = length (valuesFrom ks p m fs) in (j ≡ n + i) × First ks p m fs i a
-unfolding answerFrom valuesFrom leftAfter marksAfter
+unfolding answerFrom valuesFrom traceAfter marksAfter
 fault-first n t [] p m fs j a h e = not-taken t m (faultAt j a) (sym e)
 fault-first n t (k ∷ ks) p m [] j a h e = not-taken t m (faultAt j a) (sym e)
-fault-first n t (k ∷ ks) p m (f ∷ fs) j a h e = go (readIn k p m f) refl (fault-first (suc n) t ks (leftOf k f) (marksOf k m f) fs j a h)
+fault-first n t (k ∷ ks) p m (f ∷ fs) j a h e = go (readIn k p m f) refl (fault-first (suc n) t ks (traceOf k f) (marksOf k m f) fs j a h)
   where
     none : (b : FieldRead) → isFault b ≡ true → readIn k p m f ≡ b → length (valuesFrom (k ∷ ks) p m (f ∷ fs)) ≡ 0 → Refused (faultAt n b) ≡ Refused (faultAt j a)
         → let i = length (valuesFrom (k ∷ ks) p m (f ∷ fs)) in (j ≡ n + i) × First (k ∷ ks) p m (f ∷ fs) i a
     none b g q z d = let x = fault-same n j a b h g d in (omega (arith, x .0, z), rw z (record { inside = omega arith; earlier = refl; here = q ∙ x .1 }))
 
     go : (b : FieldRead) → readIn k p m f ≡ b
-        → (answerFrom (suc n) t ks (leftOf k f) (marksOf k m f) fs ≡ Refused (faultAt j a) → let i = length (valuesFrom ks (leftOf k f) (marksOf k m f) fs) in (j ≡ suc n + i) × First ks (leftOf k f) (marksOf k m f) fs i a)
+        → (answerFrom (suc n) t ks (traceOf k f) (marksOf k m f) fs ≡ Refused (faultAt j a) → let i = length (valuesFrom ks (traceOf k f) (marksOf k m f) fs) in (j ≡ suc n + i) × First ks (traceOf k f) (marksOf k m f) fs i a)
         → let i = length (valuesFrom (k ∷ ks) p m (f ∷ fs)) in (j ≡ n + i) × First (k ∷ ks) p m (f ∷ fs) i a
     go (field.Read v) q ih =
         let x = ih (rw q at e) in
@@ -111,22 +111,22 @@ fault-first n t (k ∷ ks) p m (f ∷ fs) j a h e = go (readIn k p m f) refl (fa
     go field.Two q ih = none field.Two refl q (rw q) (rw q at e)
 
 first-fault : (n : ℕ) (t : Bool) (ks : List ℕ) (p m : ℕ) (fs : List (List ℕ)) (i : ℕ) (a : FieldRead) → isFault a ≡ true → length fs ≡ length ks → First ks p m fs i a → answerFrom n t ks p m fs ≡ Refused (faultAt (n + i) a)
-unfolding answerFrom valuesFrom leftAfter marksAfter
+unfolding answerFrom valuesFrom traceAfter marksAfter
 first-fault n t [] p m fs i a h e g = absurd (omega (arith, g .inside))
 first-fault n t (k ∷ ks) p m [] i a h e g = absurd (omega arith)
 first-fault n t (k ∷ ks) p m (f ∷ fs) zero a h e g =
     let q : readIn k p m f ≡ a = g .here in
     let z : n + 0 ≡ n = omega arith in
-    rw (q, z) (or-fault n a (answerFrom (suc n) t ks (leftOf k f) (marksOf k m f) fs) h)
-first-fault n t (k ∷ ks) p m (f ∷ fs) (suc i) a h e g = go (readIn k p m f) refl (first-fault (suc n) t ks (leftOf k f) (marksOf k m f) fs i a h (suc-inj e))
+    rw (q, z) (or-fault n a (answerFrom (suc n) t ks (traceOf k f) (marksOf k m f) fs) h)
+first-fault n t (k ∷ ks) p m (f ∷ fs) (suc i) a h e g = go (readIn k p m f) refl (first-fault (suc n) t ks (traceOf k f) (marksOf k m f) fs i a h (suc-inj e))
   where
-    l : length (more (readIn k p m f) (valuesFrom (take i ks) (leftOf k f) (marksOf k m f) (take i fs))) ≡ suc i
+    l : length (more (readIn k p m f) (valuesFrom (take i ks) (traceOf k f) (marksOf k m f) (take i fs))) ≡ suc i
     l = g .earlier
 
-    go : (b : FieldRead) → readIn k p m f ≡ b → (First ks (leftOf k f) (marksOf k m f) fs i a → answerFrom (suc n) t ks (leftOf k f) (marksOf k m f) fs ≡ Refused (faultAt (suc n + i) a))
+    go : (b : FieldRead) → readIn k p m f ≡ b → (First ks (traceOf k f) (marksOf k m f) fs i a → answerFrom (suc n) t ks (traceOf k f) (marksOf k m f) fs ≡ Refused (faultAt (suc n + i) a))
         → answerFrom n t (k ∷ ks) p m (f ∷ fs) ≡ Refused (faultAt (n + suc i) a)
     go (field.Read v) q ih =
-        let d : suc (length (valuesFrom (take i ks) (leftOf k f) (marksOf k m f) (take i fs))) ≡ suc i = rw q at l in
+        let d : suc (length (valuesFrom (take i ks) (traceOf k f) (marksOf k m f) (take i fs))) ≡ suc i = rw q at l in
         let z : n + suc i ≡ suc n + i = omega arith in
         rw (q, z) (ih (record { inside = omega (arith, g .inside); earlier = suc-inj d; here = g .here }))
     go field.Nothing q ih = let d : 0 ≡ suc i = rw q at l in absurd (omega arith)

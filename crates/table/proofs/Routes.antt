@@ -14,7 +14,7 @@ use Rattle.text.proofs.Logic.{and-left, and-right, true-false, not-fails, not-h
 use Rattle.rules.specs.Form.{isRoute}
 use Rattle.rules.specs.Kind.{AMENDMENT}
 use Rattle.table.specs.Spacing.{bodyOf}
-use Rattle.table.specs.Field.{ROUTE, PLAN-TIME, CONTENT, contentOf, plain, leftOf, marksOf, shown, shownKind}
+use Rattle.table.specs.Field.{ROUTE, PLAN-TIME, CONTENT, contentOf, plain, traceOf, marksOf, shown, shownKind}
 use Rattle.table.specs.declared.kinds.Value.{Value}
 use Rattle.table.specs.Read.{answerFrom, answerOf, valuesOf, routeIn, routeOf}
 use Rattle.table.specs.Show.{textsFrom, allowedFrom, marksFrom, routed}
@@ -92,16 +92,16 @@ route-text k p r v e = go (eqb k AMENDMENT) refl
 unfoldable pub routedIn : List ℕ → ℕ → List (List ℕ) → Bool
 routedIn [] p fs = false
 routedIn (k ∷ ks) p [] = false
-routedIn (k ∷ ks) p (f ∷ fs) = cond (eqb (plain k p) ROUTE) true (routedIn ks (leftOf k f) fs)
+routedIn (k ∷ ks) p (f ∷ fs) = cond (eqb (plain k p) ROUTE) true (routedIn ks (traceOf k f) fs)
 
 -- where none is, every route is r, whatever r is
 none-are : (ks : List ℕ) (p : ℕ) (r : List ℕ) (fs : List (List ℕ)) → routedIn ks p fs ≡ false → routesAre ks p r fs
 unfolding routedIn
 none-are [] p r fs e = tt
 none-are (k ∷ ks) p r [] e = tt
-none-are (k ∷ ks) p r (f ∷ fs) e = go (eqb (plain k p) ROUTE) refl (none-are ks (leftOf k f) r fs)
+none-are (k ∷ ks) p r (f ∷ fs) e = go (eqb (plain k p) ROUTE) refl (none-are ks (traceOf k f) r fs)
   where
-    go : (b : Bool) → eqb (plain k p) ROUTE ≡ b → (routedIn ks (leftOf k f) fs ≡ false → routesAre ks (leftOf k f) r fs) → (eqb (plain k p) ROUTE ≡ true → r ≡ f) × routesAre ks (leftOf k f) r fs
+    go : (b : Bool) → eqb (plain k p) ROUTE ≡ b → (routedIn ks (traceOf k f) fs ≡ false → routesAre ks (traceOf k f) r fs) → (eqb (plain k p) ROUTE ≡ true → r ≡ f) × routesAre ks (traceOf k f) r fs
     go true q ih = let d : true ≡ false = rw q at e in true-false refl d
     go false q ih = ((λ h. true-false h q), ih (rw q at e))
 
@@ -110,9 +110,9 @@ pub none-found : (ks : List ℕ) (p : ℕ) (fs : List (List ℕ)) → routedIn k
 unfolding routedIn routeIn
 none-found [] p fs e = refl
 none-found (k ∷ ks) p [] e = refl
-none-found (k ∷ ks) p (f ∷ fs) e = go (eqb (plain k p) ROUTE) refl (none-found ks (leftOf k f) fs)
+none-found (k ∷ ks) p (f ∷ fs) e = go (eqb (plain k p) ROUTE) refl (none-found ks (traceOf k f) fs)
   where
-    go : (b : Bool) → eqb (plain k p) ROUTE ≡ b → (routedIn ks (leftOf k f) fs ≡ false → routeIn ks (leftOf k f) fs ≡ []) → routeIn (k ∷ ks) p (f ∷ fs) ≡ []
+    go : (b : Bool) → eqb (plain k p) ROUTE ≡ b → (routedIn ks (traceOf k f) fs ≡ false → routeIn ks (traceOf k f) fs ≡ []) → routeIn (k ∷ ks) p (f ∷ fs) ≡ []
     go true q ih = let d : true ≡ false = rw q at e in true-false refl d
     go false q ih = rw q (ih (rw q at e))
 
@@ -121,9 +121,9 @@ pub found-visible : (ks : List ℕ) (p : ℕ) (fs : List (List ℕ)) → allVisi
 unfolding routedIn routeIn allVisible
 found-visible [] p fs v e = true-false e refl
 found-visible (k ∷ ks) p [] v e = true-false e refl
-found-visible (k ∷ ks) p (f ∷ fs) v e = go (eqb (plain k p) ROUTE) refl (found-visible ks (leftOf k f) fs (and-right (isRoute f) (allVisible fs) v))
+found-visible (k ∷ ks) p (f ∷ fs) v e = go (eqb (plain k p) ROUTE) refl (found-visible ks (traceOf k f) fs (and-right (isRoute f) (allVisible fs) v))
   where
-    go : (b : Bool) → eqb (plain k p) ROUTE ≡ b → (routedIn ks (leftOf k f) fs ≡ true → isRoute (routeIn ks (leftOf k f) fs) ≡ true) → isRoute (routeIn (k ∷ ks) p (f ∷ fs)) ≡ true
+    go : (b : Bool) → eqb (plain k p) ROUTE ≡ b → (routedIn ks (traceOf k f) fs ≡ true → isRoute (routeIn ks (traceOf k f) fs) ≡ true) → isRoute (routeIn (k ∷ ks) p (f ∷ fs)) ≡ true
     go true q ih = rw q (and-left (isRoute f) (allVisible fs) v)
     go false q ih = rw q (ih (rw q at e))
 
@@ -144,7 +144,7 @@ no-letters (k ∷ ks) p (f ∷ fs) e h =
     let a = none-more ROUTE k ks e in
     let c = none-more CONTENT k ks h in
     let z : eqb (plain k p) ROUTE ≡ false = plain-route k p ∙ rw (c .0, a .0) in
-    rw z (no-letters ks (leftOf k f) fs (a .1) (c .1))
+    rw z (no-letters ks (traceOf k f) fs (a .1) (c .1))
 
 -- none once the mark of the route is set, and its content past: "no number comes twice"
 none-after : (i : ℕ) (t : Bool) (ks : List ℕ) (p m : ℕ) (fs : List (List ℕ)) (u : Bool) (n : ℕ) → m < 256 → times ROUTE ks ≡ 0 → routeless m ≡ false → eqb p 128 ≡ false → answerFrom i t ks p m fs ≡ Taken u n → routedIn ks p fs ≡ false
@@ -155,7 +155,7 @@ none-after i t (k ∷ ks) p m (f ∷ fs) u n l a h g e =
     let c = taken-more i t k ks p m f fs u n e in
     let s = step k p m f (c .0) l (c .1) in
     let b = none-more ROUTE k ks a in
-    rw (not-route k p (b .0) g) (none-after (suc i) t ks (leftOf k f) (marksOf k m f) fs u n (s .small) (b .1) (s .keeps h) (s .fresh h) (c .2))
+    rw (not-route k p (b .0) g) (none-after (suc i) t ks (traceOf k f) (marksOf k m f) fs u n (s .small) (b .1) (s .keeps h) (s .fresh h) (c .2))
 
 -- the route of an amendment
 content-routes : (i : ℕ) (t : Bool) (ks : List ℕ) (p m : ℕ) (fs : List (List ℕ)) (u : Bool) (n : ℕ) → m < 256 → times ROUTE ks ≡ 0 → (eqb p 128 ≡ true → routeless m ≡ false) → answerFrom i t ks p m fs ≡ Taken u n → routesAre ks p (routeIn ks p fs) fs
@@ -166,14 +166,14 @@ content-routes i t (k ∷ ks) p m (f ∷ fs) u n l a h e =
     let c = taken-more i t k ks p m f fs u n e in
     let s = step k p m f (c .0) l (c .1) in
     let b = none-more ROUTE k ks a in
-    go (eqb (plain k p) ROUTE) refl (b .0) (λ g. none-after (suc i) t ks (leftOf k f) (marksOf k m f) fs u n (s .small) (b .1) (s .keeps g) (s .fresh g) (c .2))
-    (content-routes (suc i) t ks (leftOf k f) (marksOf k m f) fs u n (s .small) (b .1) (s .sets) (c .2))
+    go (eqb (plain k p) ROUTE) refl (b .0) (λ g. none-after (suc i) t ks (traceOf k f) (marksOf k m f) fs u n (s .small) (b .1) (s .keeps g) (s .fresh g) (c .2))
+    (content-routes (suc i) t ks (traceOf k f) (marksOf k m f) fs u n (s .small) (b .1) (s .sets) (c .2))
   where
-    go : (b : Bool) → eqb (plain k p) ROUTE ≡ b → eqb k ROUTE ≡ false → (routeless m ≡ false → routedIn ks (leftOf k f) fs ≡ false) → routesAre ks (leftOf k f) (routeIn ks (leftOf k f) fs) fs
-        → (eqb (plain k p) ROUTE ≡ true → routeIn (k ∷ ks) p (f ∷ fs) ≡ f) × routesAre ks (leftOf k f) (routeIn (k ∷ ks) p (f ∷ fs)) fs
+    go : (b : Bool) → eqb (plain k p) ROUTE ≡ b → eqb k ROUTE ≡ false → (routeless m ≡ false → routedIn ks (traceOf k f) fs ≡ false) → routesAre ks (traceOf k f) (routeIn ks (traceOf k f) fs) fs
+        → (eqb (plain k p) ROUTE ≡ true → routeIn (k ∷ ks) p (f ∷ fs) ≡ f) × routesAre ks (traceOf k f) (routeIn (k ∷ ks) p (f ∷ fs)) fs
     go true q z none ih =
         let g = not-fails (eqb p 128) (λ x. true-false q (not-route k p z x)) in
-        ((λ x. rw q), none-are ks (leftOf k f) (routeIn (k ∷ ks) p (f ∷ fs)) fs (none (h g)))
+        ((λ x. rw q), none-are ks (traceOf k f) (routeIn (k ∷ ks) p (f ∷ fs)) fs (none (h g)))
     go false q z none ih = ((λ x. true-false x q), rw q ih)
 
 -- the route by its letter
@@ -184,13 +184,13 @@ letter-routes (k ∷ ks) p [] a h = tt
 letter-routes (k ∷ ks) p (f ∷ fs) a h =
     let c = none-more CONTENT k ks h in
     let z : eqb (plain k p) ROUTE ≡ eqb k ROUTE = plain-route k p ∙ rw (c .0) in
-    go (eqb k ROUTE) refl z (λ l. no-letters ks (leftOf k f) fs l (c .1)) (λ l. letter-routes ks (leftOf k f) fs l (c .1))
+    go (eqb k ROUTE) refl z (λ l. no-letters ks (traceOf k f) fs l (c .1)) (λ l. letter-routes ks (traceOf k f) fs l (c .1))
   where
-    go : (b : Bool) → eqb k ROUTE ≡ b → eqb (plain k p) ROUTE ≡ eqb k ROUTE → (times ROUTE ks ≡ 0 → routedIn ks (leftOf k f) fs ≡ false) → (times ROUTE ks ≤ 1 → routesAre ks (leftOf k f) (routeIn ks (leftOf k f) fs) fs)
-        → (eqb (plain k p) ROUTE ≡ true → routeIn (k ∷ ks) p (f ∷ fs) ≡ f) × routesAre ks (leftOf k f) (routeIn (k ∷ ks) p (f ∷ fs)) fs
+    go : (b : Bool) → eqb k ROUTE ≡ b → eqb (plain k p) ROUTE ≡ eqb k ROUTE → (times ROUTE ks ≡ 0 → routedIn ks (traceOf k f) fs ≡ false) → (times ROUTE ks ≤ 1 → routesAre ks (traceOf k f) (routeIn ks (traceOf k f) fs) fs)
+        → (eqb (plain k p) ROUTE ≡ true → routeIn (k ∷ ks) p (f ∷ fs) ≡ f) × routesAre ks (traceOf k f) (routeIn (k ∷ ks) p (f ∷ fs)) fs
     go true q z none ih =
         let l : suc (times ROUTE ks) ≤ 1 = rw q at a in
-        ((λ x. rw (z, q)), none-are ks (leftOf k f) (routeIn (k ∷ ks) p (f ∷ fs)) fs (none (omega arith)))
+        ((λ x. rw (z, q)), none-are ks (traceOf k f) (routeIn (k ∷ ks) p (f ∷ fs)) fs (none (omega arith)))
     go false q z none ih = let l : times ROUTE ks ≤ 1 = rw q at a in ((λ x. true-false x (z ∙ q)), rw (z, q) (ih l))
 
 -- 5. where a list of kinds has one route at most, the one that is found is the only one
@@ -210,16 +210,16 @@ pub routed-texts : (ks : List ℕ) (p : ℕ) (r : List ℕ) (vs : List Value) �
 unfolding routedIn textsFrom routed
 routed-texts [] p r vs = refl
 routed-texts (k ∷ ks) p r [] = refl
-routed-texts (k ∷ ks) p r (v ∷ vs) = rw (routed-texts ks (leftOf k (shown k p r v)) r vs)
+routed-texts (k ∷ ks) p r (v ∷ vs) = rw (routed-texts ks (traceOf k (shown k p r v)) r vs)
 
 -- 6. the route that stands beside the values is the one that is found among their texts
 pub route-shown : (ks : List ℕ) (p : ℕ) (r : List ℕ) (vs : List Value) → routeIn ks p (textsFrom ks p r vs) ≡ cond (routed ks p r vs) r []
 unfolding routeIn textsFrom routed
 route-shown [] p r vs = refl
 route-shown (k ∷ ks) p r [] = refl
-route-shown (k ∷ ks) p r (v ∷ vs) = go (eqb (plain k p) ROUTE) refl (route-shown ks (leftOf k (shown k p r v)) r vs)
+route-shown (k ∷ ks) p r (v ∷ vs) = go (eqb (plain k p) ROUTE) refl (route-shown ks (traceOf k (shown k p r v)) r vs)
   where
-    go : (b : Bool) → eqb (plain k p) ROUTE ≡ b → routeIn ks (leftOf k (shown k p r v)) (textsFrom ks (leftOf k (shown k p r v)) r vs) ≡ cond (routed ks (leftOf k (shown k p r v)) r vs) r []
+    go : (b : Bool) → eqb (plain k p) ROUTE ≡ b → routeIn ks (traceOf k (shown k p r v)) (textsFrom ks (traceOf k (shown k p r v)) r vs) ≡ cond (routed ks (traceOf k (shown k p r v)) r vs) r []
         → routeIn (k ∷ ks) p (textsFrom (k ∷ ks) p r (v ∷ vs)) ≡ cond (routed (k ∷ ks) p r (v ∷ vs)) r []
     go true q ih = rw q (route-text k p r v q)
     go false q ih = rw q ih
@@ -240,12 +240,12 @@ pub routed-letter : (ks : List ℕ) (p : ℕ) (r : List ℕ) (vs : List Value) �
 unfolding routed times
 routed-letter [] p r vs h l = absurd (omega arith)
 routed-letter (k ∷ ks) p r [] h l = absurd (omega arith)
-routed-letter (k ∷ ks) p r (v ∷ vs) h l = go (eqb (plain k p) ROUTE) refl (routed-letter ks (leftOf k (shown k p r v)) r vs (suc-inj h))
+routed-letter (k ∷ ks) p r (v ∷ vs) h l = go (eqb (plain k p) ROUTE) refl (routed-letter ks (traceOf k (shown k p r v)) r vs (suc-inj h))
   where
     other : eqb (plain k p) ROUTE ≡ false → eqb k ROUTE ≡ false
     other q = not-holds (eqb k ROUTE) (λ x. let z : plain k p ≡ ROUTE = rw (eqb-true k ROUTE x) (plain-letter p) in true-false (eq-eqb (plain k p) ROUTE z) q)
 
-    go : (b : Bool) → eqb (plain k p) ROUTE ≡ b → (0 < times ROUTE ks → routed ks (leftOf k (shown k p r v)) r vs ≡ true) → routed (k ∷ ks) p r (v ∷ vs) ≡ true
+    go : (b : Bool) → eqb (plain k p) ROUTE ≡ b → (0 < times ROUTE ks → routed ks (traceOf k (shown k p r v)) r vs ≡ true) → routed (k ∷ ks) p r (v ∷ vs) ≡ true
     go true q ih = rw q
     go false q ih = let d : 0 < times ROUTE ks = rw (other q) at l in rw q (ih d)
 

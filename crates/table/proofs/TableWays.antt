@@ -13,7 +13,7 @@ use Rattle.fields.specs.declared.heads.MessageType.the-variants.{Af}
 use Rattle.table.specs.Spacing.{fieldsOf, fieldsIn, countOf}
 use Rattle.table.specs.declared.spacing.Counted.the-variants as counted
 use Rattle.table.proofs.SpacingLaws.{count-known}
-use Rattle.table.specs.Field.{plain, leftOf}
+use Rattle.table.specs.Field.{plain, traceOf}
 use Rattle.table.specs.Read.{Ready, padded, answerOf, valuesOf, routeIn, routeOf}
 use Rattle.table.specs.declared.walk.Answer.the-variants.{Refused}
 use Rattle.table.specs.declared.walk.Fault.the-variants.{Spacing}
@@ -74,13 +74,13 @@ dots-route : (n p : ℕ) (fs : List (List ℕ)) → routeIn (replicate n (code "
 unfolding plain
 dots-route zero p fs = route-no-kinds p fs
 dots-route (suc n) p [] = route-no-fields (replicate (suc n) (code ".")) p
-dots-route (suc n) p (f ∷ fs) = route-later (code ".") (replicate n (code ".")) p f fs (λ e. omega arith) ∙ dots-route n (leftOf (code ".") f) fs
+dots-route (suc n) p (f ∷ fs) = route-later (code ".") (replicate n (code ".")) p f fs (λ e. omega arith) ∙ dots-route n (traceOf (code ".") f) fs
 
 route-dots : (ks : List ℕ) (n p : ℕ) (fs : List (List ℕ)) → routeIn (ks ++ replicate n (code ".")) p fs ≡ routeIn ks p fs
 unfolding routeIn
 route-dots [] n p fs = dots-route n p fs ∙ sym (route-no-kinds p fs)
 route-dots (k ∷ ks) n p [] = refl
-route-dots (k ∷ ks) n p (f ∷ fs) = rw (route-dots ks n (leftOf k f) fs)
+route-dots (k ∷ ks) n p (f ∷ fs) = rw (route-dots ks n (traceOf k f) fs)
 
 pub route-dotted : (t : MessageType) (s : List ℕ) → routeOf (dotted t) s ≡ routeBy t s
 unfolding dotted routeOf routeBy

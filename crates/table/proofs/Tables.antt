@@ -12,7 +12,7 @@ use Rattle.text.proofs.Logic.{and-left, and-right}
 use Rattle.rules.specs.Kind.{AMENDMENT}
 use Rattle.fields.specs.declared.heads.MessageType.{MessageType}
 use Rattle.fields.specs.declared.heads.MessageType.the-variants.{Af, Az, Dz, Fz, Rz, Tz, Uz, Rt, To, Hb}
-use Rattle.table.specs.Field.{leftOf, marksOf, shown}
+use Rattle.table.specs.Field.{traceOf, marksOf, shown}
 use Rattle.table.specs.declared.kinds.Value.{Value}
 use Rattle.table.specs.Show.{allowedFrom, marksFrom, routed}
 use Rattle.table.proofs.MarksKept.{times}
@@ -99,7 +99,7 @@ no-marks [] p m r vs e = refl
 no-marks (k ∷ ks) p m r [] e = refl
 no-marks (k ∷ ks) p m r (v ∷ vs) e =
     let h = none-more AMENDMENT k ks e in
-    rw (h .0) (no-marks ks (leftOf k (shown k p r v)) m r vs (h .1))
+    rw (h .0) (no-marks ks (traceOf k (shown k p r v)) m r vs (h .1))
 
 -- only a type with amendments keeps marks
 abbrev pub marksKept : MessageType → ℕ → ℕ

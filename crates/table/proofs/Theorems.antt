@@ -17,7 +17,7 @@ use Rattle.shapes.specs.Picture.{isOf}
 use Rattle.rules.specs.Form.{isRoute}
 use Rattle.table.specs.Spacing.{bodyOf, allFields, Split, Fields, Wrong, fieldsOf}
 use Rattle.table.proofs.SpacingLaws.{fields-text, fields-body, visible-field}
-use Rattle.table.specs.Field.{ROUTE, readIn, plain, leftOf, marksOf, follows, isValue, shown}
+use Rattle.table.specs.Field.{ROUTE, readIn, plain, traceOf, marksOf, follows, isValue, shown}
 use Rattle.table.specs.declared.kinds.Value.{Value}
 use Rattle.table.specs.declared.kinds.FieldRead.{FieldRead}
 use Rattle.table.specs.declared.kinds.FieldRead.the-variants as field
@@ -35,7 +35,7 @@ use Rattle.table.specs.declared.walk.Fault.the-variants.{Spacing}
 abbrev pub routesAre : List ℕ → ℕ → List ℕ → List (List ℕ) → Type 0
 routesAre [] p r fs = Unit
 routesAre (k ∷ ks) p r [] = Unit
-routesAre (k ∷ ks) p r (f ∷ fs) = (eqb (plain k p) ROUTE ≡ true → r ≡ f) × routesAre ks (leftOf k f) r fs
+routesAre (k ∷ ks) p r (f ∷ fs) = (eqb (plain k p) ROUTE ≡ true → r ≡ f) × routesAre ks (traceOf k f) r fs
 
 -- each text is one or more bytes 33 to 126
 unfoldable pub allVisible : List (List ℕ) → Bool
@@ -137,7 +137,7 @@ pub record Sound (ks body : List ℕ) (t : Bool) (m : ℕ) : Type 0 where
 -- ---- the fields of a body that is taken
 
 shows-more : (k : ℕ) (ks : List ℕ) (p m : ℕ) (r : List ℕ) (v : Value) (vs : List Value) (f : List ℕ) (fs : List (List ℕ)) (n : ℕ) → isValue k p r v ≡ true → follows k p m f ≡ true → shown k p r v ≡ f
-    → Shows ks (leftOf k f) (marksOf k m f) r vs fs n → Shows (k ∷ ks) p m r (v ∷ vs) (f ∷ fs) n
+    → Shows ks (traceOf k f) (marksOf k m f) r vs fs n → Shows (k ∷ ks) p m r (v ∷ vs) (f ∷ fs) n
 unfolding allowedFrom textsFrom marksFrom
 shows-more k ks p m r v vs f fs n i g s h = record { allowed = rw (s, i, g, h .allowed); texts = rw (s, h .texts); marks = rw s (h .marks) }
 
@@ -147,11 +147,11 @@ not-taken u n x e = absurd (let z : _≡_ {A = ℕ} 0 1 = cc in omega arith)
 
 -- where all fields are read, the first is, and all others are
 pub taken-more : (i : ℕ) (t : Bool) (k : ℕ) (ks : List ℕ) (p m : ℕ) (f : List ℕ) (fs : List (List ℕ)) (u : Bool) (n : ℕ) → answerFrom i t (k ∷ ks) p m (f ∷ fs) ≡ Taken u n
-    → (v : Value) × (readIn k p m f ≡ field.Read v) × (answerFrom (suc i) t ks (leftOf k f) (marksOf k m f) fs ≡ Taken u n)
+    → (v : Value) × (readIn k p m f ≡ field.Read v) × (answerFrom (suc i) t ks (traceOf k f) (marksOf k m f) fs ≡ Taken u n)
 unfolding answerFrom
 taken-more i t k ks p m f fs u n e = go (readIn k p m f) refl
   where
-    go : (a : FieldRead) → readIn k p m f ≡ a → (v : Value) × (readIn k p m f ≡ field.Read v) × (answerFrom (suc i) t ks (leftOf k f) (marksOf k m f) fs ≡ Taken u n)
+    go : (a : FieldRead) → readIn k p m f ≡ a → (v : Value) × (readIn k p m f ≡ field.Read v) × (answerFrom (suc i) t ks (traceOf k f) (marksOf k m f) fs ≡ Taken u n)
     go (field.Read v) q = (v, q, rw q at e)
     go field.Nothing q = not-taken u n _ (rw q at e)
     go field.Number q = not-taken u n _ (rw q at e)
@@ -166,8 +166,8 @@ answer-taken i t (k ∷ ks) p m (f ∷ fs) u n h e =
     let c = taken-more i t k ks p m f fs u n e in
     let v = c .0 in
     let q = c .1 in
-    let x = answer-taken (suc i) t ks (leftOf k f) (marksOf k m f) fs u n (suc-inj h) (c .2) in
-    let vs = valuesFrom ks (leftOf k f) (marksOf k m f) fs in (
+    let x = answer-taken (suc i) t ks (traceOf k f) (marksOf k m f) fs u n (suc-inj h) (c .2) in
+    let vs = valuesFrom ks (traceOf k f) (marksOf k m f) fs in (
       x .0,
       record {
         count = rw q (ap suc (x .1 .count));
@@ -193,10 +193,10 @@ allowed-taken (k ∷ ks) p m r [] e = true-false e refl
 allowed-taken (k ∷ ks) p m r (v ∷ vs) e =
     let s = shown k p r v in
     let g = isValue k p r v && follows k p m s in
-    let a = allowedFrom ks (leftOf k s) (marksOf k m s) r vs in
+    let a = allowedFrom ks (traceOf k s) (marksOf k m s) r vs in
     let b = and-left g a e in
     let q = in-complete k p m r v (and-left (isValue k p r v) (follows k p m s) b) (and-right (isValue k p r v) (follows k p m s) b) in
-    let x = allowed-taken ks (leftOf k s) (marksOf k m s) r vs (and-right g a e) in
+    let x = allowed-taken ks (traceOf k s) (marksOf k m s) r vs (and-right g a e) in
     record {
       answer = λ i t. rw q (x .answer (suc i) t);
       values = rw (q, x .values);

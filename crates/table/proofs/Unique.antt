@@ -9,7 +9,7 @@ use Rattle.table.proofs.has_route.Reads as has-route
 use Rattle.table.proofs.is_count.Reads as is-count
 use Rattle.table.proofs.is_long_plan.Reads as is-long-plan
 use Rattle.table.proofs.kinds.follows.Reads as follows
-use Rattle.table.proofs.kinds.left.Reads as left
+use Rattle.table.proofs.kinds.trace.Reads as trace
 use Rattle.table.proofs.kinds.marks_after.Reads as marks-after
 use Rattle.table.proofs.kinds.plain.Reads as plain
 use Rattle.table.proofs.kinds_of.Reads as kinds-of
@@ -48,8 +48,8 @@ is-long-plan-one κs a r r′ s s′ p q = p ∙ sym q
 pub plain-one : (κs : _) (a : _) (r r′ : _) (s s′ : _) → plain.Post κs a r s → plain.Post κs a r′ s′ → r ≡ r′
 plain-one κs a r r′ s s′ p q = p ∙ sym q
 
-pub left-one : (κs : _) (a : _) (r r′ : _) (s s′ : _) → left.Post κs a r s → left.Post κs a r′ s′ → r ≡ r′
-left-one κs a r r′ s s′ p q = p ∙ sym q
+pub trace-one : (κs : _) (a : _) (r r′ : _) (s s′ : _) → trace.Post κs a r s → trace.Post κs a r′ s′ → r ≡ r′
+trace-one κs a r r′ s s′ p q = p ∙ sym q
 
 pub marks-after-one : (κs : _) (a : _) (r r′ : _) (s s′ : _) → marks-after.Post κs a r s → marks-after.Post κs a r′ s′ → r ≡ r′
 marks-after-one κs a r r′ s s′ p q = p ∙ sym q

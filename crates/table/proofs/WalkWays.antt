@@ -17,7 +17,7 @@ use borrow.Author.Tests.{eq-eqb, ne-eqb, le-leb}
 use Rattle.table.specs.Spacing.{Fields, fieldsOf, fieldsIn, countOf, endOf}
 use Rattle.table.specs.declared.spacing.Counted.the-variants as counting
 use Rattle.table.proofs.SpacingLaws.{rest, Turn, turn, split-rest, count-known, count-wrong}
-use Rattle.table.specs.Field.{ROUTE, readIn, plain, leftOf, marksOf}
+use Rattle.table.specs.Field.{ROUTE, readIn, plain, traceOf, marksOf}
 use Rattle.table.specs.declared.kinds.Value.{Value}
 use Rattle.table.specs.declared.kinds.FieldRead.{FieldRead}
 use Rattle.table.specs.declared.kinds.FieldRead.the-variants as field
@@ -69,18 +69,18 @@ not-one h = ⊎-elim (λ e. omega arith) (⊎-elim (λ e. omega arith) (λ e. om
 module _ (k : ℕ) (ks : List ℕ) (p m : ℕ) (f : List ℕ) (fs : List (List ℕ)) where
   -- it is read: the walk goes on
   pub answer-read : {v : Value} → readIn k p m f ≡ field.Read v → (i : ℕ) (t : Bool)
-      → answerFrom i t (k ∷ ks) p m (f ∷ fs) ≡ answerFrom (suc i) t ks (leftOf k f) (marksOf k m f) fs
+      → answerFrom i t (k ∷ ks) p m (f ∷ fs) ≡ answerFrom (suc i) t ks (traceOf k f) (marksOf k m f) fs
   unfolding answerFrom
   answer-read e i t = rw e
 
-  pub values-read : {v : Value} → readIn k p m f ≡ field.Read v → valuesFrom (k ∷ ks) p m (f ∷ fs) ≡ v ∷ valuesFrom ks (leftOf k f) (marksOf k m f) fs
+  pub values-read : {v : Value} → readIn k p m f ≡ field.Read v → valuesFrom (k ∷ ks) p m (f ∷ fs) ≡ v ∷ valuesFrom ks (traceOf k f) (marksOf k m f) fs
   unfolding valuesFrom
   values-read e = rw e
 
   -- it is not read, of which the code tells only the variant's number: its fault is the answer
   pub answer-stop : (x : FieldRead) → readIn k p m f ≡ x → OneOf (1 ∷ 2 ∷ 3 ∷ []) (tagOf the-type x) → (i : ℕ) (t : Bool) → Refused (faultAt i x) ≡ answerFrom i t (k ∷ ks) p m (f ∷ fs)
   unfolding answerFrom
-  answer-stop x e h i t = rw e (go x h (answerFrom (suc i) t ks (leftOf k f) (marksOf k m f) fs))
+  answer-stop x e h i t = rw e (go x h (answerFrom (suc i) t ks (traceOf k f) (marksOf k m f) fs))
     where
       go : (x : FieldRead) → OneOf (1 ∷ 2 ∷ 3 ∷ []) (tagOf the-type x) → (r : Answer) → Refused (faultAt i x) ≡ orElse i x r
       go (field.Read v) h r = absurd (not-one h)
@@ -90,7 +90,7 @@ module _ (k : ℕ) (ks : List ℕ) (p m : ℕ) (f : List ℕ) (fs : List (List �
 
   pub values-stop : (x : FieldRead) → readIn k p m f ≡ x → OneOf (1 ∷ 2 ∷ 3 ∷ []) (tagOf the-type x) → valuesFrom (k ∷ ks) p m (f ∷ fs) ≡ []
   unfolding valuesFrom
-  values-stop x e h = rw e (go x h (valuesFrom ks (leftOf k f) (marksOf k m f) fs))
+  values-stop x e h = rw e (go x h (valuesFrom ks (traceOf k f) (marksOf k m f) fs))
     where
       go : (x : FieldRead) → OneOf (1 ∷ 2 ∷ 3 ∷ []) (tagOf the-type x) → (vs : List Value) → more x vs ≡ []
       go (field.Read v) h vs = absurd (not-one h)
@@ -104,7 +104,7 @@ pub values-few : (ks : List ℕ) (p m : ℕ) (fs : List (List ℕ)) → length (
 unfolding valuesFrom
 values-few [] p m fs = omega arith
 values-few (k ∷ ks) p m [] = omega arith
-values-few (k ∷ ks) p m (f ∷ fs) = go (readIn k p m f) (valuesFrom ks (leftOf k f) (marksOf k m f) fs) (values-few ks (leftOf k f) (marksOf k m f) fs)
+values-few (k ∷ ks) p m (f ∷ fs) = go (readIn k p m f) (valuesFrom ks (traceOf k f) (marksOf k m f) fs) (values-few ks (traceOf k f) (marksOf k m f) fs)
   where
     go : (x : FieldRead) (vs : List Value) → length vs ≤ length ks → length (more x vs) ≤ suc (length ks)
     go (field.Read v) vs h = omega arith
@@ -160,7 +160,7 @@ module _ (k : ℕ) (ks : List ℕ) (p : ℕ) (f : List ℕ) (fs : List (List ℕ
   unfolding routeIn
   route-here e = rw (eq-eqb (plain k p) ROUTE e)
 
-  pub route-later : (plain k p ≡ ROUTE → ⊥) → routeIn (k ∷ ks) p (f ∷ fs) ≡ routeIn ks (leftOf k f) fs
+  pub route-later : (plain k p ≡ ROUTE → ⊥) → routeIn (k ∷ ks) p (f ∷ fs) ≡ routeIn ks (traceOf k f) fs
   unfolding routeIn
   route-later e = rw (ne-eqb (plain k p) ROUTE e)
 

@@ -93,8 +93,8 @@ contentOf m =
 -- ---- what one field leaves for the next
 
 -- a number its mark; a fix whether it is a position
-unfoldable pub leftOf : ℕ → List ℕ → ℕ
-leftOf k s = cond (eqb k AMENDMENT) (markOf s) (cond (eqb k FIX && isPosition s) 1 0)
+unfoldable pub traceOf : ℕ → List ℕ → ℕ
+traceOf k s = cond (eqb k AMENDMENT) (markOf s) (cond (eqb k FIX && isPosition s) 1 0)
 
 -- the marks set after a field
 unfoldable pub marksOf : ℕ → ℕ → List ℕ → ℕ

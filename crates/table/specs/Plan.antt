@@ -3,14 +3,11 @@ use Prim.Native.Nat.{ℕ, _-_}
 use mathlib.Core.Bool.{Bool, _&&_}
 use lib.Dec.{ltb}
 use Rattle.shapes.specs.Picture.{fits}
+use Rattle.rules.specs.Frame.{typeAt, longestPlan}
 use Rattle.fields.specs.MessageType.{typeText}
 use Rattle.fields.specs.declared.heads.MessageType.{MessageType}
 use Rattle.fields.specs.declared.heads.MessageType.the-variants.{Fz}
 
--- "FZ over 439 bytes, counted from its type"
-abbrev pub longestPlan : ℕ
-longestPlan = 439
-
--- n is the line's length, and the type stands after 16 bytes
+-- "FZ over 439 bytes, counted from its type"; n is the line's length
 abbrev pub isLongPlan : MessageType → ℕ → Bool
-isLongPlan t n = fits (typeText Fz) (typeText t) && ltb longestPlan (n - 16)
+isLongPlan t n = fits (typeText Fz) (typeText t) && ltb longestPlan (n - typeAt)

@@ -6,7 +6,7 @@ use mathlib.Core.List.{List, [], _∷_, _++_}
 use lib.Dec.{eqb, leb}
 use lib.ListN.{length, replicate}
 use Rattle.table.specs.Spacing.{Split, Fields, Wrong, fieldsOf, fieldsIn}
-use Rattle.table.specs.Field.{ROUTE, valued, readIn, plain, leftOf, marksOf}
+use Rattle.table.specs.Field.{ROUTE, valued, readIn, plain, traceOf, marksOf}
 use Rattle.table.specs.declared.kinds.Value.{Value}
 use Rattle.table.specs.declared.kinds.FieldRead.{FieldRead}
 use Rattle.table.specs.declared.kinds.FieldRead.the-variants as field
@@ -34,7 +34,7 @@ more field.Two vs = []
 unfoldable pub valuesFrom : List ℕ → ℕ → ℕ → List (List ℕ) → List Value
 valuesFrom [] p m fs = []
 valuesFrom (k ∷ ks) p m [] = []
-valuesFrom (k ∷ ks) p m (f ∷ fs) = more (readIn k p m f) (valuesFrom ks (leftOf k f) (marksOf k m f) fs)
+valuesFrom (k ∷ ks) p m (f ∷ fs) = more (readIn k p m f) (valuesFrom ks (traceOf k f) (marksOf k m f) fs)
 
 -- ---- the answer
 
@@ -55,7 +55,7 @@ orElse i field.Two rest = Refused (Two i)
 unfoldable pub answerFrom : ℕ → Bool → List ℕ → ℕ → ℕ → List (List ℕ) → Answer
 answerFrom i t [] p m fs = Taken t m
 answerFrom i t (k ∷ ks) p m [] = Taken t m
-answerFrom i t (k ∷ ks) p m (f ∷ fs) = orElse i (readIn k p m f) (answerFrom (suc i) t ks (leftOf k f) (marksOf k m f) fs)
+answerFrom i t (k ∷ ks) p m (f ∷ fs) = orElse i (readIn k p m f) (answerFrom (suc i) t ks (traceOf k f) (marksOf k m f) fs)
 
 -- "body spacing or field count wrong" comes before any field; a table has at most 19 fields
 unfoldable pub counted : List ℕ → List (List ℕ) → Bool
@@ -86,7 +86,7 @@ pub record Ready (ks body : List ℕ) (trailing : Bool) : Type 0 where
 unfoldable pub routeIn : List ℕ → ℕ → List (List ℕ) → List ℕ
 routeIn [] p fs = []
 routeIn (k ∷ ks) p [] = []
-routeIn (k ∷ ks) p (f ∷ fs) = cond (eqb (plain k p) ROUTE) f (routeIn ks (leftOf k f) fs)
+routeIn (k ∷ ks) p (f ∷ fs) = cond (eqb (plain k p) ROUTE) f (routeIn ks (traceOf k f) fs)
 
 unfoldable pub routeOf : List ℕ → List ℕ → List ℕ
 routeOf ks body = routeIn ks 0 (fieldsIn (fieldsOf body))

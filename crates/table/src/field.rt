@@ -10,8 +10,8 @@ use crate::kinds::TZ_IDENT;
 use crate::kinds::Value;
 use fields::aircraft::Aircraft;
 use fields::aircraft::AircraftRead;
+use fields::flight::ComputerNumber;
 use fields::flight::Key;
-use fields::flight::Number;
 use fields::idents::Ident;
 use fields::idents::IdentRead;
 use fields::plan::Time;
@@ -128,13 +128,13 @@ fn read_number(marks: u8, s: &[u8]) -> FieldRead
 }
 
 // The time of FZ and UZ: its own form first, then the E rule.
-fn read_plan_time(left: u8, s: &[u8]) -> FieldRead
-    ensures { λ r. ⌜ r ≡ readIn PLAN-TIME left 0 (now (s .entry)) ⌝ }
+fn read_plan_time(trace: u8, s: &[u8]) -> FieldRead
+    ensures { λ r. ⌜ r ≡ readIn PLAN-TIME trace 0 (now (s .entry)) ⌝ }
 {
     let TimeRead::Read(time) = Time::read(s) else {
         return FieldRead::Nothing;
     };
-    if !kinds::follows(PLAN_TIME, left, 0, s) {
+    if !kinds::follows(PLAN_TIME, trace, 0, s) {
         return FieldRead::Nothing;
     }
     FieldRead::Read(Value {
@@ -144,14 +144,14 @@ fn read_plan_time(left: u8, s: &[u8]) -> FieldRead
     })
 }
 
-// A field after what the one before it left, and the marks set so far.
-pub(crate) fn read_field(kind: u8, left: u8, marks: u8, s: &[u8]) -> FieldRead
-    ensures { λ r. ⌜ r ≡ readIn kind left marks (now (s .entry)) ⌝ }
+// A field after the trace of the one before it, and the marks set so far.
+pub(crate) fn read_field(kind: u8, trace: u8, marks: u8, s: &[u8]) -> FieldRead
+    ensures { λ r. ⌜ r ≡ readIn kind trace marks (now (s .entry)) ⌝ }
 {
     match kind {
         rules::AMENDMENT => read_number(marks, s),
-        PLAN_TIME => read_plan_time(left, s),
-        CONTENT => read_kind(kinds::content(left), s),
+        PLAN_TIME => read_plan_time(trace, s),
+        CONTENT => read_kind(kinds::content(trace), s),
         _ => read_kind(kind, s),
     }
 }
@@ -165,7 +165,7 @@ fn put_ident(v: Value, out: &mut [u8], at: usize) -> Written
     }
     let ident = Ident {
         key: Key(v.a),
-        number: Number(v.b),
+        number: ComputerNumber(v.b),
     };
     ident.put(out, at)
 }
@@ -262,13 +262,13 @@ fn put_mark(mark: u64, out: &mut [u8], at: usize) -> Written
     put_bytes(&digits, out, at)
 }
 
-// A value after what the field before it left.
-pub fn put_field(kind: u8, left: u8, v: Value, route: &[u8], out: &mut [u8], at: usize) -> Written
-    ensures { λ r. ⌜ r ≡ writtenNext (isValue kind left (now (route .entry)) v) (shown kind left (now (route .entry)) v) (now (out .entry)) at ⌝ }
-    ensures { λ _. ⌜ now (out .exit) ≡ writtenBytes (isValue kind left (now (route .entry)) v) (shown kind left (now (route .entry)) v) (now (out .entry)) at ⌝ }
+// A value after the trace of the field before it.
+pub fn put_field(kind: u8, trace: u8, v: Value, route: &[u8], out: &mut [u8], at: usize) -> Written
+    ensures { λ r. ⌜ r ≡ writtenNext (isValue kind trace (now (route .entry)) v) (shown kind trace (now (route .entry)) v) (now (out .entry)) at ⌝ }
+    ensures { λ _. ⌜ now (out .exit) ≡ writtenBytes (isValue kind trace (now (route .entry)) v) (shown kind trace (now (route .entry)) v) (now (out .entry)) at ⌝ }
 {
     if kind != rules::AMENDMENT {
-        return put_kind(kinds::plain(kind, left), v, route, out, at);
+        return put_kind(kinds::plain(kind, trace), v, route, out, at);
     }
     if v.b != 0 {
         return Written::NoText;

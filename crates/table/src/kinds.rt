@@ -1,7 +1,7 @@
 // The kinds of fields of document 01's table: what an amendment's number asks for, and what one field leaves for the next.
 use rules::is_position;
 ghost use mathlib.Core.Path.{_≡_};
-ghost use Rattle.table.specs.Field.{markOf, contentOf, plain as plainly, leftOf, marksOf, follows as following};
+ghost use Rattle.table.specs.Field.{markOf, contentOf, plain as plainly, traceOf, marksOf, follows as following};
 
 // The kinds that are no single text; the others are those of `forms`.
 pub const IDENT: u8 = b'I';
@@ -81,20 +81,20 @@ pub(crate) fn content(mark: u8) -> u8
     }
 }
 
-// The kind by which a field is read, after what the field before it left.
-pub fn plain(kind: u8, left: u8) -> u8
-    ensures { λ r. ⌜ r ≡ plainly kind left ⌝ }
+// The kind by which a field is read, after the trace of the field before it.
+pub fn plain(kind: u8, trace: u8) -> u8
+    ensures { λ r. ⌜ r ≡ plainly kind trace ⌝ }
 {
     match kind {
-        CONTENT => content(left),
+        CONTENT => content(trace),
         PLAN_TIME => rules::TIME,
         _ => kind,
     }
 }
 
 // What a field leaves for the next one: a number its mark, a fix whether it is a position.
-pub fn left(kind: u8, s: &[u8]) -> u8
-    ensures { λ r. ⌜ r ≡ leftOf kind (now (s .entry)) ⌝ }
+pub fn trace(kind: u8, s: &[u8]) -> u8
+    ensures { λ r. ⌜ r ≡ traceOf kind (now (s .entry)) ⌝ }
 {
     if kind == rules::AMENDMENT {
         return mark(s);
@@ -118,8 +118,8 @@ pub fn marks_after(kind: u8, marks: u8, s: &[u8]) -> u8
 }
 
 // Whether a field may follow: no number comes twice, and a time with E follows a fix that is a position.
-pub fn follows(kind: u8, left: u8, marks: u8, s: &[u8]) -> bool
-    ensures { λ r. ⌜ r ≡ following kind left marks (now (s .entry)) ⌝ }
+pub fn follows(kind: u8, trace: u8, marks: u8, s: &[u8]) -> bool
+    ensures { λ r. ⌜ r ≡ following kind trace marks (now (s .entry)) ⌝ }
 {
     if kind == rules::AMENDMENT {
         return marks & mark(s) == 0;
@@ -133,5 +133,5 @@ pub fn follows(kind: u8, left: u8, marks: u8, s: &[u8]) -> bool
     if s[0] != b'E' {
         return true;
     }
-    left == 1
+    trace == 1
 }

@@ -8,6 +8,8 @@ pub mod walk;
 use crate::spacing::Counted;
 use crate::walk::TableRead;
 use fields::heads::MessageType;
+use rules::LONGEST_PLAN;
+use rules::TYPE_AT;
 ghost use mathlib.Core.Path.{_≡_};
 ghost use Rattle.table.specs.Read.{padded};
 ghost use Rattle.table.specs.Table.{dotted, answerBy, valuesBy, routeBy, countWith, hasFields, hasRouteWith, isCount};
@@ -146,7 +148,7 @@ pub fn is_long_plan(kind: MessageType, n: usize) -> bool
     ensures { λ r. ⌜ r ≡ isLongPlan kind n ⌝ }
 {
     match kind {
-        MessageType::Fz => n > 455,
+        MessageType::Fz => n > TYPE_AT + LONGEST_PLAN,
         _ => false,
     }
 }

@@ -65,13 +65,13 @@ pub(crate) fn read(kinds: &[u8], body: &[u8], trailing: bool) -> TableRead
     let mut values = [Value { a: 0, b: 0, c: 0 }; 19];
     let mut at: usize = 0;
     let mut k: usize = 0;
-    let mut left: u8 = 0;
+    let mut trace: u8 = 0;
     let mut marks: u8 = 0;
     while k < kinds.len() {
         let j = at + 1;
         let e = spacing::field_end(body, j);
         let kind = kinds[k];
-        let read = field::read_field(kind, left, marks, &body[j..e]);
+        let read = field::read_field(kind, trace, marks, &body[j..e]);
         let FieldRead::Read(value) = read else {
             return TableRead {
                 answer: Answer::Refused(as_fault(read, k + 1)),
@@ -80,7 +80,7 @@ pub(crate) fn read(kinds: &[u8], body: &[u8], trailing: bool) -> TableRead
         };
         values[k] = value;
         marks = kinds::marks_after(kind, marks, &body[j..e]);
-        left = kinds::left(kind, &body[j..e]);
+        trace = kinds::trace(kind, &body[j..e]);
         at = e;
         k += 1;
     }
@@ -99,7 +99,7 @@ pub(crate) fn route<'a>(kinds: &[u8], body: &'a [u8]) -> &'a [u8]
     };
     let mut at: usize = 0;
     let mut k: usize = 0;
-    let mut left: u8 = 0;
+    let mut trace: u8 = 0;
     while k < n {
         if k >= kinds.len() {
             return &body[..0];
@@ -107,10 +107,10 @@ pub(crate) fn route<'a>(kinds: &[u8], body: &'a [u8]) -> &'a [u8]
         let kind = kinds[k];
         let j = at + 1;
         let e = spacing::field_end(body, j);
-        if kinds::plain(kind, left) == ROUTE {
+        if kinds::plain(kind, trace) == ROUTE {
             return &body[j..e];
         }
-        left = kinds::left(kind, &body[j..e]);
+        trace = kinds::trace(kind, &body[j..e]);
         at = e;
         k += 1;
     }

@@ -16,7 +16,7 @@ use Rattle.rules.specs.Form.{isRoute}
 use Rattle.rules.specs.Frame.{longestLine}
 use Rattle.rules.specs.Kind.{AMENDMENT}
 use Rattle.table.specs.Spacing.{bodyOf}
-use Rattle.table.specs.Field.{ROUTE, plain, leftOf, marksOf, follows, isOne, isKindValue, shownKind, isValue, shown}
+use Rattle.table.specs.Field.{ROUTE, plain, traceOf, marksOf, follows, isOne, isKindValue, shownKind, isValue, shown}
 use Rattle.table.specs.declared.kinds.Value.{Value}
 use Rattle.table.proofs.FieldLaws.{shown-short}
 use Rattle.table.specs.Read.{none}
@@ -32,7 +32,7 @@ pub text-not : (k p m : ℕ) (s : List ℕ) → follows k p m s ≡ false → fi
 unfolding sizedText
 text-not k p m s e = rw e
 
-pub text-good : (k p m : ℕ) (s : List ℕ) {q w : ℕ} → follows k p m s ≡ true → q ≡ leftOf k s → w ≡ marksOf k m s → field.Bytes (length s) q w ≡ sizedText k p m s
+pub text-good : (k p m : ℕ) (s : List ℕ) {q w : ℕ} → follows k p m s ≡ true → q ≡ traceOf k s → w ≡ marksOf k m s → field.Bytes (length s) q w ≡ sizedText k p m s
 unfolding sizedText
 text-good k p m s e l n = rw (e, l, n)
 
@@ -66,14 +66,14 @@ module _ (k p m : ℕ) (r : List ℕ) (v : Value) (e : plain k p ≡ ROUTE) wher
 -- what a field's size says
 module _ (k p m : ℕ) (r : List ℕ) (v : Value) where
   pub field-known : {n q w : ℕ} → sizedField k p m r v ≡ field.Bytes n q w
-      → (isValue k p r v ≡ true) × (follows k p m (shown k p r v) ≡ true) × (n ≡ length (shown k p r v)) × (q ≡ leftOf k (shown k p r v)) × (w ≡ marksOf k m (shown k p r v))
+      → (isValue k p r v ≡ true) × (follows k p m (shown k p r v) ≡ true) × (n ≡ length (shown k p r v)) × (q ≡ traceOf k (shown k p r v)) × (w ≡ marksOf k m (shown k p r v))
   unfolding sizedField sizedText
   field-known {n} {q} {w} e = go (isValue k p r v) refl (follows k p m (shown k p r v)) refl
     where
       go : (a : Bool) → isValue k p r v ≡ a → (b : Bool) → follows k p m (shown k p r v) ≡ b
-          → (isValue k p r v ≡ true) × (follows k p m (shown k p r v) ≡ true) × (n ≡ length (shown k p r v)) × (q ≡ leftOf k (shown k p r v)) × (w ≡ marksOf k m (shown k p r v))
+          → (isValue k p r v ≡ true) × (follows k p m (shown k p r v) ≡ true) × (n ≡ length (shown k p r v)) × (q ≡ traceOf k (shown k p r v)) × (w ≡ marksOf k m (shown k p r v))
       go true x true y =
-          let z : field.Bytes (length (shown k p r v)) (leftOf k (shown k p r v)) (marksOf k m (shown k p r v)) ≡ field.Bytes n q w = rw (x, y) at e in
+          let z : field.Bytes (length (shown k p r v)) (traceOf k (shown k p r v)) (marksOf k m (shown k p r v)) ≡ field.Bytes n q w = rw (x, y) at e in
           (x, y, (cc), (cc), (cc))
       go true x false y = let z : field.NotOne ≡ field.Bytes n q w = rw (x, y) at e in ((cc), (cc), (cc), (cc), (cc))
       go false x b y = let z : field.NotOne ≡ field.Bytes n q w = rw x at e in ((cc), (cc), (cc), (cc), (cc))
@@ -83,7 +83,7 @@ module _ (k p m : ℕ) (r : List ℕ) (v : Value) where
   field-unknown e = go (isValue k p r v) refl (follows k p m (shown k p r v)) refl
     where
       go : (a : Bool) → isValue k p r v ≡ a → (b : Bool) → follows k p m (shown k p r v) ≡ b → (isValue k p r v && follows k p m (shown k p r v)) ≡ false
-      go true x true y = let z : field.Bytes (length (shown k p r v)) (leftOf k (shown k p r v)) (marksOf k m (shown k p r v)) ≡ field.NotOne = rw (x, y) at e in cc
+      go true x true y = let z : field.Bytes (length (shown k p r v)) (traceOf k (shown k p r v)) (marksOf k m (shown k p r v)) ≡ field.NotOne = rw (x, y) at e in cc
       go true x false y = rw (x, y)
       go false x b y = rw x
 
@@ -118,8 +118,8 @@ module _ (n k : ℕ) (ks : List ℕ) (p m : ℕ) (r : List ℕ) (v : Value) (vs 
   unfolding sizedFrom allowedFrom textsFrom bodyOf marksFrom
   from-next {l} {q} {w} e =
       let h = field-known k p m r v e in
-      let s : n + suc (length (shown k p r v ++ bodyOf (textsFrom ks (leftOf k (shown k p r v)) r vs) false)) ≡ n + (l + 1) + length (bodyOf (textsFrom ks (leftOf k (shown k p r v)) r vs) false) =
-      omega (arith, h .2, length-append (shown k p r v) (bodyOf (textsFrom ks (leftOf k (shown k p r v)) r vs) false)) in
+      let s : n + suc (length (shown k p r v ++ bodyOf (textsFrom ks (traceOf k (shown k p r v)) r vs) false)) ≡ n + (l + 1) + length (bodyOf (textsFrom ks (traceOf k (shown k p r v)) r vs) false) =
+      omega (arith, h .2, length-append (shown k p r v) (bodyOf (textsFrom ks (traceOf k (shown k p r v)) r vs) false)) in
       rw (h .0, h .1, s, ← (h .3), ← (h .4))
 
 -- ---- values

@@ -17,7 +17,7 @@ use Rattle.fields.specs.Facility.{isFacilityValue}
 use Rattle.fields.specs.declared.heads.MessageType.{MessageType}
 use Rattle.table.specs.Spacing.{Split, Fields, Wrong, bodyOf, fieldsOf, fieldsIn}
 use Rattle.table.proofs.SpacingLaws.{fields-text}
-use Rattle.table.specs.Field.{ROUTE, plain, leftOf, marksOf, shown}
+use Rattle.table.specs.Field.{ROUTE, plain, traceOf, marksOf, shown}
 use Rattle.table.specs.declared.kinds.Value.{Value}
 use Rattle.table.specs.Read.{routeIn, routeOf}
 use Rattle.table.specs.Show.{textsFrom, allowedFrom, marksFrom}
@@ -177,8 +177,8 @@ texts-short [] p m r (v ∷ vs) e h = true-false e refl
 texts-short (k ∷ ks) p m r [] e h = true-false e refl
 texts-short (k ∷ ks) p m r (v ∷ vs) e h =
     let s = shown k p r v in
-    let rest = bodyOf (textsFrom ks (leftOf k s) r vs) false in
-    omega (arith, length-append s rest, shown-line k p r v (allowed-first k ks p m r v vs e) h, texts-short ks (leftOf k s) (marksOf k m s) r vs (allowed-rest k ks p m r v vs e) h)
+    let rest = bodyOf (textsFrom ks (traceOf k s) r vs) false in
+    omega (arith, length-append s rest, shown-line k p r v (allowed-first k ks p m r v vs e) h, texts-short ks (traceOf k s) (marksOf k m s) r vs (allowed-rest k ks p m r v vs e) h)
 
 module _ (b : Body) (r : List ℕ) (e : isFielded b r ≡ true) (h : length r ≤ longestLine) where
   fielded-count : isCount (typeIn b) (fieldCount b) ≡ true
@@ -253,9 +253,9 @@ route-short : (ks : List ℕ) (p : ℕ) (fs : List (List ℕ)) (t : Bool) → le
 unfolding routeIn bodyOf
 route-short [] p fs t = omega arith
 route-short (k ∷ ks) p [] t = omega arith
-route-short (k ∷ ks) p (f ∷ fs) t = go (eqb (plain k p) ROUTE) refl (route-short ks (leftOf k f) fs t)
+route-short (k ∷ ks) p (f ∷ fs) t = go (eqb (plain k p) ROUTE) refl (route-short ks (traceOf k f) fs t)
   where
-    go : (b : Bool) → eqb (plain k p) ROUTE ≡ b → length (routeIn ks (leftOf k f) fs) ≤ length (bodyOf fs t) → length (routeIn (k ∷ ks) p (f ∷ fs)) ≤ length (bodyOf (f ∷ fs) t)
+    go : (b : Bool) → eqb (plain k p) ROUTE ≡ b → length (routeIn ks (traceOf k f) fs) ≤ length (bodyOf fs t) → length (routeIn (k ∷ ks) p (f ∷ fs)) ≤ length (bodyOf (f ∷ fs) t)
     go true q i = rw q (omega (arith, length-append f (bodyOf fs t)))
     go false q i = rw q (omega (arith, length-append f (bodyOf fs t)))
 

@@ -11,7 +11,7 @@ use Rattle.text.proofs.Logic.{true-false, not-fails}
 use Rattle.text.proofs.Splice.{set-spliced, spliced-next, next-store, length-spliced, lend-on}
 use Rattle.shapes.proofs.Laws.{rest-all}
 use Rattle.table.specs.Spacing.{space, bodyOf}
-use Rattle.table.specs.Field.{leftOf, shown}
+use Rattle.table.specs.Field.{traceOf, shown}
 use Rattle.table.specs.declared.kinds.Value.{Value}
 use Rattle.fields.specs.declared.heads.MessageType.{MessageType}
 use Rattle.table.specs.Show.{textsFrom, allowedFrom}
@@ -40,7 +40,7 @@ fields-none p r vs = refl
 module _ (k : ℕ) (ks : List ℕ) (p : ℕ) (r : List ℕ) (v : Value) (vs : List Value) where
   -- what is left after the first field
   abbrev pub fieldsAfter : List ℕ
-  fieldsAfter = bodyOf (textsFrom ks (leftOf k (shown k p r v)) r vs) false
+  fieldsAfter = bodyOf (textsFrom ks (traceOf k (shown k p r v)) r vs) false
 
   pub fields-next : bodyOf (textsFrom (k ∷ ks) p r (v ∷ vs)) false ≡ space ∷ (shown k p r v ++ fieldsAfter)
   unfolding bodyOf textsFrom

@@ -7,7 +7,7 @@ use lib.ListN.{length}
 use Rattle.text.specs.declared.Sized.{Sized}
 use Rattle.text.specs.declared.Sized.the-variants as sized
 use Rattle.table.specs.Spacing.{bodyOf}
-use Rattle.table.specs.Field.{leftOf, marksOf, follows, isValue, shown}
+use Rattle.table.specs.Field.{traceOf, marksOf, follows, isValue, shown}
 use Rattle.table.specs.declared.kinds.Value.{Value}
 use Rattle.table.specs.Show.{textsFrom, allowedFrom, marksFrom}
 use Rattle.messages.specs.Allowed.{isFielded, isBody, bodyText, kindsIn}
@@ -24,7 +24,7 @@ use Rattle.writer.specs.declared.sizes.SizedAll.the-variants as all
 -- ---- sizes
 
 unfoldable pub sizedText : ℕ → ℕ → ℕ → List ℕ → SizedField
-sizedText k p m s = cond (follows k p m s) (field.Bytes (length s) (leftOf k s) (marksOf k m s)) field.NotOne
+sizedText k p m s = cond (follows k p m s) (field.Bytes (length s) (traceOf k s) (marksOf k m s)) field.NotOne
 
 unfoldable pub sizedField : ℕ → ℕ → ℕ → List ℕ → Value → SizedField
 sizedField k p m r v = cond (isValue k p r v) (sizedText k p m (shown k p r v)) field.NotOne

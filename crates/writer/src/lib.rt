@@ -25,33 +25,33 @@ use text::writing::put_bytes;
 ghost use mathlib.Core.Path.{_≡_};
 ghost use lib.ListN.{length, take};
 ghost use Rattle.text.specs.Text.{spliced, writtenNext, writtenBytes};
-ghost use Rattle.table.specs.Field.{leftOf, shown};
+ghost use Rattle.table.specs.Field.{traceOf, shown};
 ghost use Rattle.messages.specs.Allowed.{bodyText};
 ghost use Rattle.line.specs.Line.{lineOf, isAllowed};
 ghost use Rattle.writer.specs.Size.{fieldsText};
 ghost use Rattle.writer.specs.Asks.{FieldAsks, PutAsks, BodyAsks, LineAsks};
 
-// Where a field's text ends, and what it leaves for the next one.
+// Where a field's text ends, and its trace for the next one.
 pub struct Put {
     pub end: usize,
-    pub left: u8,
+    pub trace: u8,
 }
 
 // One field, at the start of what is left of the buffer.
-fn put_one(kind: u8, left: u8, v: Value, route: &[u8], out: &mut [u8]) -> Put
-    requires { ⌜ FieldAsks kind left (now route) v (now out) ⌝ }
-    ensures { λ r. ⌜ r .end ≡ length (shown kind left (now (route .entry)) v) ⌝ }
-    ensures { λ r. ⌜ r .left ≡ leftOf kind (shown kind left (now (route .entry)) v) ⌝ }
-    ensures { λ _. ⌜ now (out .exit) ≡ spliced (now (out .entry)) 0 (shown kind left (now (route .entry)) v) ⌝ }
+fn put_one(kind: u8, trace: u8, v: Value, route: &[u8], out: &mut [u8]) -> Put
+    requires { ⌜ FieldAsks kind trace (now route) v (now out) ⌝ }
+    ensures { λ r. ⌜ r .end ≡ length (shown kind trace (now (route .entry)) v) ⌝ }
+    ensures { λ r. ⌜ r .trace ≡ traceOf kind (shown kind trace (now (route .entry)) v) ⌝ }
+    ensures { λ _. ⌜ now (out .exit) ≡ spliced (now (out .entry)) 0 (shown kind trace (now (route .entry)) v) ⌝ }
 {
-    let written = put_field(kind, left, v, route, out, 0);
+    let written = put_field(kind, trace, v, route, out, 0);
     match written {
         Written::Next(n) => Put {
             end: n,
-            left: kinds::left(kind, &out[..n]),
+            trace: kinds::trace(kind, &out[..n]),
         },
-        Written::NoRoom => Put { end: 0, left: 0 },
-        Written::NoText => Put { end: 0, left: 0 },
+        Written::NoRoom => Put { end: 0, trace: 0 },
+        Written::NoText => Put { end: 0, trace: 0 },
     }
 }
 
@@ -63,12 +63,12 @@ fn put_all(kinds: &[u8], values: [Value; 19], route: &[u8], out: &mut [u8]) -> u
 {
     let mut at: usize = 0;
     let mut k: usize = 0;
-    let mut left: u8 = 0;
+    let mut trace: u8 = 0;
     while k < kinds.len() {
         out[at] = b' ';
         let j = at + 1;
-        let put = put_one(kinds[k], left, values[k], route, &mut out[j..]);
-        left = put.left;
+        let put = put_one(kinds[k], trace, values[k], route, &mut out[j..]);
+        trace = put.trace;
         at = j + put.end;
         k += 1;
     }

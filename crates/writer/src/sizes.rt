@@ -26,7 +26,7 @@ ghost use Rattle.table.specs.Field.{ROUTE, plain as plainly};
 ghost use Rattle.messages.specs.Allowed.{allNone};
 ghost use Rattle.writer.specs.Size.{AllAsks, sizedText, sizedField, sizedAll, sizedFields, sizedBody, sizedLine};
 
-// How long a field's text is, what it leaves for the next one, and the marks set after it.
+// How long a field's text is, its trace for the next one, and the marks set after it.
 pub enum SizedField {
     Bytes(usize, u8, u8),
     NotOne,
@@ -38,21 +38,21 @@ pub enum SizedAll {
     NotOne,
 }
 
-fn size_text(kind: u8, left: u8, marks: u8, s: &[u8]) -> SizedField
-    ensures { λ r. ⌜ r ≡ sizedText kind left marks (now (s .entry)) ⌝ }
+fn size_text(kind: u8, trace: u8, marks: u8, s: &[u8]) -> SizedField
+    ensures { λ r. ⌜ r ≡ sizedText kind trace marks (now (s .entry)) ⌝ }
 {
-    if !kinds::follows(kind, left, marks, s) {
+    if !kinds::follows(kind, trace, marks, s) {
         return SizedField::NotOne;
     }
-    let next = kinds::left(kind, s);
+    let next = kinds::trace(kind, s);
     let after = kinds::marks_after(kind, marks, s);
     SizedField::Bytes(s.len(), next, after)
 }
 
 // A route keeps nothing in its value, and may be longer than any other field.
-fn size_route(kind: u8, left: u8, marks: u8, v: Value, route: &[u8]) -> SizedField
-    requires { ⌜ plainly kind left ≡ ROUTE ⌝ }
-    ensures { λ r. ⌜ r ≡ sizedField kind left marks (now (route .entry)) v ⌝ }
+fn size_route(kind: u8, trace: u8, marks: u8, v: Value, route: &[u8]) -> SizedField
+    requires { ⌜ plainly kind trace ≡ ROUTE ⌝ }
+    ensures { λ r. ⌜ r ≡ sizedField kind trace marks (now (route .entry)) v ⌝ }
 {
     if !rules::is_route(route) {
         return SizedField::NotOne;
@@ -66,20 +66,20 @@ fn size_route(kind: u8, left: u8, marks: u8, v: Value, route: &[u8]) -> SizedFie
     if v.c != 0 {
         return SizedField::NotOne;
     }
-    size_text(kind, left, marks, route)
+    size_text(kind, trace, marks, route)
 }
 
 // The field is tried in twelve bytes of its own.
-fn size_field(kind: u8, left: u8, marks: u8, v: Value, route: &[u8]) -> SizedField
-    ensures { λ r. ⌜ r ≡ sizedField kind left marks (now (route .entry)) v ⌝ }
+fn size_field(kind: u8, trace: u8, marks: u8, v: Value, route: &[u8]) -> SizedField
+    ensures { λ r. ⌜ r ≡ sizedField kind trace marks (now (route .entry)) v ⌝ }
 {
-    if kinds::plain(kind, left) == ROUTE {
-        return size_route(kind, left, marks, v, route);
+    if kinds::plain(kind, trace) == ROUTE {
+        return size_route(kind, trace, marks, v, route);
     }
     let mut room = [0u8; 12];
-    let written = put_field(kind, left, v, route, &mut room, 0);
+    let written = put_field(kind, trace, v, route, &mut room, 0);
     match written {
-        Written::Next(n) => size_text(kind, left, marks, &room[..n]),
+        Written::Next(n) => size_text(kind, trace, marks, &room[..n]),
         Written::NoRoom => SizedField::NotOne,
         Written::NoText => SizedField::NotOne,
     }
@@ -91,15 +91,15 @@ fn size_all(kinds: &[u8], values: [Value; 19], route: &[u8]) -> SizedAll
 {
     let mut size: usize = 0;
     let mut k: usize = 0;
-    let mut left: u8 = 0;
+    let mut trace: u8 = 0;
     let mut marks: u8 = 0;
     while k < kinds.len() {
-        let SizedField::Bytes(n, next, after) = size_field(kinds[k], left, marks, values[k], route)
+        let SizedField::Bytes(n, next, after) = size_field(kinds[k], trace, marks, values[k], route)
         else {
             return SizedAll::NotOne;
         };
         size += n + 1;
-        left = next;
+        trace = next;
         marks = after;
         k += 1;
     }

@@ -8,7 +8,8 @@ use lib.ListN.{length, getD}
 use Rattle.text.specs.Bytes.{bytes}
 use Rattle.text.specs.Text.{spliced}
 use Rattle.board.specs.Board.{rowsOf}
-use Rattle.printer.specs.RowText.{lineFeed, rowsText}
+use Rattle.rules.specs.Frame.{lineFeed}
+use Rattle.printer.specs.RowText.{rowsText}
 use Rattle.printer.specs.Print.{textIn}
 use Rattle.printer.specs.Asks.{counted, RowsAsk, BoardAsks}
 use Rattle.printer.proofs.Counts.{first-fits, next-fits, next-wrote}

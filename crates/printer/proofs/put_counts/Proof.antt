@@ -6,7 +6,8 @@ use lib.ListN.{length}
 use borrow.Author.Needs.{needs}
 use Rattle.text.specs.Bytes.{bytes}
 use Rattle.text.specs.Text.{spliced}
-use Rattle.printer.specs.RowText.{space, lineFeed}
+use Rattle.rules.specs.Frame.{lineFeed}
+use Rattle.printer.specs.RowText.{space}
 use Rattle.printer.specs.Text.{countsText}
 use Rattle.printer.specs.Asks.{counted}
 use Rattle.printer.proofs.Counts.{counts-line, first-fits, next-fits, next-wrote}

@@ -14,7 +14,7 @@ use Rattle.text.specs.Text.{spliced}
 use Rattle.text.proofs.Splice.{length-spliced, lend-on, spliced-none}
 use Rattle.shapes.proofs.Laws.{rest-all, next-byte}
 use Rattle.table.specs.Spacing.{space, bodyOf}
-use Rattle.table.specs.Field.{leftOf, marksOf, shown}
+use Rattle.table.specs.Field.{traceOf, marksOf, shown}
 use Rattle.table.specs.declared.kinds.Value.{Value}
 use Rattle.table.specs.Read.{none}
 use Rattle.table.specs.Show.{textsFrom, allowedFrom}
@@ -67,7 +67,7 @@ module _ {ks r : List ℕ} {vs : List Value} {out₀ out : List ℕ} {at k p : �
 
       -- what is left after it
       abbrev rest : List ℕ
-      rest = left ks r vs (k + 1) (leftOf (getD ks k 0) f)
+      rest = left ks r vs (k + 1) (traceOf (getD ks k 0) f)
 
       long : length (left ks r vs k p) ≡ 1 + length f + length rest
       long = rw (next-byte ks k more, value) (fields-length (getD ks k 0) (drop (k + 1) ks) p r w (drop (k + 1) vs))
@@ -81,7 +81,7 @@ module _ {ks r : List ℕ} {vs : List Value} {out₀ out : List ℕ} {at k p : �
         room = rw (rest-all (set out at space) (at + 1)) (omega (arith, fits, length-set out at space, length-drop (at + 1) (set out at space)));
       }
 
-      again : (n p′ : ℕ) (ys : List ℕ) → n ≡ length f → p′ ≡ leftOf (getD ks k 0) f → ys ≡ spliced (take (length (set out at space) - (at + 1)) (drop (at + 1) (set out at space))) 0 f
+      again : (n p′ : ℕ) (ys : List ℕ) → n ≡ length f → p′ ≡ traceOf (getD ks k 0) f → ys ≡ spliced (take (length (set out at space) - (at + 1)) (drop (at + 1) (set out at space))) 0 f
           → Inv ks r vs out₀ (putMid (at + 1) (length (set out at space) - (at + 1)) (set out at space) ys) (at + 1 + n) (k + 1) p′
       again n p′ ys e l y =
           let o = lend-on (set out at space) f (at + 1) y in
@@ -109,7 +109,7 @@ loop-holds c = start _ _ _ _ (c .before .before .before .pre)
 
 -- the field that a turn of the loop writes has room
 roomy : (l : tie.In-loop Inv-loop μ-loop) → let a = l .before .before .before .before .before .args in
-    l .before .loop .at + 1 + length (shown (getD (now (a .kinds)) (l .before .loop .k) 0) (l .before .loop .left) (now (a .route)) (getD (a .t2) (l .before .loop .k) none)) ≤ length (l .before .loop .out)
+    l .before .loop .at + 1 + length (shown (getD (now (a .kinds)) (l .before .loop .k) 0) (l .before .loop .trace) (now (a .route)) (getD (a .t2) (l .before .loop .k) none)) ≤ length (l .before .loop .out)
 roomy l = fits (l .before .loop .inv) (l .loop-test .taken) _ (getD-take _ _ _ _ (l .loop-test .taken))
 
 slice-write-out : tie.Need-slice-write-out Inv-loop μ-loop

@@ -6,7 +6,7 @@ use Rattle.text.specs.Text.{writtenNext}
 use Rattle.text.specs.declared.Written.the-variants.{Next}
 use Rattle.text.proofs.Logic.{true-false}
 use Rattle.text.proofs.Laws.{no-room-known, no-text-known}
-use Rattle.table.specs.Field.{leftOf, isValue, shown}
+use Rattle.table.specs.Field.{traceOf, isValue, shown}
 use Rattle.text.proofs.Wrote.{next-size, next-bytes, next-inside, next-part, next-text}
 use borrow.Author.Needs.{needs}
 use Rattle.writer.proofs.put_one.Statement.{statement}
@@ -14,7 +14,7 @@ use Rattle.writer.proofs.put_one.Tie as tie
 
 -- the call of `put_field` answered a place
 told : (w : tie.After-written) → let a = w .before .before .before .before .before .before .before .before .args in
-    writtenNext (isValue (a .kind) (a .left) (now (a .route)) (a .v)) (shown (a .kind) (a .left) (now (a .route)) (a .v)) (now (a .out)) 0 ≡ Next (w .written .given .0 .0)
+    writtenNext (isValue (a .kind) (a .trace) (now (a .route)) (a .v)) (shown (a .kind) (a .trace) (now (a .route)) (a .v)) (now (a .out)) 0 ≡ Next (w .written .given .0 .0)
 told w = sym (w .before .before .before .before .put-field .ensures .0) ∙ w .written .given .1
 
 slice-reshare-prefix-left : tie.Need-slice-reshare-prefix-left
@@ -31,7 +31,7 @@ returns : tie.Need-returns
 returns c =
     let w = c .before .before .before in
     let is = w .before .before .before .before .put-field .ensures .1 in
-    (next-size _ _ _ (told w) is, (c .left .ensures ∙ ap (leftOf _) (next-text _ _ _ (told w) is), next-bytes _ _ _ _ (told w) is))
+    (next-size _ _ _ (told w) is, (c .trace .ensures ∙ ap (traceOf _) (next-text _ _ _ (told w) is), next-bytes _ _ _ _ (told w) is))
 
 returns-2 : tie.Need-returns-2
 returns-2 c =

@@ -8,7 +8,8 @@ use native.Mathlib.Omega.{arith}
 use lib.ListN.{length, getD, drop, length-append}
 use Rattle.text.specs.Text.{isPacked, spliced}
 use Rattle.text.proofs.Splice.{length-spliced}
-use Rattle.printer.specs.RowText.{space, lineFeed}
+use Rattle.rules.specs.Frame.{lineFeed}
+use Rattle.printer.specs.RowText.{space}
 use Rattle.printer.specs.Parts.{partText, slipText, Eight}
 use Rattle.printer.proofs.Lines.{slip-last, next-size, last-size, next-wrote, part-packed}
 use Rattle.printer.proofs.slips.put_line.Statement.{statement}

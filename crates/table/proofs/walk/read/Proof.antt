@@ -15,7 +15,7 @@ use denote.Ref.{now}
 use Rattle.shapes.proofs.Laws.{next-byte}
 use Rattle.table.specs.Spacing.{endOf}
 use Rattle.table.proofs.SpacingLaws.{end-from, end-le}
-use Rattle.table.specs.Field.{readIn, leftOf, marksOf}
+use Rattle.table.specs.Field.{readIn, traceOf, marksOf}
 use Rattle.table.specs.declared.kinds.Value.{Value}
 use Rattle.table.specs.declared.kinds.FieldRead.{FieldRead}
 use Rattle.table.specs.declared.kinds.FieldRead.the-variants as field
@@ -81,11 +81,11 @@ module _ {ks body : List ℕ} {t : Bool} {values : List Value} {at k p m : ℕ} 
           (ap Refused g ∙ z ∙ v .told, rw w at (v .made))
 
       again : (y : Value) (p′ m′ : ℕ) → x ≡ field.Read y
-          → p′ ≡ leftOf (getD ks k 0) (take (e - (at + 1)) (drop (at + 1) body)) → m′ ≡ marksOf (getD ks k 0) m (take (e - (at + 1)) (drop (at + 1) body))
+          → p′ ≡ traceOf (getD ks k 0) (take (e - (at + 1)) (drop (at + 1) body)) → m′ ≡ marksOf (getD ks k 0) m (take (e - (at + 1)) (drop (at + 1) body))
           → Inv ks body t (set values k y) e (k + 1) p′ m′
       again y p′ m′ h l n =
           let f = getD (fieldsOn body) k [] in
-          let l′ : p′ ≡ leftOf (getD ks k 0) f = rw is-field at l in
+          let l′ : p′ ≡ traceOf (getD ks k 0) f = rw is-field at l in
           let n′ : m′ ≡ marksOf (getD ks k 0) m f = rw is-field at n in
           let s = values-read (getD ks k 0) (drop (k + 1) ks) p m f (drop (k + 1) (fieldsOn body)) (is-read ∙ h) in
           let a = answer-read (getD ks k 0) (drop (k + 1) ks) p m f (drop (k + 1) (fieldsOn body)) (is-read ∙ h) (k + 1) t in
@@ -159,7 +159,7 @@ loop-again c =
     let d = m .before .before .before in
     let r = d .before .before in
     let f = r .before .before .before in
-    again (f .before .before .loop .inv) (f .before .loop-test .taken) (f .field-end .result) (f .field-end .ensures) (r .read-field .result) (r .read-field .ensures) _ _ _ (d .read .given .1) (c .left .ensures) (m .marks-after .ensures)
+    again (f .before .before .loop .inv) (f .before .loop-test .taken) (f .field-end .result) (f .field-end .ensures) (r .read-field .result) (r .read-field .ensures) _ _ _ (d .read .given .1) (c .trace .ensures) (m .marks-after .ensures)
 
 returns-2 : tie.Need-returns-2 Inv-loop μ-loop
 returns-2 c = done (c .before .loop .inv) (c .loop-test .left)

@@ -11,7 +11,7 @@ use Rattle.shapes.proofs.Laws.{next-byte}
 use Rattle.table.specs.Spacing.{countOf, endOf}
 use Rattle.table.specs.declared.spacing.Counted.the-variants as counting
 use Rattle.table.proofs.SpacingLaws.{end-from, end-le, count-known}
-use Rattle.table.specs.Field.{ROUTE, plain, leftOf}
+use Rattle.table.specs.Field.{ROUTE, plain, traceOf}
 use Rattle.table.specs.Read.{routeIn, routeOf}
 use Rattle.table.proofs.WalkWays.{fieldsOn, At, at-start, fields, goes, inside, at-next, route-no-kinds, route-no-fields, route-here, route-later, route-wrong}
 use Rattle.table.proofs.walk.route.Statement.{statement}
@@ -56,10 +56,10 @@ module _ {ks body : List ℕ} {n at k p : ℕ} (v : Inv ks body n at k p) where
       here : q ≡ ROUTE → take (e - (at + 1)) (drop (at + 1) body) ≡ routeOf ks body
       here r = is-field ∙ sym (route-here (getD ks k 0) (drop (k + 1) ks) p (getD (fieldsOn body) k []) (drop (k + 1) (fieldsOn body)) (sym reads ∙ r)) ∙ turned
 
-      again : (p′ : ℕ) → (q ≡ ROUTE → ⊥) → p′ ≡ leftOf (getD ks k 0) (take (e - (at + 1)) (drop (at + 1) body)) → Inv ks body n e (k + 1) p′
+      again : (p′ : ℕ) → (q ≡ ROUTE → ⊥) → p′ ≡ traceOf (getD ks k 0) (take (e - (at + 1)) (drop (at + 1) body)) → Inv ks body n e (k + 1) p′
       again p′ r l =
           let f = getD (fieldsOn body) k [] in
-          let l′ : p′ ≡ leftOf (getD ks k 0) f = rw is-field at l in
+          let l′ : p′ ≡ traceOf (getD ks k 0) f = rw is-field at l in
           let a = route-later (getD ks k 0) (drop (k + 1) ks) p f (drop (k + 1) (fieldsOn body)) (λ z. r (reads ∙ z)) in
           record { walk = at-next (v .walk) field-left e is; count = v .count; told = rw l′ (sym a ∙ turned) }
 
@@ -124,7 +124,7 @@ loop-again c =
     let f = p .before in
     let i = f .before .before in
     let l = i .before in
-    again (l .before .loop .inv) (l .loop-test .taken) (i .if1 .left) (f .field-end .result) (f .field-end .ensures) (p .plain .result) (p .plain .ensures) _ (d .if2 .left) (c .left .ensures)
+    again (l .before .loop .inv) (l .loop-test .taken) (i .if1 .left) (f .field-end .result) (f .field-end .ensures) (p .plain .result) (p .plain .ensures) _ (d .if2 .left) (c .trace .ensures)
 
 returns-4 : tie.Need-returns-4 Inv-loop μ-loop
 returns-4 c = no-fields (c .before .before .loop .inv) (c .before .loop-test .left)

@@ -11,7 +11,7 @@ returns c = text-not _ _ _ _ (not-so (c .before .follows .ensures) (c .if1 .take
 returns-2 : tie.Need-returns-2
 returns-2 c =
     let c₂ = c .before .before in
-    text-good _ _ _ _ (so (c₂ .before .follows .ensures) (c₂ .if1 .left)) (c .before .left .ensures) (c .marks-after .ensures)
+    text-good _ _ _ _ (so (c₂ .before .follows .ensures) (c₂ .if1 .left)) (c .before .trace .ensures) (c .marks-after .ensures)
 
 pub size-text-spec : {M : Type 1} → statement M
 size-text-spec =

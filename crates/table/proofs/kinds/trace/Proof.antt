@@ -1,14 +1,14 @@
--- `table::kinds::left` meets its contract. Assumes nothing.
+-- `table::kinds::trace` meets its contract. Assumes nothing.
 use mathlib.Core.Path.{sym, _∙_}
 use borrow.Author.Tests.{eq-eqb, ne-eqb}
-use Rattle.table.specs.Field.{leftOf}
+use Rattle.table.specs.Field.{traceOf}
 use borrow.Author.Needs.{needs}
-use Rattle.table.proofs.kinds.left.Statement.{statement}
-use Rattle.table.proofs.kinds.left.Tie as tie
+use Rattle.table.proofs.kinds.trace.Statement.{statement}
+use Rattle.table.proofs.kinds.trace.Tie as tie
 
-pub left-spec : {M : Type 1} → statement M
-unfolding leftOf
-left-spec =
+pub trace-spec : {M : Type 1} → statement M
+unfolding traceOf
+trace-spec =
     tie.close
     (tie.spec
     (λ c κs. search needs)
