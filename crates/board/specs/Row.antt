@@ -66,7 +66,7 @@ rowOf w =
       track = trackOf (getD w 5 0) (getD w 6 0) (getD w 7 0) (getD w 8 0);
     }
 
--- ---- the words of an allowed row. `proofs/Words` shows that these are the words of the rows that are allowed, and no others
+-- ---- the words of an allowed row. `proofs/RowWords` shows that these are the words of the rows that are allowed, and no others
 
 unfoldable pub isArrivalWords : ℕ → ℕ → ℕ → ℕ → Bool
 isArrivalWords a b c d =

@@ -1,5 +1,5 @@
 // What the writer must know of a body: the values of its fields. Its type and its marks are asked of `messages`, and what
-// follows from these alone stands in `layout`.
+// follows from these alone stands in `table`.
 use crate::Af;
 use crate::Body;
 use fields::aircraft::Aircraft;

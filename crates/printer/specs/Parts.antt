@@ -1,5 +1,5 @@
 -- What the inner functions of `slips` are about: the words of a row in the order of its line, and the line of such words.
--- `proofs/Rows` shows that of an allowed row this is its line. Assumes nothing.
+-- `proofs/RowLines` shows that of an allowed row this is its line. Assumes nothing.
 use Prim.Native.Nat.{ℕ}
 use mathlib.Core.Path.{_≡_}
 use mathlib.Core.Bool.{true, cond}

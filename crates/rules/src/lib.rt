@@ -1,4 +1,5 @@
-// The forms of document 01's fields, as tests on bytes; those of stamps, clocks and times stand in `clocks`.
+// Document 01's field rules as tests on bytes, single rules first and then the rule of each kind by its letter; those of stamps, clocks
+// and times stand in `clocks`. And the frame of a line: where its parts stand, and how long it may be.
 
 pub mod clocks;
 

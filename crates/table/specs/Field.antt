@@ -27,7 +27,7 @@ use Rattle.table.specs.declared.kinds.Value.{Value}
 use Rattle.table.specs.declared.kinds.FieldRead.{FieldRead}
 use Rattle.table.specs.declared.kinds.FieldRead.the-variants.{Read, Nothing, Number, Two}
 
--- ---- the kinds that are no single text; the others are those of forms/specs/Kind
+-- ---- the kinds that are no single text; the others are those of rules/specs/Kind
 
 abbrev pub IDENT : ℕ
 IDENT = code "I"

@@ -39,7 +39,7 @@ unfoldable pub allFields : List (List ℕ) → Bool
 allFields [] = true
 allFields (f ∷ fs) = isField f && allFields fs
 
--- ---- the fields of a text. `proofs/Laws` shows that these are the only ones with that text.
+-- ---- the fields of a text. `proofs/SpacingLaws` shows that these are the only ones with that text.
 
 pub data Split : Type 0 where
   Fields : List (List ℕ) → Bool → Split

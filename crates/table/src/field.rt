@@ -1,4 +1,4 @@
-// One field read: of a kind by itself, and after the fields before it.
+// One field, of a kind by itself and after the fields before it: read, and written back. Where a writer refuses it writes nothing.
 use crate::kinds;
 use crate::kinds::AIRCRAFT;
 use crate::kinds::CONTENT;

@@ -3,7 +3,7 @@ use rules::is_position;
 ghost use mathlib.Core.Path.{_≡_};
 ghost use Rattle.table.specs.Field.{markOf, contentOf, plain as plainly, traceOf, marksOf, follows as following};
 
-// The kinds that are no single text; the others are those of `forms`.
+// The kinds that are no single text; the others are those of `rules`.
 pub const IDENT: u8 = b'I';
 
 pub const TZ_IDENT: u8 = b'J';

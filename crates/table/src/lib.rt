@@ -1,4 +1,4 @@
-// Document 01's table by type: which fields a type's body has, in order, a body read by them, and its route.
+// Document 01's table: which fields a type's body has, in order and how many; a body read by them, and its route.
 
 pub mod field;
 pub mod kinds;

@@ -14,7 +14,7 @@ widthBy (suc k) n = cond (ltb n 10) 1 (suc (widthBy k (n / 10)))
 abbrev pub widthOf : ℕ → ℕ
 widthOf n = widthBy 19 n
 
--- `proofs/Laws` shows that these are the only digits of n without a zero in front
+-- `proofs/Decimal` shows that these are the only digits of n without a zero in front
 unfoldable pub decimal : ℕ → List ℕ
 decimal n = padded 10 (widthOf n) n
 
