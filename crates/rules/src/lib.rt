@@ -153,15 +153,15 @@ fn is_drawn(kind: u8, s: &[u8]) -> bool
     ensures { λ r. ⌜ r ≡ isDrawn kind (now (s .entry)) ⌝ }
 {
     match kind {
-        crate::SEQUENCE => run(b'h', 4, 4, s),
-        crate::NUMBER => is_number(s),
-        crate::PREFIX => one_of(b"a|da", s),
-        crate::LETTER => run(b'l', 1, 1, s),
-        crate::FILED_SPEED => run(b'd', 2, 4, s) || one_of(b"lddd|SC", s),
-        crate::GROUND_SPEED => run(b'd', 3, 3, s),
-        crate::LEVEL => run(b'd', 2, 3, s) || one_of(b"ddBdd|ddBddd|dddBdd|dddBddd", s),
-        crate::TRACK_LEVEL => is_track_level(s),
-        crate::AMENDMENT => one_of(b"02|03|05|06|07|08|09|10", s),
+        SEQUENCE => run(b'h', 4, 4, s),
+        NUMBER => is_number(s),
+        PREFIX => one_of(b"a|da", s),
+        LETTER => run(b'l', 1, 1, s),
+        FILED_SPEED => run(b'd', 2, 4, s) || one_of(b"lddd|SC", s),
+        GROUND_SPEED => run(b'd', 3, 3, s),
+        LEVEL => run(b'd', 2, 3, s) || one_of(b"ddBdd|ddBddd|dddBdd|dddBddd", s),
+        TRACK_LEVEL => is_track_level(s),
+        AMENDMENT => one_of(b"02|03|05|06|07|08|09|10", s),
         _ => false,
     }
 }
@@ -171,15 +171,15 @@ pub fn is_form(kind: u8, s: &[u8]) -> bool
     ensures { λ r. ⌜ r ≡ isForm kind (now (s .entry)) ⌝ }
 {
     match kind {
-        crate::STAMP => is_stamp(s),
-        crate::KEY => is_key(s),
-        crate::MODEL => run(b'a', 2, 4, s),
-        crate::POINT => run(b'a', 2, 12, s),
-        crate::FIX => is_fix(s),
-        crate::TIME => is_time(s),
-        crate::CLOCK => is_clock(s),
-        crate::ARRIVAL => is_arrival(s),
-        crate::POSITION => is_position(s),
+        STAMP => is_stamp(s),
+        KEY => is_key(s),
+        MODEL => run(b'a', 2, 4, s),
+        POINT => run(b'a', 2, 12, s),
+        FIX => is_fix(s),
+        TIME => is_time(s),
+        CLOCK => is_clock(s),
+        ARRIVAL => is_arrival(s),
+        POSITION => is_position(s),
         _ => is_drawn(kind, s),
     }
 }
