@@ -5,9 +5,9 @@ use denote.Ref.{now}
 use Rattle.text.specs.Bytes.{bytes}
 use Rattle.text.specs.Class.{all, isDigit, isLetter, isAlnum}
 use Rattle.text.specs.Code.{codeOf}
-use Rattle.text.specs.Number.{isDigitTo, digitOf, isNumeral, lineNumber as number}
+use Rattle.text.specs.Number.{isDigitTo, digitOf, isNumeral, numberOf as number}
 use Rattle.text.specs.Place.{value, allIn}
-use Rattle.shapes.specs.Cut.{upTo, has, before, after, joins}
+use Rattle.shapes.specs.Cut.{upTo, has, joins}
 use Rattle.shapes.specs.Picture.{isOf, fits, fitsAny, oneOf, within}
 use Rattle.shapes.specs.Pieces.{pieces}
 use Rattle.rules.specs.Form.{isStamp, isTzIdent}

@@ -6,7 +6,7 @@ use mathlib.Core.List.{List}
 use Prim.Native.Nat.{ℕ, _≤_}
 use native.Mathlib.Omega.{arith}
 use lib.Dec.{leb, ltb}
-use lib.ListN.{length, drop}
+use lib.ListN.{length}
 use borrow.Author.Tests.{ltb-false, leb-true, le-ltb, le-leb, not-true}
 use Rattle.text.specs.Place.{allIn}
 use Rattle.text.proofs.Logic.{and-left, and-right}

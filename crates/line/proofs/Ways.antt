@@ -4,11 +4,10 @@ use mathlib.Core.Bool.{Bool, true, false}
 use mathlib.Core.List.{List, []}
 use Prim.Native.Nat.{ℕ, _-_, _≤_, _<_}
 use native.Mathlib.Omega.{arith}
-use lib.ListN.{length, take, drop}
+use lib.ListN.{length, take}
 use borrow.Author.Tests.{lt-ltb, le-ltb}
 use Rattle.text.specs.Place.{value, allIn}
 use Rattle.text.specs.Text.{packed}
-use Rattle.shapes.specs.Picture.{part}
 use Rattle.shapes.proofs.Laws.{rest-all}
 use Rattle.rules.specs.Form.{isSequence, isStamp, isFacility}
 use Rattle.rules.specs.Frame.{bodyPart, facilityPart, headLength, longestLine, sequencePart, stampPart, typePart}

@@ -5,9 +5,8 @@ use Prim.Native.Nat.{ℕ, suc, _-_, _≤_, _<_}
 use mathlib.Core.Path.{_≡_}
 use mathlib.Core.Bool.{Bool, true, false}
 use mathlib.Core.List.{List}
-use lib.ListN.{length, drop}
+use lib.ListN.{length}
 use Rattle.text.specs.Place.{allIn}
-use Rattle.shapes.specs.Picture.{part}
 use Rattle.rules.specs.Form.{isSequence, isStamp, isFacility}
 use Rattle.rules.specs.Frame.{bodyPart, facilityPart, sequencePart, stampPart, typePart}
 use Rattle.fields.specs.MessageType.{typeText}

@@ -80,7 +80,7 @@ abbrev ofAge : Aged → Answer
 ofAge (aged.Seconds n) = Seconds n
 ofAge aged.Ahead = Ahead
 ofAge aged.Old = Old
-ofAge aged.OutOfRange = Refused (ages.numberOf aged.OutOfRange)
+ofAge aged.OutOfRange = Refused (ages.ageNumber aged.OutOfRange)
 
 abbrev pub answer : Question → Answer
 answer (Line t) = ofLine (readOf (bytes t)) (freeOf (bytes t))

@@ -145,12 +145,12 @@ unfolding plain
 plan-time-is-a-clock κs m r s p = p
 
 -- the number 10 leaves its mark
-pub nothing-left : (κs : _) (x : _) (r : _) (s : _) → left-read.Post κs (AMENDMENT, (x, tt)) r s → now x ≡ bytes "10" → r ≡ 128
+pub nothing-left : (κs : _) (x : _) (r : _) (s : _) → trace-read.Post κs (AMENDMENT, (x, tt)) r s → now x ≡ bytes "10" → r ≡ 128
 unfolding traceOf markOf fits isOf
 nothing-left κs x r s p e = p ∙ ap (traceOf AMENDMENT) e
 
 -- a fix that is a position says so
-pub left-by-another-field : (κs : _) (x : _) (r : _) (s : _) → left-read.Post κs (FIX, (x, tt)) r s → now x ≡ bytes "3015N/08430W" → r ≡ 1
+pub left-by-another-field : (κs : _) (x : _) (r : _) (s : _) → trace-read.Post κs (FIX, (x, tt)) r s → now x ≡ bytes "3015N/08430W" → r ≡ 1
 unfolding traceOf isPosition fits isOf within isNumeral all isDigit isDigitTo digitOf codeOf numberOf value
 left-by-another-field κs x r s p e = p ∙ ap (traceOf FIX) e
 

@@ -32,6 +32,9 @@ const TZ: [u8; 19] = *b"JGMO...............";
 
 const UZ: [u8; 19] = *b"IZSFHLR............";
 
+// How long the line of an FZ may be.
+const LONGEST_FZ: usize = TYPE_AT + LONGEST_PLAN;
+
 // RT, TO and HB bodies are kept whole.
 const WHOLE: [u8; 19] = *b"...................";
 
@@ -148,7 +151,7 @@ pub fn is_long_plan(kind: MessageType, n: usize) -> bool
     ensures { λ r. ⌜ r ≡ isLongPlan kind n ⌝ }
 {
     match kind {
-        MessageType::Fz => n > TYPE_AT + LONGEST_PLAN,
+        MessageType::Fz => n > LONGEST_FZ,
         _ => false,
     }
 }

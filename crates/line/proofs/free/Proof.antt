@@ -2,7 +2,6 @@
 use mathlib.Core.Path.{_≡_, sym, ap, _∙_}
 use denote.Ref.{now}
 use Rattle.text.proofs.Logic.{so, not-so}
-use Rattle.shapes.specs.Picture.{part}
 use Rattle.shapes.proofs.Laws.{rest-all}
 use Rattle.fields.specs.MessageType.{typeOf}
 use Rattle.fields.specs.declared.heads.TypeRead.the-variants as type

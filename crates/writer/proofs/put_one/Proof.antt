@@ -17,13 +17,13 @@ told : (w : tie.After-written) → let a = w .before .before .before .before .be
     writtenNext (isValue (a .kind) (a .trace) (now (a .route)) (a .v)) (shown (a .kind) (a .trace) (now (a .route)) (a .v)) (now (a .out)) 0 ≡ Next (w .written .given .0 .0)
 told w = sym (w .before .before .before .before .put-field .ensures .0) ∙ w .written .given .1
 
-slice-reshare-prefix-left : tie.Need-slice-reshare-prefix-left
-slice-reshare-prefix-left c =
+slice-reshare-prefix-trace : tie.Need-slice-reshare-prefix-trace
+slice-reshare-prefix-trace c =
     let w = c .before in
     next-inside _ _ _ _ (told w) (w .before .before .before .before .put-field .ensures .1)
 
-slice-aggregate-left : tie.Need-slice-aggregate-left
-slice-aggregate-left c =
+slice-aggregate-trace : tie.Need-slice-aggregate-trace
+slice-aggregate-trace c =
     let w = c .before .before in
     next-part _ _ _ _ (told w) (w .before .before .before .before .put-field .ensures .1)
 
@@ -51,8 +51,8 @@ put-one-spec =
     (tie.spec
     (λ c κs. search needs)
     (λ c. search needs)
-    slice-reshare-prefix-left
-    slice-aggregate-left
+    slice-reshare-prefix-trace
+    slice-aggregate-trace
     (λ c κs. search needs)
     (λ c. search needs)
     (λ c. search needs)

@@ -144,14 +144,14 @@ part-marks-after-start c = omega (arith, starts (c .before .before .before .befo
 part-marks-after-end : tie.Need-part-marks-after-end Inv-loop μ-loop
 part-marks-after-end c = ends (c .before .before .before .before .before .before)
 
-sub-left : tie.Need-sub-left Inv-loop μ-loop
-sub-left c = omega (arith, starts (c .before .before .before .before .before .before .before .before))
+sub-trace : tie.Need-sub-trace Inv-loop μ-loop
+sub-trace c = omega (arith, starts (c .before .before .before .before .before .before .before .before))
 
-part-left-start : tie.Need-part-left-start Inv-loop μ-loop
-part-left-start c = omega (arith, starts (c .before .before .before .before .before .before .before .before))
+part-trace-start : tie.Need-part-trace-start Inv-loop μ-loop
+part-trace-start c = omega (arith, starts (c .before .before .before .before .before .before .before .before))
 
-part-left-end : tie.Need-part-left-end Inv-loop μ-loop
-part-left-end c = ends (c .before .before .before .before .before .before .before .before)
+part-trace-end : tie.Need-part-trace-end Inv-loop μ-loop
+part-trace-end c = ends (c .before .before .before .before .before .before .before .before)
 
 loop-again : tie.Need-loop-again Inv-loop μ-loop
 loop-again c =
@@ -188,9 +188,9 @@ read-spec =
     part-marks-after-start
     part-marks-after-end
     (λ c κs. search needs)
-    sub-left
-    part-left-start
-    part-left-end
+    sub-trace
+    part-trace-start
+    part-trace-end
     (λ c κs. search needs)
     (λ c. search needs)
     (λ c. search needs)

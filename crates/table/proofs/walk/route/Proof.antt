@@ -108,14 +108,14 @@ returns-3 c =
     let l = i .before in
     here (l .before .loop .inv) (l .loop-test .taken) (i .if1 .left) (f .field-end .result) (f .field-end .ensures) (p .plain .result) (p .plain .ensures) (c .before .if2 .taken)
 
-sub-left : tie.Need-sub-left Inv-loop μ-loop
-sub-left c = omega (arith, starts (c .before .before))
+sub-trace : tie.Need-sub-trace Inv-loop μ-loop
+sub-trace c = omega (arith, starts (c .before .before))
 
-part-left-start : tie.Need-part-left-start Inv-loop μ-loop
-part-left-start c = omega (arith, starts (c .before .before))
+part-trace-start : tie.Need-part-trace-start Inv-loop μ-loop
+part-trace-start c = omega (arith, starts (c .before .before))
 
-part-left-end : tie.Need-part-left-end Inv-loop μ-loop
-part-left-end c = ends (c .before .before)
+part-trace-end : tie.Need-part-trace-end Inv-loop μ-loop
+part-trace-end c = ends (c .before .before)
 
 loop-again : tie.Need-loop-again Inv-loop μ-loop
 loop-again c =
@@ -151,9 +151,9 @@ route-spec =
     part-result-start
     part-result-end
     returns-3
-    sub-left
-    part-left-start
-    part-left-end
+    sub-trace
+    part-trace-start
+    part-trace-end
     (λ c κs. search needs)
     (λ c. search needs)
     (λ c. search needs)
