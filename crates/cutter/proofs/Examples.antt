@@ -32,43 +32,48 @@ pub allowed-with-line-feed : (κs : _) (a : _) (r : _) (s : _) (rest : List ℕ)
 unfolding isAllowed has upTo
 allowed-with-line-feed κs a r s rest p e b h = p ∙ rw (e, b, h)
 
-module _ (κs : _) (a : _) (r : _) (s : _) (p : cut.Post κs a r s) where
-  -- 13 uses no byte
-  pub uses-a-byte-at-13 : now (a .0) ≡ [] → r ≡ record { answer = answer.NotAllowed; used = 0; begun = a .1 .0 }
-  unfolding cutOf isAllowed
-  uses-a-byte-at-13 e = p .0 ∙ rw e
+-- 13 uses no byte
+pub uses-a-byte-at-13 : (κs : _) (a : _) (r : _) (s : _) → cut.Post κs a r s
+    → now (a .0) ≡ [] → r ≡ record { answer = answer.NotAllowed; used = 0; begun = a .1 .0 }
+unfolding cutOf isAllowed
+uses-a-byte-at-13 κs a r s p e = p .0 ∙ rw e
 
-  -- a line's bytes and its line feed are used; the line lies in the part, and the buffer is as it was
-  pub line-feed-not-used : length (now (a .0)) ≡ 2048 → a .1 .0 ≡ Held 0 → now (a .1 .1 .0) ≡ 65 ∷ (10 ∷ (66 ∷ []))
-      → (r ≡ record { answer = answer.InPart 1; used = 2; begun = Held 0 }) × (now (s .0) ≡ now (a .0))
-  unfolding cutOf heldCut takenOf isAllowed has upTo before closeOf heldClosed atStart
-  line-feed-not-used h b e = (p .0 ∙ rw (b, e, h), p .1 .0 ∙ rw (b, e, h))
+-- a line's bytes and its line feed are used; the line lies in the part, and the buffer is as it was
+pub line-feed-not-used : (κs : _) (a : _) (r : _) (s : _) → cut.Post κs a r s
+    → length (now (a .0)) ≡ 2048 → a .1 .0 ≡ Held 0 → now (a .1 .1 .0) ≡ 65 ∷ (10 ∷ (66 ∷ []))
+    → (r ≡ record { answer = answer.InPart 1; used = 2; begun = Held 0 }) × (now (s .0) ≡ now (a .0))
+unfolding cutOf heldCut takenOf isAllowed has upTo before closeOf heldClosed atStart
+line-feed-not-used κs a r s p h b e = (p .0 ∙ rw (b, e, h), p .1 .0 ∙ rw (b, e, h))
 
-  -- a part without a line feed is taken, and held
-  pub two-at-each-part : (rest : List ℕ) → now (a .0) ≡ 0 ∷ (0 ∷ rest) → length rest ≡ 2046 → a .1 .0 ≡ Held 0 → now (a .1 .1 .0) ≡ bytes "AB"
-      → (r ≡ record { answer = answer.Taken; used = 2; begun = Held 2 }) × (now (s .0) ≡ 65 ∷ (66 ∷ rest))
-  unfolding cutOf heldCut takenOf isAllowed has upTo moreIn heldMore hasRoom spliced
-  two-at-each-part rest e h b f = (p .0 ∙ rw (b, e, f, h), p .1 .0 ∙ rw (b, e, f, h))
+-- a part without a line feed is taken, and held
+pub two-at-each-part : (κs : _) (a : _) (r : _) (s : _) → cut.Post κs a r s
+    → (rest : List ℕ) → now (a .0) ≡ 0 ∷ (0 ∷ rest) → length rest ≡ 2046 → a .1 .0 ≡ Held 0 → now (a .1 .1 .0) ≡ bytes "AB"
+    → (r ≡ record { answer = answer.Taken; used = 2; begun = Held 2 }) × (now (s .0) ≡ 65 ∷ (66 ∷ rest))
+unfolding cutOf heldCut takenOf isAllowed has upTo moreIn heldMore hasRoom spliced
+two-at-each-part κs a r s p rest e h b f = (p .0 ∙ rw (b, e, f, h), p .1 .0 ∙ rw (b, e, f, h))
 
-  -- a line that began before is handed over with its first bytes
-  pub without-its-first-part : (rest : List ℕ) → now (a .0) ≡ 65 ∷ (0 ∷ rest) → length rest ≡ 2046 → a .1 .0 ≡ Held 1 → now (a .1 .1 .0) ≡ 66 ∷ (10 ∷ [])
-      → (r ≡ record { answer = answer.InBuffer 2; used = 2; begun = Held 0 }) × (now (s .0) ≡ 65 ∷ (66 ∷ rest))
-  unfolding cutOf heldCut takenOf isAllowed has upTo before closeOf heldClosed atStart moreIn heldMore hasRoom spliced
-  without-its-first-part rest e h b f = (p .0 ∙ rw (b, e, f, h), p .1 .0 ∙ rw (b, e, f, h))
+-- a line that began before is handed over with its first bytes
+pub without-its-first-part : (κs : _) (a : _) (r : _) (s : _) → cut.Post κs a r s
+    → (rest : List ℕ) → now (a .0) ≡ 65 ∷ (0 ∷ rest) → length rest ≡ 2046 → a .1 .0 ≡ Held 1 → now (a .1 .1 .0) ≡ 66 ∷ (10 ∷ [])
+    → (r ≡ record { answer = answer.InBuffer 2; used = 2; begun = Held 0 }) × (now (s .0) ≡ 65 ∷ (66 ∷ rest))
+unfolding cutOf heldCut takenOf isAllowed has upTo before closeOf heldClosed atStart moreIn heldMore hasRoom spliced
+without-its-first-part κs a r s p rest e h b f = (p .0 ∙ rw (b, e, f, h), p .1 .0 ∙ rw (b, e, f, h))
 
-  -- a begun line of 2,048 bytes with one more is overlong, and its bytes are no line
-  pub keeps-an-overlong-line : length (now (a .0)) ≡ 2048 → has 10 (take 2048 (now (a .0))) ≡ false → a .1 .0 ≡ Held 2048 → now (a .1 .1 .0) ≡ bytes "A"
-      → (r ≡ record { answer = answer.Taken; used = 1; begun = Overlong }) × (now (s .0) ≡ now (a .0))
-  unfolding cutOf heldCut takenOf isAllowed has upTo moreIn heldMore hasRoom
-  keeps-an-overlong-line h f b e = (p .0 ∙ rw (b, e, f, h), p .1 .0 ∙ rw (b, e, f, h))
+-- a begun line of 2,048 bytes with one more is overlong, and its bytes are no line
+pub keeps-an-overlong-line : (κs : _) (a : _) (r : _) (s : _) → cut.Post κs a r s
+    → length (now (a .0)) ≡ 2048 → has 10 (take 2048 (now (a .0))) ≡ false → a .1 .0 ≡ Held 2048 → now (a .1 .1 .0) ≡ bytes "A"
+    → (r ≡ record { answer = answer.Taken; used = 1; begun = Overlong }) × (now (s .0) ≡ now (a .0))
+unfolding cutOf heldCut takenOf isAllowed has upTo moreIn heldMore hasRoom
+keeps-an-overlong-line κs a r s p h f b e = (p .0 ∙ rw (b, e, f, h), p .1 .0 ∙ rw (b, e, f, h))
 
-  -- 2,049 bytes before a line feed are overlong
-  pub takes-2049 : length (now (a .0)) ≡ 2048 → a .1 .0 ≡ Held 0 → upTo 10 (now (a .1 .1 .0)) ≡ 2049 → length (now (a .1 .1 .0)) ≡ 2050
-      → r ≡ record { answer = answer.TooLong; used = 2050; begun = Held 0 }
-  unfolding cutOf takenOf isAllowed has upTo before closeOf atStart
-  takes-2049 h b e f =
-      let g : length (take 2049 (now (a .1 .1 .0))) ≡ 2049 = length-take-le 2049 (now (a .1 .1 .0)) (omega (arith, f)) in
-      p .0 ∙ rw (b, e, f, g, h)
+-- 2,049 bytes before a line feed are overlong
+pub takes-2049 : (κs : _) (a : _) (r : _) (s : _) → cut.Post κs a r s
+    → length (now (a .0)) ≡ 2048 → a .1 .0 ≡ Held 0 → upTo 10 (now (a .1 .1 .0)) ≡ 2049 → length (now (a .1 .1 .0)) ≡ 2050
+    → r ≡ record { answer = answer.TooLong; used = 2050; begun = Held 0 }
+unfolding cutOf takenOf isAllowed has upTo before closeOf atStart
+takes-2049 κs a r s p h b e f =
+    let g : length (take 2049 (now (a .1 .1 .0))) ≡ 2049 = length-take-le 2049 (now (a .1 .1 .0)) (omega (arith, f)) in
+    p .0 ∙ rw (b, e, f, g, h)
 
 -- at a line's start the end of the feed answers 0
 pub seventeen-at-start : (κs : _) (a : _) (r : _) (s : _) → end.Post κs a r s → length (now (a .0)) ≡ 2048 → a .1 .0 ≡ Held 0
@@ -82,13 +87,14 @@ pub end-inside-is-0 : (κs : _) (a : _) (r : _) (s : _) → end.Post κs a r s �
 unfolding endOf isAllowed atStart
 end-inside-is-0 κs a r s p h b = p .0 ∙ rw (b, h)
 
-module _ (κs : _) (a : _) (r : _) (s : _) (p : line.Post κs a r s) (held : now (a .1 .0) ≡ bytes "ABC") (part : now (a .1 .1 .0) ≡ bytes "DEF") where
-  -- a line in the part is read there
-  pub line-of-the-other-buffer : a .0 ≡ answer.InPart 2 → now r ≡ bytes "DE"
-  unfolding lineIn
-  line-of-the-other-buffer e = p ∙ rw (e, part)
+-- a line in the part is read there
+pub line-of-the-other-buffer : (κs : _) (a : _) (r : _) (s : _) → line.Post κs a r s
+    → now (a .1 .0) ≡ bytes "ABC" → now (a .1 .1 .0) ≡ bytes "DEF" → a .0 ≡ answer.InPart 2 → now r ≡ bytes "DE"
+unfolding lineIn
+line-of-the-other-buffer κs a r s p held part e = p ∙ rw (e, part)
 
-  -- and one in the buffer there, with each of its bytes
-  pub line-without-a-byte : a .0 ≡ answer.InBuffer 2 → now r ≡ bytes "AB"
-  unfolding lineIn
-  line-without-a-byte e = p ∙ rw (e, held)
+-- and one in the buffer there, with each of its bytes
+pub line-without-a-byte : (κs : _) (a : _) (r : _) (s : _) → line.Post κs a r s
+    → now (a .1 .0) ≡ bytes "ABC" → now (a .1 .1 .0) ≡ bytes "DEF" → a .0 ≡ answer.InBuffer 2 → now r ≡ bytes "AB"
+unfolding lineIn
+line-without-a-byte κs a r s p held part e = p ∙ rw (e, held)

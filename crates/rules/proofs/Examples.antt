@@ -25,51 +25,47 @@ use Rattle.rules.proofs.is_form.Reads as is-form
 use Rattle.rules.proofs.is_position.Reads as is-position
 use Rattle.rules.proofs.is_route.Reads as is-route
 
-module _ (κs : _) (a : _) (r : _) (s : _) (p : is-facility.Post κs a r s) where
-  -- four spaces are no facility
-  pub facility-blank : now (a .0) ≡ bytes "    " → r ≡ false
-  unfolding oneOf fitsAny pieces fits isOf isAlnum isDigit isLetter
-  facility-blank e = p ∙ ap isFacility e
+-- four spaces are no facility
+pub facility-blank : (κs : _) (a : _) (r : _) (s : _) → is-facility.Post κs a r s → now (a .0) ≡ bytes "    " → r ≡ false
+unfolding oneOf fitsAny pieces fits isOf isAlnum isDigit isLetter
+facility-blank κs a r s p e = p ∙ ap isFacility e
 
-  -- nor is one with its space at the end
-  pub facility-left-justified : now (a .0) ≡ bytes "KZA " → r ≡ false
-  unfolding oneOf fitsAny pieces fits isOf isAlnum isDigit isLetter
-  facility-left-justified e = p ∙ ap isFacility e
+-- nor is one with its space at the end
+pub facility-left-justified : (κs : _) (a : _) (r : _) (s : _) → is-facility.Post κs a r s → now (a .0) ≡ bytes "KZA " → r ≡ false
+unfolding oneOf fitsAny pieces fits isOf isAlnum isDigit isLetter
+facility-left-justified κs a r s p e = p ∙ ap isFacility e
 
-module _ (κs : _) (a : _) (r : _) (s : _) (p : is-position.Post κs a r s) where
-  -- no latitude is past the pole
-  pub position-9001 : now (a .0) ≡ bytes "9001N/00000E" → r ≡ false
-  unfolding isPosition fits isOf within isNumeral isDigitTo numberOf digitOf value all codeOf isDigit isLetter
-  position-9001 e = p ∙ ap isPosition e
+-- no latitude is past the pole
+pub position-9001 : (κs : _) (a : _) (r : _) (s : _) → is-position.Post κs a r s → now (a .0) ≡ bytes "9001N/00000E" → r ≡ false
+unfolding isPosition fits isOf within isNumeral isDigitTo numberOf digitOf value all codeOf isDigit isLetter
+position-9001 κs a r s p e = p ∙ ap isPosition e
 
-  -- a degree has 60 minutes, 00 to 59
-  pub position-minute-60 : now (a .0) ≡ bytes "8960N/00000E" → r ≡ false
-  unfolding isPosition fits isOf within isNumeral isDigitTo numberOf digitOf value all codeOf isDigit isLetter
-  position-minute-60 e = p ∙ ap isPosition e
+-- a degree has 60 minutes, 00 to 59
+pub position-minute-60 : (κs : _) (a : _) (r : _) (s : _) → is-position.Post κs a r s → now (a .0) ≡ bytes "8960N/00000E" → r ≡ false
+unfolding isPosition fits isOf within isNumeral isDigitTo numberOf digitOf value all codeOf isDigit isLetter
+position-minute-60 κs a r s p e = p ∙ ap isPosition e
 
-module _ (κs : _) (a : _) (r : _) (s : _) (p : is-route.Post κs a r s) where
-  -- a route has a byte at least
-  pub route-empty : now (a .0) ≡ bytes "" → r ≡ false
-  unfolding isRoute
-  route-empty e = p ∙ ap isRoute e
+-- a route has a byte at least
+pub route-empty : (κs : _) (a : _) (r : _) (s : _) → is-route.Post κs a r s → now (a .0) ≡ bytes "" → r ≡ false
+unfolding isRoute
+route-empty κs a r s p e = p ∙ ap isRoute e
 
-  -- and no space
-  pub route-space : now (a .0) ≡ bytes "MIA ATL" → r ≡ false
-  unfolding isRoute all isOf
-  route-space e = p ∙ ap isRoute e
+-- and no space
+pub route-space : (κs : _) (a : _) (r : _) (s : _) → is-route.Post κs a r s → now (a .0) ≡ bytes "MIA ATL" → r ≡ false
+unfolding isRoute all isOf
+route-space κs a r s p e = p ∙ ap isRoute e
 
 -- ---- clocks
 
-module _ (κs : _) (a : _) (r : _) (s : _) (p : is-stamp.Post κs a r s) where
-  -- no day is 00
-  pub stamp-day-00 : now (a .0) ≡ bytes "00143655" → r ≡ false
-  unfolding isStamp fits isOf within isNumeral isDigitTo numberOf digitOf value all codeOf isDigit isLetter
-  stamp-day-00 e = p ∙ ap isStamp e
+-- no day is 00
+pub stamp-day-00 : (κs : _) (a : _) (r : _) (s : _) → is-stamp.Post κs a r s → now (a .0) ≡ bytes "00143655" → r ≡ false
+unfolding isStamp fits isOf within isNumeral isDigitTo numberOf digitOf value all codeOf isDigit isLetter
+stamp-day-00 κs a r s p e = p ∙ ap isStamp e
 
-  -- no second is 60
-  pub stamp-second-60 : now (a .0) ≡ bytes "06143660" → r ≡ false
-  unfolding isStamp fits isOf within isNumeral isDigitTo numberOf digitOf value all codeOf isDigit isLetter
-  stamp-second-60 e = p ∙ ap isStamp e
+-- no second is 60
+pub stamp-second-60 : (κs : _) (a : _) (r : _) (s : _) → is-stamp.Post κs a r s → now (a .0) ≡ bytes "06143660" → r ≡ false
+unfolding isStamp fits isOf within isNumeral isDigitTo numberOf digitOf value all codeOf isDigit isLetter
+stamp-second-60 κs a r s p e = p ∙ ap isStamp e
 
 -- ---- rules
 
@@ -106,17 +102,21 @@ table =
     ++ (rows kinds.AMENDMENT ("02" ∷ "03" ∷ "05" ∷ "06" ∷ "07" ∷ "08" ∷ "09" ∷ "10" ∷ []) ("04" ∷ "11" ∷ [])  -- amendment_04, amendment_11
     ++ rows (code "Z") [] ("12" ∷ "" ∷ []))))))))))))))))))  -- a letter that names no kind
 
-module _ (κs : _) (a : _) (r : _) (s : _) (p : is-form.Post κs a r s) where
-  -- asked a row's text of its kind, r is the row's answer; and so of each row
-  abbrev pub Tells : List Row → Type 0
-  Tells [] = Unit {0}
-  Tells (x ∷ l) = (a .0 ≡ x .kind → now (a .1 .0) ≡ bytes (x .text) → r ≡ x .told) × Tells l
+-- the kind k and the text t being a row's, r is the row's answer; and so of each row
+abbrev pub Tells : ℕ → List ℕ → Bool → List Row → Type 0
+Tells k t r [] = Unit {0}
+Tells k t r (x ∷ l) = (k ≡ x .kind → t ≡ bytes (x .text) → r ≡ x .told) × Tells k t r l
 
-  tells : (l : List Row) → map (λ (x : Row). isForm (x .kind) (bytes (x .text))) l ≡ map (λ (x : Row). x .told) l → Tells l
-  tells [] e = tt
-  tells (x ∷ l) e = ((λ k t. p ∙ rw (k, t) (ap (λ bs. getD bs 0 true) e)), tells l (ap (drop 1) e))
+tells : (k : ℕ) (t : List ℕ) (l : List Row) → map (λ (x : Row). isForm (x .kind) (bytes (x .text))) l ≡ map (λ (x : Row). x .told) l → Tells k t (isForm k t) l
+tells k t [] e = tt
+tells k t (x ∷ l) e = ((λ p q. rw (p, q) (ap (λ bs. getD bs 0 true) e)), tells k t l (ap (drop 1) e))
 
-  pub every-form : Tells table
-  unfolding isForm isStamp isKey isFix isClock isTime isArrival isPosition joins has before after upTo isOf fits fitsAny oneOf run within
-      pieces all isDigit isLetter isAlnum codeOf value isDigitTo digitOf isNumeral numberOf
-  every-form = tells table refl
+pub every-form : (κs : _) (a : _) (r : _) (s : _) → is-form.Post κs a r s → Tells (a .0) (now (a .1 .0)) r table
+unfolding isForm isStamp isKey isFix isClock isTime isArrival isPosition joins has before after upTo isOf fits fitsAny oneOf run within
+    pieces all isDigit isLetter isAlnum codeOf value isDigitTo digitOf isNumeral numberOf
+every-form κs a r s p = rw p (tells (a .0) (now (a .1 .0)) table refl)
+
+-- a letter that names no kind has no texts
+pub no-kind : (κs : _) (a : _) (r : _) (s : _) → is-form.Post κs a r s → a .0 ≡ code "Z" → r ≡ false
+unfolding isForm
+no-kind κs a r s p e = p ∙ ap (λ k. isForm k (now (a .1 .0))) e

@@ -1,7 +1,9 @@
 -- What the promises of `table` require on inputs written out, and so wrong answers that they do not allow: of each, `Post` is the function's
 -- `ensures` as it stands in the source, r any result that meets it, s the state at exit. Assumes nothing.
 use mathlib.Core.Bool.{false, true}
-use mathlib.Core.Path.{_≡_, ap, _∙_}
+use Prim.Native.Nat.{ℕ}
+use mathlib.Core.Path.{_≡_, refl, ap, _∙_}
+use mathlib.Core.List.{List}
 use denote.Ref.{now}
 use lib.Count.{ones}
 use Rattle.text.specs.Bytes.{bytes}
@@ -17,7 +19,8 @@ use Rattle.rules.specs.Form.{isIdent, isKey, isClock, isArrival, isPosition, is
 use Rattle.rules.specs.Kind.{isForm, POINT, FIX, TIME, LEVEL, AMENDMENT}
 use Rattle.fields.specs.Ident.{identOf}
 use Rattle.fields.specs.Word.{wordOf}
-use Rattle.fields.specs.declared.heads.MessageType.the-variants.{Af, Az, Fz, Rz, Tz, Dz, Uz, Hb}
+use Rattle.fields.specs.declared.heads.MessageType.{MessageType}
+use Rattle.fields.specs.declared.heads.MessageType.the-variants.{Af, Az, Dz, Fz, Rz, Tz, Uz, Rt, To, Hb}
 use Rattle.table.specs.Field.{markOf, contentOf, traceOf, marksOf, follows, plain, readKind, readIn, PLAN-TIME, CONTENT, ROUTE, valued, isOne, isMark, markText, isKindValue, isValue, shown}
 use Rattle.table.specs.Read.{answerOf, answers, counted, answerFrom, routeIn, routeOf}
 use Rattle.table.specs.Spacing.{ended, fieldsOf}
@@ -32,6 +35,7 @@ use Rattle.table.proofs.has_route.Reads as has-route
 use Rattle.table.proofs.is_count.Reads as is-count
 use Rattle.table.proofs.is_long_plan.Reads as is-long-plan
 use Rattle.table.proofs.kinds.follows.Reads as follows-read
+use Rattle.table.proofs.CountWays.{each-type}
 use Rattle.table.proofs.kinds.trace.Reads as trace-read
 use Rattle.table.proofs.kinds.marks_after.Reads as marks-read
 use Rattle.table.proofs.kinds.plain.Reads as plain-read
@@ -48,6 +52,23 @@ tz-by-the-az-table κs r s p = p
 pub level-before-time : (κs : _) (r : _) (s : _) → kinds-of.Post κs (Fz, tt) r s → r ≡ bytes "IZSFHLR............"
 unfolding dotted
 level-before-time κs r s p = p
+
+-- "type, fields in order": the kinds of each type's fields, of an AF with eight amendments, by their letters; RT, TO and HB have none
+abbrev rowOf : MessageType → List ℕ
+rowOf Az = bytes "IPPA..............."
+rowOf Dz = bytes "IZPTPC............."
+rowOf Rz = bytes "IPP................"
+rowOf Tz = bytes "JGMO..............."
+rowOf Fz = bytes "IZSFHLR............"
+rowOf Uz = bytes "IZSFHLR............"
+rowOf Af = bytes "IPPBWBWBWBWBWBWBWBW"
+rowOf Rt = bytes "..................."
+rowOf To = bytes "..................."
+rowOf Hb = bytes "..................."
+
+pub rows-in-order : (κs : _) (a : _) (r : _) (s : _) → kinds-of.Post κs a r s → r ≡ rowOf (a .0)
+unfolding dotted
+rows-in-order κs a r s p = p ∙ each-type (λ t. dotted t ≡ rowOf t) refl refl refl refl refl refl refl refl refl refl (a .0)
 
 -- answer 8
 abbrev spacing : Answer
