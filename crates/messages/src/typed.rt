@@ -36,6 +36,7 @@ pub enum BodyRead {
     Refused(Fault),
 }
 
+// Each struct is built in place: a function that calls no other is proved with no file.
 fn af_from(marks: u8, w: [Value; 19]) -> Af
     ensures { λ r. ⌜ r ≡ afFrom marks w ⌝ }
 {

@@ -9,6 +9,7 @@ use line::read;
 use messages::Message;
 use messages::type_in;
 use messages::values::values_in;
+use rules::LONGEST_LINE;
 use table::walk::Fault;
 use text::Written;
 use text::writing;
@@ -60,7 +61,7 @@ fn say_key(key: u64) {
 
 fn writes_same(m: Message, line: &[u8]) -> bool {
     let rest = free(line);
-    let mut room = [0u8; 2048];
+    let mut room = [0u8; LONGEST_LINE];
     let written = write(m, rest, &mut room, 0);
     let Written::Next(n) = written else {
         return false;

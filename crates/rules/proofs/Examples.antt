@@ -94,7 +94,7 @@ table =
     ++ (rows kinds.POINT ("MI" ∷ "ABCDEFGHIJ12" ∷ []) ("M" ∷ "ABCDEFGHIJ123" ∷ [])  -- point_1, point_13
     ++ (rows kinds.FIX ("OM" ∷ "ABCDEFGHI12" ∷ "MIA/180025" ∷ []) ("ABCDEFGHIJ12" ∷ "MIA/1800250" ∷ [])  -- fix_12, fix_back_7
     ++ (rows kinds.TIME ("D1200" ∷ "E0000" ∷ "P2359" ∷ []) ("D12000" ∷ "A1200" ∷ [])  -- time_6, time_any_letter
-    ++ (rows kinds.CLOCK ("0000" ∷ "2359" ∷ []) ("2400" ∷ "1260" ∷ [])  -- clock_2400, clock_minute_60
+    ++ (rows kinds.CLOCK ("0000" ∷ "2359" ∷ []) ("2400" ∷ "1260" ∷ "A1200" ∷ [])  -- clock_2400, clock_minute_60, clock_with_a_letter
     ++ (rows kinds.ARRIVAL ("1200" ∷ "A1200" ∷ "E2359" ∷ []) ("P1200" ∷ "A2400" ∷ [])  -- arrival_p, arrival_2400
     ++ (rows kinds.LEVEL ("35" ∷ "350" ∷ "35B350" ∷ "350B35" ∷ []) ("3" ∷ "35C350" ∷ [])  -- level_1, level_c_between
     ++ (rows kinds.TRACK-LEVEL ("350" ∷ "350C" ∷ []) ("35" ∷ "350CC" ∷ [])  -- track_level_2, track_level_two_letters

@@ -30,7 +30,7 @@ returns-3 c =
     let h = c .before .before in
     let e = h .before .before .before .before .before .before in
     let s = now (e .before .before .args .line) in
-    rest-all s 18 ∙ free-whole s (e .if1 .left) _ (told (h .before)) (not-so (h .has-fields .ensures) (c .before .if2 .taken))
+    rest-all s headLength ∙ free-whole s (e .if1 .left) _ (told (h .before)) (not-so (h .has-fields .ensures) (c .before .if2 .taken))
 
 returns-4 : tie.Need-returns-4
 returns-4 c =

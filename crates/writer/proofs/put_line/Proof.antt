@@ -69,7 +69,7 @@ module _ (m : Message) (r out : List ℕ) (a : LineAsks m r out) where
   three-size : length (sequence ++ stamp ++ facility) ≡ 16
   three-size = rw length-append (omega (arith, two-size, length-facility (m .facility .0)))
 
-  four-size : length (sequence ++ stamp ++ facility ++ kind) ≡ 18
+  four-size : length (sequence ++ stamp ++ facility ++ kind) ≡ headLength
   four-size = rw length-append (omega (arith, three-size, length-type (typeIn (m .body))))
 
   -- what stands at the start of o, of at most 18 bytes, is written within out
@@ -115,12 +115,12 @@ module _ (m : Message) (r out : List ℕ) (a : LineAsks m r out) where
           inside₄ : headLength ≤ length o₄
           inside₄ = within (sequence ++ stamp ++ facility ++ kind) (omega (arith, four-size)) fourth
 
-          asks : BodyAsks (m .body) r (m .trailing) (restFrom 18 o₄)
-          asks = record { good = allows .body; room = rest-long out (sequence ++ stamp ++ facility ++ kind) body 18 four-size room fourth }
+          asks : BodyAsks (m .body) r (m .trailing) (restFrom headLength o₄)
+          asks = record { good = allows .body; room = rest-long out (sequence ++ stamp ++ facility ++ kind) body headLength four-size room fourth }
 
-          whole : {y₅ : List ℕ} → y₅ ≡ spliced (restFrom 18 o₄) 0 body → given 18 o₄ y₅ ≡ spliced out 0 (lineOf m r)
+          whole : {y₅ : List ℕ} → y₅ ≡ spliced (restFrom headLength o₄) 0 body → given headLength o₄ y₅ ≡ spliced out 0 (lineOf m r)
           unfolding lineOf
-          whole w₅ = part-next out (sequence ++ stamp ++ facility ++ kind) body 18 four-size room fourth w₅ ∙ ap (spliced out 0) (simp append-assoc)
+          whole w₅ = part-next out (sequence ++ stamp ++ facility ++ kind) body headLength four-size room fourth w₅ ∙ ap (spliced out 0) (simp append-assoc)
 
 asked : (p : tie.After-put) → let s = p .before .before .before .before .before .before .before .before in
     LineAsks (s .args .m) (now (s .args .free)) (now (s .args .out))
