@@ -18,8 +18,8 @@ use Rattle.fields.specs.declared.heads.TypeRead.{TypeRead}
 use Rattle.fields.specs.declared.heads.TypeRead.the-variants.{Read, Nothing}
 
 -- the type with that number
-abbrev pub typeAt : ℕ → TypeRead
-typeAt n =
+abbrev pub typeBy : ℕ → TypeRead
+typeBy n =
     cond (eqb n (typeNumber Af)) (Read Af)
     (cond (eqb n (typeNumber Az)) (Read Az)
     (cond (eqb n (typeNumber Dz)) (Read Dz)
@@ -52,7 +52,7 @@ letters-fit a b h Rt = two-eq a b 82 84 h (lit≤ tt)
 letters-fit a b h To = two-eq a b 84 79 h (lit≤ tt)
 letters-fit a b h Hb = two-eq a b 72 66 h (lit≤ tt)
 
-pub type-at : (s : List ℕ) → length s ≡ 2 → getD s 1 0 < 256 → (n : ℕ) → n ≡ getD s 0 0 * 256 + getD s 1 0 → typeAt n ≡ typeOf s
+pub type-at : (s : List ℕ) → length s ≡ 2 → getD s 1 0 < 256 → (n : ℕ) → n ≡ getD s 0 0 * 256 + getD s 1 0 → typeBy n ≡ typeOf s
 unfolding typeOf
 type-at [] e h n z = absurd (omega arith)
 type-at (a ∷ []) e h n z = absurd (omega arith)

@@ -12,7 +12,7 @@ use Rattle.text.specs.Text.{packed}
 use Rattle.text.proofs.Logic.{true-false}
 use Rattle.shapes.specs.Picture.{isOf, fits}
 use Rattle.rules.specs.Form.{isSequence, isStamp, isFacility}
-use Rattle.rules.specs.Frame.{bodyPart, facilityPart, headLength, longestLine, sequencePart, stampPart, typePart}
+use Rattle.rules.specs.Frame.{bodyPart, facilityPart, headLength, longestLine, longestPlan, sequencePart, stampPart, typeAt, typePart}
 use Rattle.fields.specs.MessageType.{typeText, typeOf}
 use Rattle.fields.specs.declared.heads.MessageType.{MessageType}
 use Rattle.fields.specs.declared.heads.MessageType.the-variants.{Fz}
@@ -50,11 +50,11 @@ abbrev Own : List ℕ → Type 0
 Own s = Case s (lineNumber (readOf s)) (linePlace (readOf s))
 
 -- only an FZ has a limit of its own
-plan-type : (t : MessageType) (n : ℕ) → isLongPlan t n ≡ true → (t ≡ Fz) × (439 < n - 16)
+plan-type : (t : MessageType) (n : ℕ) → isLongPlan t n ≡ true → (t ≡ Fz) × (longestPlan < n - typeAt)
 unfolding fits isOf
 plan-type t n =
-    each-type (λ t. isLongPlan t n ≡ true → (t ≡ Fz) × (439 < n - 16)) (λ e. true-false e refl) (λ e. true-false e refl) (λ e. true-false e refl)
-    (λ e. (refl, ltb-true 439 (n - 16) e)) (λ e. true-false e refl) (λ e. true-false e refl) (λ e. true-false e refl) (λ e. true-false e refl)
+    each-type (λ t. isLongPlan t n ≡ true → (t ≡ Fz) × (longestPlan < n - typeAt)) (λ e. true-false e refl) (λ e. true-false e refl) (λ e. true-false e refl)
+    (λ e. (refl, ltb-true longestPlan (n - typeAt) e)) (λ e. true-false e refl) (λ e. true-false e refl) (λ e. true-false e refl) (λ e. true-false e refl)
     (λ e. true-false e refl) (λ e. true-false e refl) t
 
 -- the head that a line with the type t reads as

@@ -17,7 +17,7 @@ use Rattle.text.proofs.Splice.{spliced-next, set-spliced, next-store}
 use Rattle.shapes.proofs.Laws.{next-byte}
 use Rattle.rules.specs.Frame.{lineFeed}
 use Rattle.printer.specs.RowText.{space, hyphen, lineText}
-use Rattle.printer.specs.Parts.{partText, slipText, Eight}
+use Rattle.printer.specs.Parts.{partText, slipText, SlipWords}
 
 -- ---- one part
 
@@ -126,6 +126,6 @@ slip-short w (v ∷ ws) e =
     rw length-append (omega (arith, part-short w a, r))
 
 -- a line of eight words is short
-pub eight-short : (ws : List ℕ) → Eight ws → length (slipText ws) ≤ 104
-eight-short [] e = absurd (omega (arith, e .count))
-eight-short (w ∷ ws) e = omega (arith, slip-short w ws (e .good), e .count)
+pub counted-short : (ws : List ℕ) → SlipWords ws → length (slipText ws) ≤ 104
+counted-short [] e = absurd (omega (arith, e .count))
+counted-short (w ∷ ws) e = omega (arith, slip-short w ws (e .good), e .count)

@@ -23,7 +23,7 @@ use Rattle.board.specs.declared.rows.Track.{Track}
 use Rattle.board.specs.declared.rows.Row.{Row}
 use Rattle.board.proofs.RowWords.{some-word, words-row}
 use Rattle.printer.specs.RowText.{hyphen, arrivalParts, trackParts, rowText}
-use Rattle.printer.specs.Parts.{partText, partsOf, slipText, Eight}
+use Rattle.printer.specs.Parts.{partText, partsOf, slipText, SlipWords}
 
 -- ---- what an allowed row is, in parts
 
@@ -175,9 +175,9 @@ module _ (w : List ℕ) (h : 11 ≤ length w) (e : isRowWords w ≡ true) where
   pub row-slip : slipText (partsOf w) ≡ rowText (rowOf w)
   row-slip = ap slipText parts-order ∙ order-text (rowOf w) (allowed (rowOf w) (words-row w h e .1))
 
-  pub row-eight : Eight (partsOf w)
+  pub row-counted : SlipWords (partsOf w)
   unfolding partsOf
-  row-eight = record { count = refl; good = ap (all isPacked) parts-order ∙ order-packed (rowOf w) (allowed (rowOf w) (words-row w h e .1)) }
+  row-counted = record { count = refl; good = ap (all isPacked) parts-order ∙ order-packed (rowOf w) (allowed (rowOf w) (words-row w h e .1)) }
 
 -- ---- where they stand among the words of the board
 
@@ -204,8 +204,8 @@ module _ (l : List ℕ) (p : ℕ) (h : p + 11 ≤ length l) (e : isRowWords (dro
   eleven : 11 ≤ length (drop p l)
   eleven = rw length-drop (omega arith)
 
-  pub eight-there : Eight ws
-  eight-there = rw is (row-eight (drop p l) eleven e)
+  pub counted-there : SlipWords ws
+  counted-there = rw is (row-counted (drop p l) eleven e)
 
   pub slip-there : slipText ws ≡ rowText (rowOf (drop p l))
   slip-there = ap slipText is ∙ row-slip (drop p l) eleven e

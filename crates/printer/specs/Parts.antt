@@ -22,6 +22,6 @@ unfoldable pub slipText : List ℕ → List ℕ
 slipText ws = lineText (map partText ws)
 
 -- eight words, each the number of a text
-pub record Eight (ws : List ℕ) : Type 0 where
+pub record SlipWords (ws : List ℕ) : Type 0 where
   pub count : length ws ≡ 8
   pub good : all isPacked ws ≡ true

@@ -10,7 +10,7 @@ ghost use lib.ListN.{length, drop};
 ghost use Rattle.text.specs.Text.{isPacked, spliced};
 ghost use Rattle.board.specs.Row.{rowOf, isRowWords};
 ghost use Rattle.printer.specs.RowText.{rowText};
-ghost use Rattle.printer.specs.Parts.{partText, partsOf, slipText, Eight};
+ghost use Rattle.printer.specs.Parts.{partText, partsOf, slipText, SlipWords};
 
 // The words of the row that stands from p on, in the order of its line.
 fn parts(board: &[u64], p: usize) -> [u64; 8]
@@ -75,7 +75,7 @@ fn put_part(word: u64, after: u8, out: &mut [u8], at: usize) -> usize
 
 // How long the line of eight words is.
 fn line_size(words: &[u64]) -> usize
-    requires { ⌜ Eight (now words) ⌝ }
+    requires { ⌜ SlipWords (now words) ⌝ }
     ensures { λ r. ⌜ r ≡ length (slipText (now (words .entry))) ⌝ }
 {
     let mut n: usize = 0;
@@ -89,7 +89,7 @@ fn line_size(words: &[u64]) -> usize
 
 // The line of eight words: a space after each but the last, and a line feed after that one.
 fn put_line(words: &[u64], out: &mut [u8]) -> usize
-    requires { ⌜ Eight (now words) × (length (slipText (now words)) ≤ length (now out)) ⌝ }
+    requires { ⌜ SlipWords (now words) × (length (slipText (now words)) ≤ length (now out)) ⌝ }
     ensures { λ r. ⌜ r ≡ length (slipText (now (words .entry))) ⌝ }
     ensures { λ _. ⌜ now (out .exit) ≡ spliced (now (out .entry)) 0 (slipText (now (words .entry))) ⌝ }
 {

@@ -152,7 +152,7 @@ joins-held b k l₁ m₁ l₂ m₂ s h t few e =
 fix-held : (s : List ℕ) → isFix s ≡ true → Held s
 unfolding isFix textual isTextByte isAlnum isDigit isLetter
 fix-held s =
-    either-of (run (code "a") 2 11 s) (joins (code "/") (run (code "a") 2 5) (run (code "a") 1 6) s) (run-held (code "a") 2 11 s refl (lit≤ tt) (lit≤ tt))
+    either-of (run (code "a") 2 11 s) (joins (code "/") (run (code "a") 2 5) (run (code "a") 1 6) s) (run-held (code "a") _ _ s refl (lit≤ tt) (lit≤ tt))
     (joins-held (code "/") (code "a") 2 5 1 6 s refl refl (lit≤ tt))
 
 stamp-held : (s : List ℕ) → isStamp s ≡ true → Held s
@@ -190,11 +190,11 @@ form-held k s =
     (pick (eqb k KEY) (isKey s) _ (key-held s)
     (pick (eqb k NUMBER) (isNumber s) _ (fits-held (bytes "dda") s refl)
     (pick (eqb k PREFIX) (isPrefix s) _ (one-held (bytes "a|da") s refl)
-    (pick (eqb k MODEL) (isModel s) _ (run-held (code "a") 2 4 s refl (lit≤ tt) (lit≤ tt))
+    (pick (eqb k MODEL) (isModel s) _ (run-held (code "a") _ _ s refl (lit≤ tt) (lit≤ tt))
     (pick (eqb k LETTER) (isOneLetter s) _ (fits-held (bytes "l") s refl)
     (pick (eqb k FILED-SPEED) (isFiledSpeed s) _ (one-held (bytes "dd|ddd|dddd|lddd|SC") s refl)
     (pick (eqb k GROUND-SPEED) (isGroundSpeed s) _ (fits-held (bytes "ddd") s refl)
-    (pick (eqb k POINT) (isPoint s) _ (run-held (code "a") 2 12 s refl (lit≤ tt) (lit≤ tt))
+    (pick (eqb k POINT) (isPoint s) _ (run-held (code "a") _ _ s refl (lit≤ tt) (lit≤ tt))
     (pick (eqb k FIX) (isFix s) _ (fix-held s)
     (pick (eqb k TIME) (isTime s) _ (time-held s)
     (pick (eqb k CLOCK) (isClock s) _ (clock-held s)

@@ -5,3 +5,4 @@ pub mod ClockNumbers
 pub mod Runs
 pub mod Unique
 pub mod Examples
+pub mod Widths

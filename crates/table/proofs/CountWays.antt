@@ -3,7 +3,7 @@
 use mathlib.Core.Path.{_≡_, refl}
 use mathlib.Core.Bool.{false, not}
 use mathlib.Core.List.{List, [], _∷_}
-use Prim.Native.Nat.{ℕ, _-_}
+use Prim.Native.Nat.{ℕ, _+_, _-_}
 use native.Mathlib.Omega.{arith}
 use denote.Enum.Declared.{tagOf}
 use types.Run.{OneOf, miss}
@@ -16,7 +16,7 @@ use Rattle.fields.specs.declared.heads.MessageType.{MessageType}
 use Rattle.fields.specs.declared.heads.MessageType.the-variants.{Af, Az, Dz, Fz, Rz, Tz, Uz, Rt, To, Hb}
 use Rattle.fields.proofs.heads.MessageType.{the-type}
 use Rattle.table.specs.Table.{countWith, isCount, hasFields, hasRouteWith}
-use Rattle.rules.specs.Frame.{longestPlan}
+use Rattle.rules.specs.Frame.{typeAt, longestPlan}
 use Rattle.table.specs.Plan.{isLongPlan}
 
 pub each-type : (X : MessageType → Type 0) → X Af → X Az → X Dz → X Fz → X Rz → X Tz → X Uz → X Rt → X To → X Hb → (t : MessageType) → X t
@@ -55,13 +55,13 @@ no-route t m =
     each-type (λ t. OneOf unrouted (tagOf the-type t) → false ≡ hasRouteWith t m)
     (λ h. absurd (miss unrouted 0 tt h)) (λ h. refl) (λ h. refl) (λ h. absurd (miss unrouted 3 tt h)) (λ h. refl) (λ h. refl) (λ h. absurd (miss unrouted 6 tt h)) (λ h. refl) (λ h. refl) (λ h. refl) t
 
--- an FZ over 439 bytes from its type has over 455 from its start
-pub long-plan : (n : ℕ) → ltb 455 n ≡ isLongPlan Fz n
+-- an FZ over its limit from its type is over both together from its start
+pub long-plan : (n : ℕ) → ltb (typeAt + longestPlan) n ≡ isLongPlan Fz n
 unfolding fits isOf
 long-plan n =
-    same-test (ltb 455 n) (ltb longestPlan (n - 16))
-    (λ e. let h = ltb-true 455 n e in lt-ltb longestPlan (n - 16) (omega arith))
-    (λ e. let h = ltb-true longestPlan (n - 16) e in lt-ltb 455 n (omega arith))
+    same-test (ltb (typeAt + longestPlan) n) (ltb longestPlan (n - typeAt))
+    (λ e. let h = ltb-true (typeAt + longestPlan) n e in lt-ltb longestPlan (n - typeAt) (omega arith))
+    (λ e. let h = ltb-true longestPlan (n - typeAt) e in lt-ltb (typeAt + longestPlan) n (omega arith))
 
 -- no other type has that limit
 abbrev not-fz : List ℕ

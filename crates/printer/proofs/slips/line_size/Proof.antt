@@ -6,22 +6,22 @@ use Prim.Native.Nat.{ℕ, _+_, _-_, _≤_, _<_}
 use native.Mathlib.Omega.{arith}
 use lib.ListN.{length, getD, drop}
 use Rattle.text.specs.Text.{isPacked}
-use Rattle.printer.specs.Parts.{partText, slipText, Eight}
-use Rattle.printer.proofs.Lines.{next-size, last-size, part-packed, eight-short}
+use Rattle.printer.specs.Parts.{partText, slipText, SlipWords}
+use Rattle.printer.proofs.Lines.{next-size, last-size, part-packed, counted-short}
 use Rattle.printer.proofs.slips.line_size.Statement.{statement}
 use Rattle.printer.proofs.slips.line_size.Tie as tie
 
 record Inv (ws : List ℕ) (n k : ℕ) : Type 0 where
-  eight : Eight ws
+  eight : SlipWords ws
   few : k ≤ 7
   size : n + length (slipText (drop k ws)) ≡ length (slipText ws)
 
-start : (ws : List ℕ) → Eight ws → Inv ws 0 0
+start : (ws : List ℕ) → SlipWords ws → Inv ws 0 0
 start ws e = record { eight = e; few = omega arith; size = omega arith }
 
 module _ {ws : List ℕ} {n k : ℕ} (v : Inv ws n k) where
   short : length (slipText ws) ≤ 104
-  short = eight-short ws (v .eight)
+  short = counted-short ws (v .eight)
 
   packed : isPacked (getD ws k 0) ≡ true
   packed = part-packed ws k (v .eight .good) (omega (arith, v .eight .count))

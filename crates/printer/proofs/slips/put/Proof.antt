@@ -3,7 +3,7 @@ use mathlib.Core.Path.{ap, _∙_}
 use borrow.Author.Needs.{needs}
 use lib.ListN.{length}
 use Rattle.text.specs.Text.{spliced}
-use Rattle.printer.proofs.RowLines.{eight-there, slip-there, room-there}
+use Rattle.printer.proofs.RowLines.{counted-there, slip-there, room-there}
 use Rattle.printer.proofs.slips.put.Statement.{statement}
 use Rattle.printer.proofs.slips.put.Tie as tie
 
@@ -14,7 +14,7 @@ put-spec =
     (λ c κs. search needs) (λ c. search needs)
     (λ c κs. let p = c .before .before in
     let s = p .before .before .before in
-    (eight-there _ _ (s .pre .0) (s .pre .1 .0) (p .parts .ensures), room-there _ _ (s .pre .0) (s .pre .1 .0) (p .parts .ensures) (s .pre .1 .1)))
+    (counted-there _ _ (s .pre .0) (s .pre .1 .0) (p .parts .ensures), room-there _ _ (s .pre .0) (s .pre .1 .0) (p .parts .ensures) (s .pre .1 .1)))
     (λ c. search needs)
     (λ c. let q = c .before .before in
     let p = q .before .before .before in

@@ -10,20 +10,20 @@ use Rattle.text.specs.Text.{isPacked, spliced}
 use Rattle.text.proofs.Splice.{length-spliced}
 use Rattle.rules.specs.Frame.{lineFeed}
 use Rattle.printer.specs.RowText.{space}
-use Rattle.printer.specs.Parts.{partText, slipText, Eight}
+use Rattle.printer.specs.Parts.{partText, slipText, SlipWords}
 use Rattle.printer.proofs.Lines.{slip-last, next-size, last-size, next-wrote, part-packed}
 use Rattle.printer.proofs.slips.put_line.Statement.{statement}
 use Rattle.printer.proofs.slips.put_line.Tie as tie
 
 record Inv (ws out₀ out : List ℕ) (at k : ℕ) : Type 0 where
-  eight : Eight ws
+  eight : SlipWords ws
   few : k ≤ 7
   room : length (slipText ws) ≤ length out₀
   same : length out ≡ length out₀
   size : at + length (slipText (drop k ws)) ≡ length (slipText ws)
   text : spliced out at (slipText (drop k ws)) ≡ spliced out₀ 0 (slipText ws)
 
-start : (ws out : List ℕ) → Eight ws → length (slipText ws) ≤ length out → Inv ws out out 0 0
+start : (ws out : List ℕ) → SlipWords ws → length (slipText ws) ≤ length out → Inv ws out out 0 0
 start ws out e h = record { eight = e; few = omega arith; room = h; same = refl; size = omega arith; text = refl }
 
 module _ {ws out₀ out : List ℕ} {at k : ℕ} (v : Inv ws out₀ out at k) where

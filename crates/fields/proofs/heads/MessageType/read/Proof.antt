@@ -5,13 +5,13 @@ use borrow.Author.Tests.{ne-eqb}
 use Rattle.text.specs.Place.{value}
 use denote.Ref.{now}
 use Rattle.fields.specs.MessageType.{typeOf}
-use Rattle.fields.proofs.TypeLaws.{typeAt, type-at, type-apart}
+use Rattle.fields.proofs.TypeLaws.{typeBy, type-at, type-apart}
 use borrow.Author.Needs.{needs}
 use Rattle.fields.proofs.heads.MessageType.read.Statement.{statement}
 use Rattle.fields.proofs.heads.MessageType.read.Tie as tie
 
 -- the two letters' number says which type it is
-found : (c : tie.After-joined) → typeAt (c .joined .result) ≡ typeOf (now (c .before .before .before .before .before .args .s))
+found : (c : tie.After-joined) → typeBy (c .joined .result) ≡ typeOf (now (c .before .before .before .before .before .args .s))
 found c = type-at _ (c .before .before .before .if1 .left) (omega (arith, c .before .shared-slice-known3 .given 1)) (c .joined .result) (omega (arith, c .joined .ensures))
 
 pub read-spec : {M : Type 1} → statement M
