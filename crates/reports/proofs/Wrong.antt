@@ -145,8 +145,8 @@ module _ (limit : ℕ) (small : limit < 10 ^ 20) (feed : List ℕ) (lines taken 
             ∙ taken-digits (linesIn s) (takenIn s) l t),
       )
 
-  pub lines-made-up : (lines ≡ linesIn (readIn limit feed) → ⊥) → ⊥
-  lines-made-up other = other (both .0)
+  pub lines-made-up : lines ≡ linesIn (readIn limit feed)
+  lines-made-up = both .0
 
-  pub taken-made-up : (taken ≡ takenIn (readIn limit feed) → ⊥) → ⊥
-  taken-made-up other = other (both .1)
+  pub taken-made-up : taken ≡ takenIn (readIn limit feed)
+  taken-made-up = both .1
