@@ -1,9 +1,11 @@
 -- What the promises of `writer` require on inputs written out, and so wrong answers that they do not allow: of each, `Post` is the function's
 -- `ensures` as it stands in the source, r any result that meets it, s the state at exit. Assumes nothing.
-use mathlib.Core.Bool.{false}
+use Prim.Native.Nat.{ℕ}
+use mathlib.Core.Bool.{true, false}
 use mathlib.Core.List.{[], _∷_}
-use mathlib.Core.Path.{_≡_, _∙_}
+use mathlib.Core.Path.{_≡_, refl, _∙_}
 use denote.Ref.{now}
+use lib.Count.{ones}
 use lib.ListN.{replicate}
 use Rattle.text.specs.Bytes.{bytes}
 use Rattle.text.specs.Class.{all, isDigit, isLetter, isAlnum}
@@ -18,7 +20,16 @@ use Rattle.rules.specs.Form.{isStamp}
 use Rattle.rules.specs.Kind.{isForm}
 use Rattle.fields.specs.Facility.{facilityText, isFacilityValue}
 use Rattle.fields.specs.Word.{isWord}
-use Rattle.messages.specs.Allowed.{isWhole, bodyText, isBody}
+use Rattle.fields.specs.Pair.{isPair, pairText}
+use Rattle.fields.specs.Ident.{isIdentValue, identText}
+use Rattle.rules.specs.Form.{isKey, isIdent}
+use Rattle.table.specs.Field.{markOf, markText, isMark, contentOf, plain, traceOf, marksOf, follows, isOne, isTwo, isKindValue, shownKind, isValue, shown}
+use Rattle.table.specs.Spacing.{bodyOf}
+use Rattle.table.specs.Show.{textsFrom, allowedFrom, marksFrom}
+use Rattle.table.specs.Table.{countWith, isCount, kindsOf}
+use Rattle.messages.specs.Body.{slots, fieldCount, valuesIn, spare}
+use Rattle.messages.specs.Allowed.{isWhole, hasRoute, kindsIn, bodyText, isFielded, isBody}
+use Rattle.messages.specs.declared.Amendment.{Amendment}
 use Rattle.messages.specs.declared.Body.the-variants as body
 use Rattle.messages.specs.declared.Message.{Message}
 use Rattle.line.specs.Line.{lineOf, isHead, hasSize, isAllowed}
@@ -47,3 +58,43 @@ pub writes-before-it-refuses : (κs : _) (a : _) (r : _) (s : _) → write.Post 
     → (r ≡ NoText) × (now (s .1 .1 .0) ≡ now (a .1 .1 .0))
 unfolding writtenNext writtenBytes isAllowed isHead isBody facilityText isFacilityValue isWhole isWord isForm isStamp isOf fits fitsAny oneOf pieces run within isPacked tight textOf packed value digits places codeOf byteOf all isDigit isLetter isAlnum isNumeral isDigitTo numberOf digitOf allIn
 writes-before-it-refuses κs a r s p e f = (p .0 ∙ rw (e, f), p .1 ∙ rw (e, f))
+
+-- an AF that amends 08, with the set of marks m
+abbrev held : ℕ → ℕ → Amendment
+held m t = record { mark = m; content = record { a = t; b = 0; c = 0 } }
+
+abbrev amending : ℕ → Message
+amending m =
+    record {
+      sequence = record { 0 = packed (bytes "0000") };
+      stamp = record { 0 = packed (bytes "06143655") };
+      facility = record { 0 = value 256 4 (bytes "KZMA") };
+      body = body.Af (record {
+        ident = record { key = record { 0 = packed (bytes "N5") }; number = record { 0 = 0 } };
+        from = record { 0 = packed (bytes "BOS") };
+        to = record { 0 = packed (bytes "ALB") };
+        marks = m;
+        first = held 32 (packed (bytes "290"));
+        second = held 0 0;
+        third = held 0 0;
+        fourth = held 0 0;
+        fifth = held 0 0;
+        sixth = held 0 0;
+        seventh = held 0 0;
+        eighth = held 0 0;
+      });
+      trailing = false;
+    }
+
+-- 08's mark is the set's, 09's is not; antt computes it
+allowed : (isAllowed (amending 32) [] ≡ true) × (isAllowed (amending 64) [] ≡ false)
+unfolding isAllowed isHead hasSize lineOf bodyText hasRoute bodyOf isBody isWord isForm isStamp isOf fits fitsAny oneOf pieces run within isPacked tight textOf packed value digits
+    places codeOf byteOf all isDigit isLetter isAlnum isNumeral isDigitTo numberOf digitOf allIn facilityText isFacilityValue isWhole
+    isFielded kindsIn kindsOf fieldCount countWith isCount valuesIn spare allowedFrom marksFrom textsFrom isValue shown traceOf marksOf
+    follows plain contentOf markOf isKey isIdent isPair pairText slots isKindValue shownKind isOne isTwo isMark markText ones
+allowed = (refl, refl)
+
+-- the set of marks is that of the amendments: 09's in place of 08's is no line's
+pub marks-not-compared : (κs : _) (a : _) (r : _) (s : _) → write.Post κs a r s → a .0 ≡ amending 64 → now (a .1 .0) ≡ [] → r ≡ NoText
+unfolding writtenNext
+marks-not-compared κs a r s p e f = p .0 ∙ rw (e, f, allowed .1)
