@@ -21,7 +21,6 @@ use Rattle.rules.specs.Kind.{isForm}
 use Rattle.fields.specs.Facility.{facilityText, isFacilityValue}
 use Rattle.fields.specs.Word.{isWord}
 use Rattle.fields.specs.Pair.{isPair, pairText}
-use Rattle.fields.specs.Ident.{isIdentValue, identText}
 use Rattle.rules.specs.Form.{isKey, isIdent}
 use Rattle.table.specs.Field.{markOf, markText, isMark, contentOf, plain, traceOf, marksOf, follows, isOne, isTwo, isKindValue, shownKind, isValue, shown}
 use Rattle.table.specs.Spacing.{bodyOf}
