@@ -49,7 +49,7 @@ fn say_line_answer(answer: LineAnswer) {
 }
 
 // Number, place, the board.
-pub fn apply(board: &mut [u64], line: &[u8]) {
+pub(crate) fn apply(board: &mut [u64], line: &[u8]) {
     let answer = planner::apply(board, line);
     say_line_answer(answer);
     say_words(&board[..]);
@@ -65,7 +65,7 @@ fn say_strike_answer(answer: StrikeAnswer) {
 }
 
 // Number, place, the board.
-pub fn strike(board: &mut [u64], key: &[u8]) {
+pub(crate) fn strike(board: &mut [u64], key: &[u8]) {
     let answer = planner::strike(board, key);
     say_strike_answer(answer);
     say_words(&board[..]);
@@ -80,14 +80,14 @@ fn say_printed(printed: Printed) {
 }
 
 // Number, the place after the text, the buffer.
-pub fn print(board: &[u64], out: &mut [u8], at: usize) {
+pub(crate) fn print(board: &[u64], out: &mut [u8], at: usize) {
     let printed = printer::print(board, out, at);
     say_printed(printed);
     say_bytes(&out[..]);
 }
 
 // Number, the place after the text, the buffer.
-pub fn print_counts(lines: u64, taken: u64, out: &mut [u8], at: usize) {
+pub(crate) fn print_counts(lines: u64, taken: u64, out: &mut [u8], at: usize) {
     let lines = (lines % 4294967296) as u32;
     let taken = (taken % 4294967296) as u32;
     let written = printer::print_counts(lines, taken, out, at);
@@ -103,7 +103,7 @@ fn feed_number(answer: FeedAnswer) -> u64 {
 }
 
 // Number, bytes used, lines, taken, the cutter's state, the board, the buffer.
-pub fn feed(board: &mut [u64], held: &mut [u8], begun: Begun, most: usize, part: &[u8]) {
+pub(crate) fn feed(board: &mut [u64], held: &mut [u8], begun: Begun, most: usize, part: &[u8]) {
     let after = feeding::feed(board, held, begun, most, part);
     let answer = after.answer;
     let begun = after.begun;
@@ -120,7 +120,7 @@ fn say_age(number: u64, word: u64, seconds: u64) {
     say_number(seconds);
 }
 
-pub fn age(now: u64, last: u64, stamp: u64) {
+pub(crate) fn age(now: u64, last: u64, stamp: u64) {
     let aged = ages::age(Stamp(now), last, Stamp(stamp));
     match aged {
         Aged::Seconds(n) => say_age(0, 0, n),

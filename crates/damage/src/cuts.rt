@@ -7,7 +7,7 @@ use cutter::CutAnswer;
 use cutter::EndAnswer;
 
 // A state: so many bytes of the buffer, or, where the mark is 1, that the line is overlong.
-pub fn begun(mark: u64, n: u64) -> Begun {
+pub(crate) fn begun(mark: u64, n: u64) -> Begun {
     if mark == 1 {
         return Begun::Overlong;
     }
@@ -15,7 +15,7 @@ pub fn begun(mark: u64, n: u64) -> Begun {
 }
 
 // The mark, and how many bytes.
-pub fn say_begun(begun: Begun) {
+pub(crate) fn say_begun(begun: Begun) {
     match begun {
         Begun::Held(n) => say_two(0, n as u64),
         Begun::Overlong => say_two(1, 0),
@@ -34,7 +34,7 @@ fn say_answer(answer: CutAnswer) {
 }
 
 // Number, where the line lies, bytes used, the state, the line, the buffer.
-pub fn cut(held: &mut [u8], begun: Begun, part: &[u8]) {
+pub(crate) fn cut(held: &mut [u8], begun: Begun, part: &[u8]) {
     let after = cutter::cut(held, begun, part);
     let answer = after.answer;
     let begun = after.begun;
@@ -55,7 +55,7 @@ fn end_number(answer: EndAnswer) -> u64 {
 }
 
 // Number, the state, the buffer.
-pub fn end(held: &[u8], begun: Begun) {
+pub(crate) fn end(held: &[u8], begun: Begun) {
     let after = cutter::end(held, begun);
     let answer = after.answer;
     let begun = after.begun;

@@ -193,7 +193,7 @@ fn send(
     writer::write(m, free, out, at)
 }
 
-pub fn say_written(written: Written) {
+pub(crate) fn say_written(written: Written) {
     match written {
         Written::Next(next) => say_two(0, next as u64),
         Written::NoRoom => say_two(15, 0),
@@ -202,7 +202,7 @@ pub fn say_written(written: Written) {
 }
 
 // Number, the place after the line, the buffer.
-pub fn write(w: &[u64], free: &[u8], out: &mut [u8], at: usize) {
+pub(crate) fn write(w: &[u64], free: &[u8], out: &mut [u8], at: usize) {
     if w.len() < 48 {
         return;
     }

@@ -44,7 +44,7 @@ fn word_at(bytes: &[u8], i: usize) -> u64 {
 }
 
 // Each word from its eight bytes.
-pub fn unpack(bytes: &[u8], words: &mut [u64]) {
+pub(crate) fn unpack(bytes: &[u8], words: &mut [u64]) {
     let mut i: usize = 0;
     while i < words.len() {
         words[i] = word_at(bytes, i);
@@ -88,12 +88,12 @@ fn say(bytes: &[u8]) {
     io::write_all(STDOUT_FILENO, bytes);
 }
 
-pub fn say_number(n: u64) {
+pub(crate) fn say_number(n: u64) {
     let bytes = eight(n);
     say(&bytes);
 }
 
-pub fn say_two(a: u64, b: u64) {
+pub(crate) fn say_two(a: u64, b: u64) {
     say_number(a);
     say_number(b);
 }
@@ -105,14 +105,14 @@ fn say_all(words: &[u64]) {
 }
 
 // How many words there are, how many up to the last that is not 0, and these.
-pub fn say_words(words: &[u64]) {
+pub(crate) fn say_words(words: &[u64]) {
     let n = used(words);
     say_two(words.len() as u64, n as u64);
     say_all(&words[..n]);
 }
 
 // How many bytes there are, and these.
-pub fn say_bytes(bytes: &[u8]) {
+pub(crate) fn say_bytes(bytes: &[u8]) {
     say_number(bytes.len() as u64);
     say(bytes);
 }
