@@ -157,22 +157,26 @@ pairsOf (x ∷ xs) = valueOfWord (x .mark) ∷ x .content ∷ pairsOf xs
 abbrev pub nones : ℕ → List Value
 nones n = replicate n none
 
--- nineteen values, of which the first are the fields'; a plan's seventh field is its route, of which nothing is held
+-- ---- nineteen values, of which the first are the fields'
+
 abbrev pub afSlots : Af → List Value
 afSlots m = valueOfIdent (m .ident) ∷ valueOfWord (m .from .0) ∷ valueOfWord (m .to .0) ∷ pairsOf (slotsOf m)
 
+-- an ident and three words, and none after them
 abbrev pub shortSlots : Ident → ℕ → ℕ → ℕ → List Value
 shortSlots i a b c = valueOfIdent i ∷ valueOfWord a ∷ valueOfWord b ∷ valueOfWord c ∷ nones 15
 
+-- an ident, an aircraft and four words, and none after them
 abbrev pub longSlots : Ident → Aircraft → ℕ → ℕ → ℕ → ℕ → List Value
 longSlots i x a b c d = valueOfIdent i ∷ valueOfAircraft x ∷ valueOfWord a ∷ valueOfWord b ∷ valueOfWord c ∷ valueOfWord d ∷ nones 13
 
+-- a plan's seventh field is its route, of which nothing is held
 unfoldable pub slots : Body → List Value
 slots (body.Af m) = afSlots m
 slots (body.Az m) = shortSlots (m .ident) (m .from .0) (m .to .0) (m .clock .0)
 slots (body.Dz m) = longSlots (m .ident) (m .aircraft) (m .from .0) (m .time .0) (m .to .0) (m .clock .0)
 slots (body.Fz p) = longSlots (p .ident) (p .aircraft) (p .speed .0) (p .fix .0) (p .time .0) (p .level .0)
-slots (body.Rz m) = shortSlots (m .ident) (m .from .0) (m .to .0) 0
+slots (body.Rz m) = valueOfIdent (m .ident) ∷ valueOfWord (m .from .0) ∷ valueOfWord (m .to .0) ∷ nones 16
 slots (body.Tz m) = shortSlots (m .ident) (m .speed .0) (m .level .0) (m .position .0)
 slots (body.Uz p) = longSlots (p .ident) (p .aircraft) (p .speed .0) (p .fix .0) (p .time .0) (p .level .0)
 slots body.Rt = nones 19
