@@ -8,6 +8,10 @@ use Rattle.printer.specs.Text.{boardText, countsText}
 use Rattle.feeding.specs.Tally.{rowsBy, takenBy, lineFeeds}
 use Rattle.feeding.specs.Fed.{readIn}
 
+-- "It stops reading after 4,294,967,295 lines"
+abbrev pub mostLines : ℕ
+mostLines = 4294967295
+
 -- the rows after the lines of a text, from an empty board
 abbrev pub rowsAfterFeed : List ℕ → List Row
 rowsAfterFeed s = rowsBy [] (linesOf s)

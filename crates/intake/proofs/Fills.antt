@@ -18,12 +18,12 @@ use Rattle.printer.specs.Print.{textIn}
 use Rattle.printer.specs.declared.Printed.{Printed}
 use Rattle.printer.specs.declared.Printed.the-variants as printed
 use Rattle.printer.proofs.Printed.{the-type as the-printed}
-use Rattle.reports.specs.Report.{reportOf}
+use Rattle.reports.specs.Report.{mostLines, reportOf}
 use Rattle.reports.specs.Run.{Prints, Counts}
 use Rattle.reports.proofs.Theorems.{report-printed}
 use Rattle.reports.proofs.Sizes.{report-size}
-use Rattle.desks.specs.Day.{limit, ReadTo, longest, Fills}
-use Rattle.desks.specs.declared.Day.{Day}
+use Rattle.intake.specs.Day.{ReadTo, longestReport, Fills}
+use Rattle.intake.specs.declared.Day.{Day}
 
 -- where nothing was written, the code tells only the variant's number
 no-print : (r : Printed) → OneOf (1 ∷ 2 ∷ []) (tagOf the-printed r) → (n : ℕ) → r ≡ printed.Next n → ⊥
@@ -36,18 +36,18 @@ no-count (written.Next m) h n e = miss (1 ∷ 2 ∷ []) 0 tt h
 no-count written.NoRoom h n e = let z : _≡_ {A = ℕ} 0 1 = cc in omega arith
 no-count written.NoText h n e = let z : _≡_ {A = ℕ} 0 1 = cc in omega arith
 
-module _ (board : List ℕ) (d : Day) (out : List ℕ) (big : longest ≤ length out) (r : Printed) (out₁ : List ℕ) (p : Prints board out 0 r out₁) where
-  room : (feed : List ℕ) → 0 + length (reportOf limit feed) ≤ length out
-  room feed = omega (arith, report-size limit feed)
+module _ (board : List ℕ) (d : Day) (out : List ℕ) (big : longestReport ≤ length out) (r : Printed) (out₁ : List ℕ) (p : Prints board out 0 r out₁) where
+  room : (feed : List ℕ) → 0 + length (reportOf mostLines feed) ≤ length out
+  room feed = omega (arith, report-size mostLines feed)
 
   pub fills-nothing : OneOf (1 ∷ 2 ∷ []) (tagOf the-printed r) → Fills board d 0 out₁
-  fills-nothing h feed held q = absurd (no-print r h _ (report-printed limit q out 0 (room feed) r out₁ p .0))
+  fills-nothing h feed held q = absurd (no-print r h _ (report-printed mostLines q out 0 (room feed) r out₁ p .0))
 
   module _ (n : ℕ) (e : r ≡ printed.Next n) (w : Written) (out₂ : List ℕ) (k : Counts (d .lines) (d .taken) out₁ n w out₂) where
     whole : (feed held : List ℕ) → ReadTo feed board held d
-        → (w ≡ written.Next (0 + length (reportOf limit feed))) × (out₂ ≡ spliced out 0 (reportOf limit feed))
+        → (w ≡ written.Next (0 + length (reportOf mostLines feed))) × (out₂ ≡ spliced out 0 (reportOf mostLines feed))
     whole feed held q =
-        let f = report-printed limit q out 0 (room feed) r out₁ p in
+        let f = report-printed mostLines q out 0 (room feed) r out₁ p in
         let z : printed.Next n ≡ printed.Next (0 + length (textIn board)) = sym e ∙ f .0 in
         let y : n ≡ 0 + length (textIn board) = cc in
         f .1 w out₂ (rw y at k)
@@ -58,10 +58,10 @@ module _ (board : List ℕ) (d : Day) (out : List ℕ) (big : longest ≤ length
     pub fills-all : (m : ℕ) → w ≡ written.Next m → Fills board d m out₂
     fills-all m g feed held q =
         let f = whole feed held q in
-        let z : written.Next m ≡ written.Next (0 + length (reportOf limit feed)) = sym g ∙ f .0 in
-        let y : m ≡ 0 + length (reportOf limit feed) = cc in
-        let x : m ≡ length (reportOf limit feed) = omega arith in
-        (x, rw (f .1) (take-spliced out (reportOf limit feed) m x))
+        let z : written.Next m ≡ written.Next (0 + length (reportOf mostLines feed)) = sym g ∙ f .0 in
+        let y : m ≡ 0 + length (reportOf mostLines feed) = cc in
+        let x : m ≡ length (reportOf mostLines feed) = omega arith in
+        (x, rw (f .1) (take-spliced out (reportOf mostLines feed) m x))
 
     pub inside : (m : ℕ) → w ≡ written.Next m → m ≤ length out₂
     inside m g = next-inside true (countsText (d .lines) (d .taken)) out₁ n (sym (k .0) ∙ g) (k .1)

@@ -1,9 +1,10 @@
 -- `take_in` meets its contract. Assumes nothing.
+use mathlib.Core.Path.{refl}
 use native.Mathlib.Omega.{arith}
 use borrow.Author.Needs.{needs}
-use Rattle.desks.proofs.Days.{kept-lines, kept-allowed, reads-on, lines-within, taken-within}
-use Rattle.desks.proofs.take_in.Statement.{statement}
-use Rattle.desks.proofs.take_in.Tie as tie
+use Rattle.intake.proofs.Days.{kept-lines, kept-allowed, reads-on, lines-within, taken-within}
+use Rattle.intake.proofs.take_in.Statement.{statement}
+use Rattle.intake.proofs.take_in.Tie as tie
 
 pub take-in-spec : {M : Type 1} → statement M
 take-in-spec =
@@ -20,4 +21,4 @@ take-in-spec =
     (λ c. search needs) (λ c. search needs)
     (λ c. let f = c .before .before .before .before .before .before .before .before in
     let s = f .before .before .before .before .before .before .before in
-    reads-on _ _ (s .args .day) _ _ _ _ (f .feed-allowed .ensures)))
+    (refl, reads-on _ _ (s .args .day) _ _ _ _ (f .feed-allowed .ensures))))

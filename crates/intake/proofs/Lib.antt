@@ -1,0 +1,5 @@
+pub mod Edges
+pub mod Days
+pub mod Fills
+pub mod Torn
+pub mod Whole
