@@ -5,5 +5,6 @@ pub mod AskWays
 pub mod Answers
 pub mod AskAllowed
 pub mod Fields
+pub mod ByBytes
 pub mod Unique
 pub mod Examples

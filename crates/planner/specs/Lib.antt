@@ -2,3 +2,4 @@ pub mod Apply
 pub mod Cases
 pub mod Run
 pub mod Asked
+pub mod ByBytes
