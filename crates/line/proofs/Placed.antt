@@ -1,5 +1,5 @@
 -- THE LAW of a line that reads: the parts of its message stand where document 01 says. Assumes nothing.
-use mathlib.Core.Path.{_≡_, refl, _∙_}
+use mathlib.Core.Path.{_≡_, _∙_}
 use mathlib.Core.List.{List}
 use Prim.Native.Nat.{ℕ}
 use Rattle.rules.specs.Frame.{bodyPart}

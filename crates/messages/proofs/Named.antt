@@ -1,7 +1,7 @@
 -- THE LAW of named parts: of a body that reads each named part is the field at document 01's place, and no field is left out. Assumes
 -- nothing.
 use mathlib.Core.Path.{_≡_, refl, sym, ap, _∙_, subst}
-use mathlib.Core.Bool.{Bool, true, false}
+use mathlib.Core.Bool.{Bool, true}
 use mathlib.Core.List.{List, [], _∷_, map}
 use Prim.Native.Nat.{ℕ, zero, suc, _+_, _*_, _-_, _≤_}
 use native.Mathlib.Omega.{arith}
@@ -11,16 +11,15 @@ use lib.Seq.{drop-drop, getD-drop}
 use Rattle.text.proofs.Logic.{true-false}
 use Rattle.rules.specs.Kind.{POINT, AMENDMENT}
 use Rattle.fields.specs.declared.heads.MessageType.{MessageType}
-use Rattle.fields.specs.declared.heads.MessageType.the-variants as type
-use Rattle.table.specs.Spacing.{Fields, bodyOf, fieldsOf, fieldsIn}
+use Rattle.table.specs.Spacing.{Fields, fieldsOf, fieldsIn}
 use Rattle.table.specs.Field.{IDENT, CONTENT, markText, isMark, contentOf, plain, traceOf, shownKind, shown}
 use Rattle.table.specs.declared.kinds.Value.{Value}
 use Rattle.table.specs.Show.{textsFrom, allowedFrom}
 use Rattle.table.specs.Table.{amendments, isCount, countWith, hasFields, kindsOf, countIn, routeBy, freeIn}
 use Rattle.table.proofs.MarkSets.{each-mark}
 use Rattle.messages.specs.Body.{amendedIn, heldFrom, typeIn, valueOfWord, valueOfIdent, slotsOf, pairsOf, slots, fieldCount, valuesIn}
-use Rattle.messages.specs.Allowed.{kindsIn, isFielded}
-use Rattle.messages.specs.Named.{Part, numberText, contentText, amendmentParts, named, fieldAt, Stand, placesFrom, AreFields}
+use Rattle.messages.specs.Allowed.{kindsIn}
+use Rattle.messages.specs.Named.{Part, numberText, contentText, amendmentParts, named, Stand, placesFrom, AreFields}
 use Rattle.messages.specs.Read.{bodyRead}
 use Rattle.messages.specs.declared.Amendment.{Amendment}
 use Rattle.messages.specs.declared.Af.{Af}

@@ -6,5 +6,6 @@ pub mod Answers
 pub mod AskAllowed
 pub mod Fields
 pub mod ByBytes
+pub mod Given
 pub mod Unique
 pub mod Examples

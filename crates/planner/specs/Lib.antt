@@ -3,3 +3,4 @@ pub mod Cases
 pub mod Run
 pub mod Asked
 pub mod ByBytes
+pub mod Given
