@@ -8,6 +8,7 @@ use Prim.Native.Nat.{ℕ, _+_, _*_}
 use Prim.Native.Char.{code}
 use lib.Dec.{eqb}
 use borrow.Author.Tests.{eq-eqb}
+use denote.Ref.{now}
 use lib.ListN.{getD, drop}
 use Rattle.text.specs.Bytes.{bytes}
 use Rattle.text.specs.Text.{packed, textOf}
@@ -40,10 +41,14 @@ use Rattle.line.proofs.Theorems.{reads-allowed, no-refusal}
 use Rattle.line.proofs.Placed.{reads-placed}
 use Rattle.board.specs.declared.rows.Arrival.{Arrival}
 use Rattle.board.specs.declared.rows.Track.{Track}
+use Rattle.board.specs.Board.{rowsOf, wordsOf, isAllowed}
+use Rattle.history.specs.Steps.{rowsAfter}
 use Rattle.history.specs.Events.{Event, dz, az, tz, other, unread, strike, misnamed}
 use Rattle.planner.specs.Asked.{askedIn, askedBy, askedFrom, askedOf}
-use Rattle.planner.specs.Apply.{eventOf, lineEvent}
+use Rattle.planner.specs.Apply.{eventOf, lineEvent, boardAfter}
 use Rattle.planner.specs.ByBytes.{DzOf, AzOf, TzOf, OtherOf}
+use Rattle.planner.proofs.apply.Reads as apply
+use Rattle.planner.proofs.Theorems.{apply-promise}
 use Rattle.planner.proofs.Fields.{ident-dz, from-dz, to-dz, clock-dz, ident-az, from-az, to-az, clock-az, ident-tz, speed-tz, level-tz, position-tz}
 
 -- ---- a field whose text is known
@@ -251,3 +256,19 @@ other-exactly s = (λ e. subst (Known s) e (known s), other-only s (lineEvent s)
 
 pub unread-exactly : (s : List ℕ) → (lineEvent s ≡ unread) ↔ (lineNumber (readOf s) ≡ 0 → ⊥)
 unread-exactly s = (λ e. subst (Known s) e (known s), unread-only s (lineEvent s) (known s))
+
+-- ---- so a call of `apply` on an allowed board leaves the rows after what its bytes say; `Post` is its `ensures` as it stands in the source
+
+module _ (κs : _) (c : _) (r : _) (s : _) (p : apply.Post κs c r s) (allowed : isAllowed (now (c .0)) ≡ true) where
+  apply-as : (e : Event) → lineEvent (now (c .1 .0)) ≡ e → now (s .0) ≡ wordsOf (rowsAfter (rowsOf (now (c .0))) e)
+  unfolding boardAfter
+  apply-as e q = apply-promise κs c r s p .1 ∙ rw (allowed, q)
+
+  pub apply-dz : (k : ℕ) (a : Arrival) → DzOf (now (c .1 .0)) k a → now (s .0) ≡ wordsOf (rowsAfter (rowsOf (now (c .0))) (dz k a))
+  apply-dz k a d = apply-as (dz k a) (dz-exactly (now (c .1 .0)) k a .1 d)
+
+  pub apply-az : (k : ℕ) (a : Arrival) → AzOf (now (c .1 .0)) k a → now (s .0) ≡ wordsOf (rowsAfter (rowsOf (now (c .0))) (az k a))
+  apply-az k a d = apply-as (az k a) (az-exactly (now (c .1 .0)) k a .1 d)
+
+  pub apply-tz : (k : ℕ) (t : Track) → TzOf (now (c .1 .0)) k t → now (s .0) ≡ wordsOf (rowsAfter (rowsOf (now (c .0))) (tz k t))
+  apply-tz k t d = apply-as (tz k t) (tz-exactly (now (c .1 .0)) k t .1 d)

@@ -3,12 +3,12 @@
 use mathlib.Core.Logic.{_↔_}
 use mathlib.Core.Path.{_≡_, refl, sym, ap, ap₂, _∙_, subst}
 use mathlib.Core.Bool.{true, false, _&&_}
-use mathlib.Core.List.{List, []}
+use mathlib.Core.List.{List, [], _∷_}
 use Prim.Native.Nat.{ℕ, _+_, _≤_}
 use native.Mathlib.Omega.{arith}
-use lib.Dec.{eqb}
+use lib.Dec.{eqb, leb}
 use lib.ListN.{length, length-append}
-use borrow.Author.Tests.{ne-eqb}
+use borrow.Author.Tests.{ne-eqb, leb-true, le-leb}
 use Rattle.text.specs.Bytes.{bytes}
 use Rattle.text.specs.Class.{isDigit, isLetter, isAlnum, all}
 use Rattle.text.specs.Code.{codeOf}
@@ -48,6 +48,10 @@ use Rattle.line.proofs.Heads.{headed-parts}
 use Rattle.line.proofs.Steps.{Allows, headIn, allows-allowed}
 use Rattle.line.proofs.Theorems.{allowed-reads}
 use Rattle.board.specs.Row.{isArrival, isTrack, hasEntry, isRow}
+use Rattle.board.specs.Rows.{CAP, allRows, risesByBytes, isBoard}
+use Rattle.board.specs.Board.{isAllowed}
+use Rattle.board.proofs.Allowed.{cap-is}
+use Rattle.board.proofs.Theorems.{Shows, allowed-rows}
 use Rattle.board.specs.declared.rows.Arrival.{Arrival}
 use Rattle.board.specs.declared.rows.ArrivalSlot.{ArrivalSlot}
 use Rattle.board.specs.declared.rows.ArrivalSlot.the-variants as arrival
@@ -58,7 +62,7 @@ use Rattle.board.specs.declared.rows.Row.{Row}
 use Rattle.history.specs.Events.{Event, dz, az, tz, isEvent}
 use Rattle.planner.specs.Asked.{askedBy, askedFrom, askedOf}
 use Rattle.planner.specs.Apply.{eventOf, lineEvent}
-use Rattle.planner.specs.Given.{GivesArrival, ByDz, ByAz, GivesTrack, ByTz, GivesKey, OfDz, OfAz, OfTz, GivesRow}
+use Rattle.planner.specs.Given.{GivesArrival, ByDz, ByAz, GivesTrack, ByTz, GivesKey, OfDz, OfAz, OfTz, GivesRow, EachGiven, GivesBoard}
 use Rattle.planner.proofs.Theorems.{line-is}
 
 -- ---- a line with a stamp and a body
@@ -253,3 +257,32 @@ row-exactly r = (there, λ g. rw (key-exactly (r .key .0) .1 (g .key), slot-arri
           tracked = λ t q. track-exactly t .0 (ap isTrack (sym q) ∙ and-right (k && x) y u);
           some = λ p q. true-false (and-right (k && x && y) z e) (ap₂ hasEntry p q ∙ none-some);
         }
+
+-- ---- and of a board: 13 is answered exactly where no lines give it
+
+each-exactly : (rs : List Row) → (allRows rs ≡ true) ↔ EachGiven rs
+unfolding allRows
+each-exactly [] = (λ e. tt, λ g. refl)
+each-exactly (r ∷ rs) = (
+  λ e. (row-exactly r .0 (and-left (isRow r) (allRows rs) e), each-exactly rs .0 (and-right (isRow r) (allRows rs) e)),
+  λ g. rw (row-exactly r .1 (g .0), each-exactly rs .1 (g .1)),
+)
+
+pub board-exactly : (l : List ℕ) → (isAllowed l ≡ true) ↔ GivesBoard l
+unfolding isBoard
+board-exactly l = (λ e. there (allowed-rows l .0 e), λ g. allowed-rows l .1 (record { rows = g .rows; board = back g; words = g .words }))
+  where
+    there : Shows l → GivesBoard l
+    there s =
+        let few = leb (length (s .rows)) CAP in
+        let u = and-left (few && allRows (s .rows)) (risesByBytes (s .rows)) (s .board) in
+        record {
+          rows = s .rows;
+          words = s .words;
+          few = omega (arith, leb-true (length (s .rows)) CAP (and-left few (allRows (s .rows)) u), cap-is);
+          rising = and-right (few && allRows (s .rows)) (risesByBytes (s .rows)) (s .board);
+          each = each-exactly (s .rows) .0 (and-right few (allRows (s .rows)) u);
+        }
+
+    back : (g : GivesBoard l) → isBoard (g .rows) ≡ true
+    back g = rw (le-leb (length (g .rows)) CAP (omega (arith, g .few, cap-is)), each-exactly (g .rows) .1 (g .each), g .rising)

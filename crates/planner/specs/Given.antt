@@ -1,8 +1,12 @@
 -- "Entries such as a line could give", "keys of ident form without slash or computer number" (document 01, "Board"): said of lines. Assumes
 -- nothing.
-use Prim.Native.Nat.{ℕ}
+use Prim.Native.Nat.{ℕ, _≤_}
 use mathlib.Core.Path.{_≡_}
-use mathlib.Core.List.{List}
+use mathlib.Core.Bool.{true}
+use mathlib.Core.List.{List, [], _∷_}
+use lib.ListN.{length}
+use Rattle.board.specs.Rows.{risesByBytes}
+use Rattle.board.specs.Board.{wordsOf}
 use Rattle.board.specs.declared.rows.Arrival.{Arrival}
 use Rattle.board.specs.declared.rows.ArrivalSlot.the-variants as arrival
 use Rattle.board.specs.declared.rows.Track.{Track}
@@ -32,3 +36,16 @@ pub record GivesRow (r : Row) : Type 0 where
   pub arrived : (a : Arrival) → r .arrival ≡ arrival.Entry a → GivesArrival a
   pub tracked : (t : Track) → r .track ≡ track.Entry t → GivesTrack t
   pub some : r .arrival ≡ arrival.Empty → r .track ≡ track.Empty → ⊥
+
+abbrev pub EachGiven : List Row → Type 0
+EachGiven [] = Unit
+EachGiven (r ∷ rs) = GivesRow r × EachGiven rs
+
+-- "A board is allowed exactly if it has at most 256 rows, keys of ident form .., strictly rising, entries such as a line could give, and no
+-- row with both none"; l are its words
+pub record GivesBoard (l : List ℕ) : Type 0 where
+  pub rows : List Row
+  pub words : l ≡ wordsOf rows
+  pub few : length rows ≤ 256
+  pub rising : risesByBytes rows ≡ true
+  pub each : EachGiven rows
