@@ -2,6 +2,7 @@ pub mod Ways
 pub mod Heads
 pub mod Steps
 pub mod Theorems
+pub mod Placed
 pub mod CasesBodies
 pub mod Cases
 pub mod Starred

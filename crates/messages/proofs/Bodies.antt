@@ -249,11 +249,11 @@ fixed-slots t k n r vs s c e =
 
 -- ---- the same for an AF, by pairs
 
-abbrev double : ℕ → ℕ
+abbrev pub double : ℕ → ℕ
 double zero = zero
 double (suc j) = suc (suc (double j))
 
-double-is : (j : ℕ) → double j ≡ j + j
+pub double-is : (j : ℕ) → double j ≡ j + j
 double-is zero = refl
 double-is (suc j) = omega (arith, double-is j)
 
@@ -261,7 +261,7 @@ amendments-length : (j : ℕ) → length (amendments j) ≡ double j
 amendments-length zero = refl
 amendments-length (suc j) = ap (λ (n : ℕ). suc (suc n)) (amendments-length j)
 
-take-amendments : (j t : ℕ) → j ≤ t → take (double j) (amendments t) ≡ amendments j
+pub take-amendments : (j t : ℕ) → j ≤ t → take (double j) (amendments t) ≡ amendments j
 take-amendments zero t h = refl
 take-amendments (suc j) zero h = absurd (omega arith)
 take-amendments (suc j) (suc t) h = ap (λ (l : List ℕ). AMENDMENT ∷ CONTENT ∷ l) (take-amendments j t (le-of-suc-le-suc h))
@@ -282,7 +282,7 @@ pairs-none (suc t) (n ∷ v ∷ l) h e =
     λ x. p x ∷ v ∷ i x
 
 -- a number's value is a mark alone, and what it leaves is that mark
-mark-value : (p : ℕ) (r : List ℕ) (n : Value) → isValue AMENDMENT p r n ≡ true → (isMark (n .a) ≡ true) × (isOne n ≡ true) × (traceOf AMENDMENT (shown AMENDMENT p r n) ≡ n .a)
+pub mark-value : (p : ℕ) (r : List ℕ) (n : Value) → isValue AMENDMENT p r n ≡ true → (isMark (n .a) ≡ true) × (isOne n ≡ true) × (traceOf AMENDMENT (shown AMENDMENT p r n) ≡ n .a)
 unfolding isValue traceOf shown
 mark-value p r n e =
     let m = and-left (isMark (n .a)) (isOne n) e in
@@ -303,7 +303,7 @@ pairs-back (suc t) (suc j) p m r (n ∷ v ∷ vs) more h q e =
     λ x. g x ∷ v ∷ i x
 
 -- a count of fields that an AF may have is three and some pairs, at most eight
-count-pairs : (n : ℕ) → isCount type.Af n ≡ true → (n ≡ suc (suc (suc (double ((n - 3) / 2))))) × ((n - 3) / 2 ≤ 8)
+pub count-pairs : (n : ℕ) → isCount type.Af n ≡ true → (n ≡ suc (suc (suc (double ((n - 3) / 2))))) × ((n - 3) / 2 ≤ 8)
 unfolding isCount
 count-pairs n c =
     let b = and-left (leb 5 n && leb n 19) (eqb (n % 2) 1) c in
@@ -328,7 +328,7 @@ amended-all (suc j) p m r (x ∷ xs) e =
     let i = amended-all j _ _ r xs (allowed-rest CONTENT (amendments j) _ _ r (x .content) (pairsOf xs) f) in
     λ z. h z ∷ i z
 
-take-pairs : (j : ℕ) (xs : List Amendment) → take (double j) (pairsOf xs) ≡ pairsOf (take j xs)
+pub take-pairs : (j : ℕ) (xs : List Amendment) → take (double j) (pairsOf xs) ≡ pairsOf (take j xs)
 take-pairs zero xs = refl
 take-pairs (suc j) [] = refl
 take-pairs (suc j) (x ∷ xs) = ap (λ (l : List Value). valueOfWord (x .mark) ∷ x .content ∷ l) (take-pairs j xs)

@@ -3,5 +3,6 @@ pub mod Bodies
 pub mod Tables
 pub mod ReadWays
 pub mod Theorems
+pub mod Named
 pub mod Unique
 pub mod Examples

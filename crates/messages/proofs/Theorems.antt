@@ -79,17 +79,17 @@ typed-taken t s b u e = go (isCount t (countIn s)) refl
     go false q = none _ (rw q at e)
 
 -- the text and the rules of what is read
-record Held (t : MessageType) (s : List ℕ) (b : Body) (u : Bool) : Type 0 where
-  type : typeIn b ≡ t
-  fields : fieldCount b ≡ countIn s
-  good : isFielded b (routeBy t s) ≡ true
-  text : bodyOf (textsFrom (kindsIn b) 0 (routeBy t s) (valuesIn b)) u ≡ s
+pub record Held (t : MessageType) (s : List ℕ) (b : Body) (u : Bool) : Type 0 where
+  pub type : typeIn b ≡ t
+  pub fields : fieldCount b ≡ countIn s
+  pub good : isFielded b (routeBy t s) ≡ true
+  pub text : bodyOf (textsFrom (kindsIn b) 0 (routeBy t s) (valuesIn b)) u ≡ s
 
 either : (a b : Bool) → (a ≡ false → b ≡ true) → (a || b) ≡ true
 either true b h = refl
 either false b h = h refl
 
-fields-held : (t : MessageType) (s : List ℕ) (b : Body) (u : Bool) → typedOf t (padded (valuesBy t s)) (answerBy t s) ≡ read.Read b u → Held t s b u
+pub fields-held : (t : MessageType) (s : List ℕ) (b : Body) (u : Bool) → typedOf t (padded (valuesBy t s)) (answerBy t s) ≡ read.Read b u → Held t s b u
 unfolding isFielded kindsIn
 fields-held t s b u e = rw (← (x .is)) (record { type = same; fields = count; good = good; text = text })
   where
@@ -223,10 +223,10 @@ module _ (b : Body) (r : List ℕ) (u : Bool) (e : isFielded b r ≡ true) where
   unfolding isFielded
   five = e
 
-  counted : isCount t n ≡ true
+  pub counted : isCount t n ≡ true
   counted = and-left a₁ a₂ (and-left (a₁ && a₂) a₃ (and-left (a₁ && a₂ && a₃) a₄ (and-left (a₁ && a₂ && a₃ && a₄) a₅ five)))
 
-  allowed : allowedFrom ks 0 0 r vs ≡ true
+  pub allowed : allowedFrom ks 0 0 r vs ≡ true
   allowed = and-right a₁ a₂ (and-left (a₁ && a₂) a₃ (and-left (a₁ && a₂ && a₃) a₄ (and-left (a₁ && a₂ && a₃ && a₄) a₅ five)))
 
   marked : marksFrom ks 0 0 r vs ≡ marksIn b
@@ -248,7 +248,7 @@ module _ (b : Body) (r : List ℕ) (u : Bool) (e : isFielded b r ≡ true) where
   is : bodyFrom t (marksIn b) (padded vs) ≡ b
   is = body-back b spared
 
-  parts : (answerOf ks s ≡ answer.Taken u (marksFrom ks 0 0 r vs)) × (valuesOf ks s ≡ vs) × (fieldsOf s ≡ Fields (textsFrom ks 0 r vs) u) × (length vs ≡ length ks)
+  pub parts : (answerOf ks s ≡ answer.Taken u (marksFrom ks 0 0 r vs)) × (valuesOf ks s ≡ vs) × (fieldsOf s ≡ Fields (textsFrom ks 0 r vs) u) × (length vs ≡ length ks)
   parts = complete ks r vs u few allowed
 
   number : countIn s ≡ n

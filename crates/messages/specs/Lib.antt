@@ -1,3 +1,4 @@
 pub mod Body
 pub mod Allowed
 pub mod Read
+pub mod Named

@@ -37,16 +37,16 @@ pair-key : (v : Value) → isIdentValue (identIn v) ≡ true → isWord KEY (v .
 unfolding isPair
 pair-key v e = and-left (isWord KEY (v .a)) (eqb (v .b) 0 || isWord NUMBER (v .b)) e
 
--- the key of an ident
-key-in : (p : ℕ) (r : List ℕ) (v : Value) → isValue IDENT p r v ≡ true → isWord KEY (v .a) ≡ true
+-- an ident, and one with a number
+ident-in : (p : ℕ) (r : List ℕ) (v : Value) → isValue IDENT p r v ≡ true → isIdentValue (identIn v) ≡ true
 unfolding isValue isKindValue plain
-key-in p r v e = pair-key v (and-left (isIdentValue (identIn v)) (isTwo v) e)
+ident-in p r v e = and-left (isIdentValue (identIn v)) (isTwo v) e
 
-key-in-tz : (p : ℕ) (r : List ℕ) (v : Value) → isValue TZ-IDENT p r v ≡ true → isWord KEY (v .a) ≡ true
+ident-in-tz : (p : ℕ) (r : List ℕ) (v : Value) → isValue TZ-IDENT p r v ≡ true → isIdentValue (identIn v) ≡ true
 unfolding isValue isKindValue plain
-key-in-tz p r v e =
+ident-in-tz p r v e =
     let some = not (eqb (v .b) 0) in
-    pair-key v (and-left (isIdentValue (identIn v)) some (and-left (isIdentValue (identIn v) && some) (isTwo v) e))
+    and-left (isIdentValue (identIn v)) some (and-left (isIdentValue (identIn v) && some) (isTwo v) e)
 
 -- "four digits in that range": every clock is also an arrival clock
 pub clock-arrival : (t : ℕ) → isWord CLOCK t ≡ true → isWord ARRIVAL t ≡ true
@@ -110,8 +110,11 @@ module _ (m : Dz) (r : List ℕ) (t : Bool) (e : isBody (body.Dz m) r t ≡ true
   unfolding kindsIn kindsOf valuesIn fieldCount countWith slots padded isWhole
   values-dz = first IDENT _ 0 0 r (valueOfIdent (m .ident)) _ (body-values (body.Dz m) r t refl e)
 
+  pub ident-dz : isIdentValue (m .ident) ≡ true
+  ident-dz = ident-in (values-dz .left) r (valueOfIdent (m .ident)) (values-dz .value)
+
   pub key-dz : isWord KEY (m .ident .key .0) ≡ true
-  key-dz = key-in (values-dz .left) r (valueOfIdent (m .ident)) (values-dz .value)
+  key-dz = pair-key (valueOfIdent (m .ident)) ident-dz
 
   pub from-dz : isWord POINT (m .from .0) ≡ true
   unfolding isValue isKindValue plain
@@ -130,8 +133,11 @@ module _ (m : Az) (r : List ℕ) (t : Bool) (e : isBody (body.Az m) r t ≡ true
   unfolding kindsIn kindsOf valuesIn fieldCount countWith slots padded isWhole
   values-az = first IDENT _ 0 0 r (valueOfIdent (m .ident)) _ (body-values (body.Az m) r t refl e)
 
+  pub ident-az : isIdentValue (m .ident) ≡ true
+  ident-az = ident-in (values-az .left) r (valueOfIdent (m .ident)) (values-az .value)
+
   pub key-az : isWord KEY (m .ident .key .0) ≡ true
-  key-az = key-in (values-az .left) r (valueOfIdent (m .ident)) (values-az .value)
+  key-az = pair-key (valueOfIdent (m .ident)) ident-az
 
   pub from-az : isWord POINT (m .from .0) ≡ true
   unfolding isValue isKindValue plain
@@ -150,8 +156,11 @@ module _ (m : Tz) (r : List ℕ) (t : Bool) (e : isBody (body.Tz m) r t ≡ true
   unfolding kindsIn kindsOf valuesIn fieldCount countWith slots padded isWhole
   values-tz = first TZ-IDENT _ 0 0 r (valueOfIdent (m .ident)) _ (body-values (body.Tz m) r t refl e)
 
+  pub ident-tz : isIdentValue (m .ident) ≡ true
+  ident-tz = ident-in-tz (values-tz .left) r (valueOfIdent (m .ident)) (values-tz .value)
+
   pub key-tz : isWord KEY (m .ident .key .0) ≡ true
-  key-tz = key-in-tz (values-tz .left) r (valueOfIdent (m .ident)) (values-tz .value)
+  key-tz = pair-key (valueOfIdent (m .ident)) ident-tz
 
   pub speed-tz : isWord GROUND-SPEED (m .speed .0) ≡ true
   unfolding isValue isKindValue plain

@@ -5,5 +5,7 @@ pub mod AskWays
 pub mod Answers
 pub mod AskAllowed
 pub mod Fields
+pub mod ByBytes
+pub mod Given
 pub mod Unique
 pub mod Examples

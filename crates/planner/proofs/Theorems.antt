@@ -41,7 +41,7 @@ strike-promise κs a r s p = (p .0, p .1 .0)
 
 -- ---- one call on an allowed board
 
-line-is : (s : List ℕ) → isEvent (lineEvent s) ≡ true
+pub line-is : (s : List ℕ) → isEvent (lineEvent s) ≡ true
 unfolding lineEvent
 line-is s = line-event s (askedOf s) refl
 
