@@ -44,7 +44,7 @@ read-lines (l ∷ ls) rest e =
     read-cut (length ls) l (feedOf ls rest) (no-cut lineFeed l n) .text
     ∙ ap (λ (t : List ℕ). l ++ lineFeed ∷ t) (read-lines ls rest (and-right (not (has lineFeed l)) (noneHas lineFeed ls) e))
 
-read-those : (n : ℕ) (s : List ℕ) (ls : List (List ℕ)) (rest : List ℕ) → noneHas lineFeed ls ≡ true → length ls ≡ n → s ≡ feedOf ls rest → readIn n s ≡ feedOf ls []
+pub read-those : (n : ℕ) (s : List ℕ) (ls : List (List ℕ)) (rest : List ℕ) → noneHas lineFeed ls ≡ true → length ls ≡ n → s ≡ feedOf ls rest → readIn n s ≡ feedOf ls []
 read-those n s ls rest e c w = rw (← c, w) (read-lines ls rest e)
 
 -- as many line feeds as may be: so many lines

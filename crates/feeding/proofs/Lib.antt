@@ -3,6 +3,7 @@ pub mod Ways
 pub mod Turns
 pub mod Steps
 pub mod Cases
+pub mod Limits
 pub mod Theorems
 pub mod Unique
 pub mod Examples

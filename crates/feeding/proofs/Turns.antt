@@ -56,7 +56,7 @@ held-none held (Held n) a =
     let z : n + 0 ≡ n = omega arith in
     rw (z, le-leb n (length held) (begins held n a .fits), append-nil (take n held)) (take-append-drop n held)
 
--- ---- what is stateAfter is allowed
+-- ---- what is left is allowed
 
 -- the line that ends leaves a line's start
 module _ (held : List ℕ) (begun : Begun) (a : isAllowed held begun ≡ true) (p : List ℕ) (none : upTo lineFeed p ≡ length p) where

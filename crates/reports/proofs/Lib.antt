@@ -1,5 +1,6 @@
 pub mod Joins
 pub mod Taken
 pub mod Theorems
+pub mod Limit
 pub mod Sizes
 pub mod Wrong

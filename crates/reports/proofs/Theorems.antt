@@ -29,11 +29,11 @@ use Rattle.cutter.proofs.States.{start-allowed}
 use Rattle.cutter.proofs.Feeds.{feed-then, start-lines}
 use Rattle.feeding.specs.Tally.{rowsBy, takenBy, lineFeeds}
 use Rattle.feeding.specs.Fed.{readIn, linesFed, fedWith, fedOf, boardFed, heldAfter}
-use Rattle.feeding.proofs.Tallies.{feeds-most, lines-told, taken-le}
+use Rattle.feeding.proofs.Tallies.{feeds-most, taken-le}
 use Rattle.feeding.proofs.Turns.{fed-ready, board-ready, held-ready, board-still, held-still, words-show, state-fed}
 use Rattle.reports.specs.Report.{rowsAfterFeed, linesIn, takenIn, reportOf}
 use Rattle.reports.specs.Run.{Read, begin, go-on, Prints, Counts}
-use Rattle.reports.proofs.Joins.{rows-then, taken-then, feeds-then, read-empty, read-then}
+use Rattle.reports.proofs.Joins.{rows-then, taken-then, feeds-then, feeds-are, read-empty, read-then}
 
 -- what stands after the parts of a feed have been read
 pub record Stands (limit : ℕ) (feed board held : List ℕ) (begun : Begun) (lines taken : ℕ) : Type 0 where
@@ -128,8 +128,7 @@ pub read-bounds : (limit : ℕ) {feed board held : List ℕ} {begun : Begun} {li
 read-bounds limit {feed} p =
     let q = read-stands limit p in
     let s = readIn limit feed in
-    let n : length (linesOf s) ≡ lineFeeds s = ap length (sym (start-lines s)) ∙ lines-told (Bytes []) s in
-    (omega (arith, q .lines-are, feeds-most limit feed), omega (arith, q .lines-are, q .taken-are, taken-le [] (linesOf s), n))
+    (omega (arith, q .lines-are, feeds-most limit feed), omega (arith, q .lines-are, q .taken-are, taken-le [] (linesOf s), feeds-are s))
 
 -- ---- printed
 
