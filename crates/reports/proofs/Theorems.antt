@@ -137,7 +137,7 @@ pub print-promise : (κs : _) (a : _) (r : _) (s : _) → print.Post κs a r s �
 print-promise κs a r s p = (p .0, p .1 .0)
 
 pub counts-promise : (κs : _) (a : _) (r : _) (s : _) → counts.Post κs a r s → Counts (a .0) (a .1 .0) (now (a .1 .1 .0)) (a .1 .1 .1 .0) r (now (s .1 .1 .0))
-counts-promise κs a r s p = (p .0, p .1)
+counts-promise κs a r s p = (p .0, p .1 .0)
 
 -- the board's text, and then the counts, where both fit
 module _ (board out : List ℕ) (at : ℕ) (b : isBoard board ≡ true) (line : List ℕ) (room : at + length (textIn board ++ line) ≤ length out) where
