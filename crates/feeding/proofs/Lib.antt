@@ -5,5 +5,6 @@ pub mod Steps
 pub mod Cases
 pub mod Limits
 pub mod Theorems
+pub mod Runs
 pub mod Unique
 pub mod Examples

@@ -48,7 +48,7 @@ pub record Stands (limit : ℕ) (feed board held : List ℕ) (begun : Begun) (li
 
 module _ (board held : List ℕ) (begun : Begun) (b : isBoard board ≡ true) (a : isAllowed held begun ≡ true) (n : ℕ) (part s t : List ℕ) (is-t : readIn n part ≡ t) (h : stateIn held begun ≡ stateAfter (Bytes []) (pieces lineFeed s)) where
   -- the lines of both are those of s, and then those that the call tells of
-  lines-both : linesOf (s ++ t) ≡ linesOf s ++ linesFed held begun t
+  pub lines-both : linesOf (s ++ t) ≡ linesOf s ++ linesFed held begun t
   lines-both = sym (start-lines (s ++ t)) ∙ feed-then (Bytes []) s t .0 ∙ rw (start-lines s, h)
 
   rows-both : rowsOf board ≡ rowsAfterFeed s → rowsOf (boardFed board held begun n part) ≡ rowsAfterFeed (s ++ t)
