@@ -4,4 +4,6 @@ pub mod Theorems
 pub mod Calls
 pub mod Limit
 pub mod Sizes
+pub mod PrintedLines
+pub mod Printed
 pub mod Wrong
