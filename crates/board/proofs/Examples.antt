@@ -21,7 +21,7 @@ use Rattle.shapes.specs.Pieces.{pieces}
 use Rattle.rules.specs.Form.{isStamp, isKey, isPosition}
 use Rattle.rules.specs.Kind.{isForm}
 use Rattle.fields.specs.Word.{isWord}
-use Rattle.board.specs.Board.{flat, readRows, rowsOf, wordsOf, isAllowed, doneOf}
+use Rattle.board.specs.Board.{flat, readRows, rowsOf, wordsOf, isAllowed, doneOf, doneNumber, struckNumber}
 use Rattle.board.specs.Row.{isRow, isArrival, isTrack, hasEntry, rowWords, arrivalWords, trackWords, rowOf}
 use Rattle.board.specs.Rows.{CAP, isBoard, risesByBytes, allRows, rises, keyOf, lookRow, Place, At, Gap, fitsAt, findIn, fits as listing-fits, written, struck, isListed}
 use Rattle.board.specs.declared.Done.the-variants.{Written}
@@ -110,13 +110,17 @@ full-at-255 κs a r s p e = p .done ∙ ap doneOf (room (rowsOf (now (a .0))) e 
     room rs e (At i) = refl
     room rs e (Gap i) = rw e
 
+-- where there is no room for the flight the number is 12, and not 0
+pub no-room-is-written : (κs : _) (a : _) (r : _) (s : _) → write.Post κs a r s → listing-fits (rowsOf (now (a .0))) (keyOf (a .1 .0)) ≡ false → doneNumber r ≡ 12
+no-room-is-written κs a r s p e = p .number ∙ rw e
+
 -- a board of one row is without rows when it is struck
 pub last-row-stays : (κs : _) (a : _) (r : _) (s : _) → strike.Post κs a r s → now (a .0) ≡ wordsOf (tracked ∷ []) → a .1 .0 ≡ tracked .key
     → (r ≡ Gone) × (now (s .0) ≡ wordsOf [])
 unfolding struck isListed packed value codeOf isDigit isLetter
 last-row-stays κs a r s p e k = (p .done ∙ rw (one (now (a .0)) e, k), p .words ∙ rw (one (now (a .0)) e, k))
 
--- no flight is struck off a board without rows
-pub strikes-what-is-not-there : (κs : _) (a : _) (r : _) (s : _) → strike.Post κs a r s → (n : ℕ) → n ≡ 2817 → now (a .0) ≡ replicate n 0 → r ≡ Missing
+-- no flight is struck off a board without rows: 14, and not 0
+pub strikes-what-is-not-there : (κs : _) (a : _) (r : _) (s : _) → strike.Post κs a r s → (n : ℕ) → n ≡ 2817 → now (a .0) ≡ replicate n 0 → (r ≡ Missing) × (struckNumber r ≡ 14)
 unfolding isListed
-strikes-what-is-not-there κs a r s p n h e = p .done ∙ rw (none (now (a .0)) n h e)
+strikes-what-is-not-there κs a r s p n h e = (p .done ∙ rw (none (now (a .0)) n h e), p .number ∙ rw (none (now (a .0)) n h e))

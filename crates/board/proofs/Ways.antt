@@ -22,7 +22,7 @@ use Rattle.board.specs.declared.Done.{Done}
 use Rattle.board.specs.declared.Done.the-variants.{Written, Full}
 use Rattle.board.specs.declared.Struck.{Struck}
 use Rattle.board.specs.declared.Struck.the-variants.{Gone, Missing}
-use Rattle.board.specs.Board.{W, rowsOf, wordsOf, isAllowed, foundOf, doneOf, goneOf}
+use Rattle.board.specs.Board.{W, rowsOf, wordsOf, isAllowed, foundOf, doneOf, goneOf, doneNumber, struckNumber}
 use Rattle.board.specs.Posts.{Wrote, Stricken}
 use Rattle.board.proofs.Words.{length-rows, row-there}
 use Rattle.board.proofs.Boards.{replace-board, insert-board, remove-board}
@@ -111,9 +111,13 @@ look-gap l k i a e =
 
 -- ---- a row is written
 
+done-number : (b : Bool) → doneNumber (doneOf b) ≡ cond b 0 12
+done-number true = refl
+done-number false = refl
+
 module _ (l : List ℕ) (al : isAllowed l ≡ true) (r : Row) (ok : isRow r ≡ true) (i : ℕ) where
   wrote : (d : Done) (l′ : List ℕ) → d ≡ doneOf (fits (rowsOf l) (keyOf r)) → l′ ≡ wordsOf (written (rowsOf l) r) → Wrote l r d l′
-  wrote d l′ e q = record { done = e; words = q; still = rw q (still-written l r al ok) }
+  wrote d l′ e q = record { done = e; number = rw e (done-number (fits (rowsOf l) (keyOf r))); words = q; still = rw q (still-written l r al ok) }
 
   pub write-at : findIn (rowsOf l) (keyOf r) ≡ At i → Wrote l r Written (spliced l (1 + W * i) (rowWords r))
   unfolding written fits
@@ -152,9 +156,13 @@ module _ (l : List ℕ) (al : isAllowed l ≡ true) (r : Row) (ok : isRow r ≡ 
 
 -- ---- a flight is struck
 
+gone-number : (b : Bool) → struckNumber (goneOf b) ≡ cond b 0 14
+gone-number true = refl
+gone-number false = refl
+
 module _ (l : List ℕ) (al : isAllowed l ≡ true) (k i : ℕ) where
   stricken : (d : Struck) (l′ : List ℕ) → d ≡ goneOf (isListed (rowsOf l) k) → l′ ≡ wordsOf (struck (rowsOf l) k) → Stricken l k d l′
-  stricken d l′ e q = record { done = e; words = q; still = rw q (still-struck l k al) }
+  stricken d l′ e q = record { done = e; number = rw e (gone-number (isListed (rowsOf l) k)); words = q; still = rw q (still-struck l k al) }
 
   pub strike-at : findIn (rowsOf l) k ≡ At i
       → Stricken l k Gone (set (zeroed (slidLeft l (1 + W * i) (W * (getD l 0 0 - (i + 1))) W) (1 + W * (getD l 0 0 - 1)) W) 0 (getD l 0 0 - 1))

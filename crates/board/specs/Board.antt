@@ -74,3 +74,12 @@ doneOf false = Full
 abbrev pub goneOf : Bool → Struck
 goneOf true = Gone
 goneOf false = Missing
+
+-- document 01's numbers: 12, "board full"; 14, "flight not listed"
+abbrev pub doneNumber : Done → ℕ
+doneNumber Written = 0
+doneNumber Full = 12
+
+abbrev pub struckNumber : Struck → ℕ
+struckNumber Gone = 0
+struckNumber Missing = 14

@@ -20,11 +20,13 @@ pub enum Found {
     Gap(usize),
 }
 
+// What `listing::write` answers: 0, 12.
 pub enum Done {
     Written,
     Full,
 }
 
+// What `listing::strike` answers: 0, 14.
 pub enum Struck {
     Gone,
     Missing,

@@ -19,6 +19,7 @@ use Rattle.cutter.specs.declared.Begun.{Begun}
 use Rattle.feeding.specs.Tally.{lineFeeds, readOf}
 use Rattle.feeding.specs.Fed.{readIn, fedWith, fedOf, boardFed, heldAfter, feedNumber}
 use Rattle.feeding.specs.Cases.{Outcome, refusing, reading, FeedCase, BoardNotAllowed, StateNotAllowed, All, Most, outcomeOf}
+use Rattle.feeding.specs.declared.AfterFeed.{AfterFeed}
 use Rattle.feeding.proofs.Tallies.{read-length, read-cut, feeds-free, feeds-cut}
 use Rattle.feeding.proofs.Turns.{fed-ready, board-ready, held-ready, state-fed}
 
@@ -44,7 +45,7 @@ read-lines (l ∷ ls) rest e =
     read-cut (length ls) l (feedOf ls rest) (no-cut lineFeed l n) .text
     ∙ ap (λ (t : List ℕ). l ++ lineFeed ∷ t) (read-lines ls rest (and-right (not (has lineFeed l)) (noneHas lineFeed ls) e))
 
-read-those : (n : ℕ) (s : List ℕ) (ls : List (List ℕ)) (rest : List ℕ) → noneHas lineFeed ls ≡ true → length ls ≡ n → s ≡ feedOf ls rest → readIn n s ≡ feedOf ls []
+pub read-those : (n : ℕ) (s : List ℕ) (ls : List (List ℕ)) (rest : List ℕ) → noneHas lineFeed ls ≡ true → length ls ≡ n → s ≡ feedOf ls rest → readIn n s ≡ feedOf ls []
 read-those n s ls rest e c w = rw (← c, w) (read-lines ls rest e)
 
 -- as many line feeds as may be: so many lines
@@ -102,6 +103,13 @@ module _ (board held : List ℕ) (begun : Begun) (n : ℕ) (part : List ℕ) whe
       go true b true a false h =
           let k = lines n part (ltb-false (lineFeeds part) n h) in
           rw (read-outcome b a, read-those n part (k .texts) (k .rest) (k .none) (k .count) (k .whole)) (Most b a (k .texts) (k .rest) (k .none) (k .count) (k .whole))
+
+  -- a call that gives this is in its case
+  pub in-feed-case : {r : AfterFeed} {board′ held′ : List ℕ}
+      → (r ≡ fedOf board held begun n part) × ((board′ ≡ boardFed board held begun n part) × (held′ ≡ heldAfter board held begun n part))
+      → (r ≡ fedOf board held begun n part) × ((board′ ≡ boardFed board held begun n part) × ((held′ ≡ heldAfter board held begun n part)
+      × FeedCase board held begun n part (outcomeOf r board′ held′)))
+  in-feed-case e = (e .0, (e .1 .0, (e .1 .1, rw (e .0, e .1 .0, e .1 .1) feed-case)))
 
   -- NO CALL IS IN TWO CASES: what a case says is what the call came to
   pub case-one : {o : Outcome} → FeedCase board held begun n part o → o ≡ called

@@ -1,13 +1,14 @@
 -- What the promises of `feeding` require on inputs written out, and so wrong answers that they do not allow: of each, `Post` is the function's
 -- `ensures` as it stands in the source, r any result that meets it, s the state at exit. Assumes nothing.
 use Prim.Native.Nat.{ℕ}
-use mathlib.Core.Bool.{true}
+use mathlib.Core.Bool.{true, false, _&&_}
 use mathlib.Core.List.{List, [], _∷_, _++_}
 use mathlib.Core.Option.{none}
 use mathlib.Core.Path.{_≡_, refl, ap, _∙_}
 use denote.Ref.{now}
 use lib.ListN.{length, replicate}
 use borrow.Author.Tests.{ltb-true, eq-eqb}
+use Rattle.text.proofs.Logic.{true-false}
 use Rattle.shapes.specs.Cut.{has, upTo}
 use Rattle.shapes.specs.Pieces.{pieces}
 use Rattle.cutter.specs.Calls.{start}
@@ -15,7 +16,7 @@ use Rattle.cutter.specs.Feed.{Whole}
 use Rattle.cutter.specs.State.{stateIn, isAllowed, more}
 use Rattle.cutter.specs.Told.{told}
 use Rattle.cutter.specs.declared.Begun.{Begun}
-use Rattle.cutter.specs.declared.Begun.the-variants.{Overlong}
+use Rattle.cutter.specs.declared.Begun.the-variants.{Held, Overlong}
 use Rattle.cutter.proofs.Feeds.{cut-same}
 use Rattle.cutter.proofs.States.{start-allowed}
 use Rattle.board.specs.Board.{rowsOf, wordsOf, isAllowed as isBoard}
@@ -27,7 +28,8 @@ use Rattle.line.specs.Read.{readOf as lineRead}
 use Rattle.planner.specs.Apply.{lineEvent}
 use Rattle.planner.specs.Asked.{askedOf}
 use Rattle.planner.proofs.Examples.{tz, asks, none-fits}
-use Rattle.feeding.specs.Fed.{linesFed, readIn, fedWith, fedOf}
+use Rattle.feeding.specs.Cases.{Outcome, refusing, FeedCase, BoardNotAllowed, StateNotAllowed, All, Most}
+use Rattle.feeding.specs.Fed.{linesFed, readIn, fedWith, fedOf, feedNumber}
 use Rattle.feeding.specs.Tally.{eventOf, rowsBy, takenBy, lineFeeds, readOf}
 use Rattle.feeding.specs.declared.AfterFeed.{AfterFeed}
 use Rattle.feeding.proofs.Theorems.{reads-all}
@@ -84,6 +86,37 @@ pub overlong-is-taken : (κs : _) (a : _) (r : _) (s : _) → feed.Post κs a r 
 unfolding isAllowed readOf lineFeeds told stateIn more pieces takenBy eventOf answer
 overlong-is-taken κs a r s p b h e m f =
     let q = counts (now (a .0)) (now (a .1 .0)) Overlong b (rw (eq-eqb (length (now (a .1 .0))) 2048 h)) r 9 (10 ∷ []) (10 ∷ []) refl (p .0 ∙ rw (e, m, f)) in (q .1, q .2)
+
+-- what the case of a call says of one that is refused: 13, nothing used or counted, the board as it was
+refused-case : {board held : List ℕ} {begun : Begun} {n : ℕ} {part : List ℕ} {o : Outcome} → FeedCase board held begun n part o → (isBoard board && isAllowed held begun) ≡ false → o ≡ refusing board held begun
+refused-case (BoardNotAllowed b) e = refl
+refused-case (StateNotAllowed b a) e = refl
+refused-case (All b a h) e = true-false (rw (b, a)) e
+refused-case (Most b a ls rest f c w) e = true-false (rw (b, a)) e
+
+-- words that are no board are answered 13, whatever the part
+pub damaged-board-is-fed : (κs : _) (a : _) (r : _) (s : _) → feed.Post κs a r s → isBoard (now (a .0)) ≡ false
+    → (feedNumber (r .answer) ≡ 13) × (r .used ≡ 0) × (r .lines ≡ 0) × (now (s .0) ≡ now (a .0))
+damaged-board-is-fed κs a r s p b =
+    let q = refused-case (p .1 .1 .1) (rw b) in
+    (ap (λ (o : Outcome). o .number) q, ap (λ (o : Outcome). o .used) q, ap (λ (o : Outcome). o .lines) q, ap (λ (o : Outcome). o .board) q)
+
+-- and so is a begun line of more bytes than a line may have
+pub long-state-is-fed : (κs : _) (a : _) (r : _) (s : _) → feed.Post κs a r s → isBoard (now (a .0)) ≡ true
+    → length (now (a .1 .0)) ≡ 2048 → a .1 .1 .0 ≡ Held 2049 → (feedNumber (r .answer) ≡ 13) × (r .used ≡ 0)
+unfolding isAllowed
+long-state-is-fed κs a r s p b h e =
+    let q = refused-case (p .1 .1 .1) (rw (b, e, eq-eqb (length (now (a .1 .0))) 2048 h)) in
+    (ap (λ (o : Outcome). o .number) q, ap (λ (o : Outcome). o .used) q)
+
+-- a part on an allowed board and state is answered 0, and a byte that ends no line is used
+pub begun-line-is-refused : (κs : _) (a : _) (r : _) (s : _) → feed.Post κs a r s → isBoard (now (a .0)) ≡ true
+    → length (now (a .1 .0)) ≡ 2048 → a .1 .1 .0 ≡ start → a .1 .1 .1 .0 ≡ 1 → now (a .1 .1 .1 .1 .0) ≡ 65 ∷ [] → (feedNumber (r .answer) ≡ 0) × (r .used ≡ 1)
+unfolding fedWith readOf
+begun-line-is-refused κs a r s p b h e m f =
+    let held = now (a .1 .0) in
+    let q : r ≡ fedWith (now (a .0)) held start 1 (65 ∷ []) = p .0 ∙ rw (e, m, f) (fed-ready (now (a .0)) held start b (start-allowed held h) 1 (65 ∷ [])) in
+    (ap (λ (x : AfterFeed). feedNumber (x .answer)) q, ap (λ (x : AfterFeed). x .used) q)
 
 -- ---- `feed_allowed`
 

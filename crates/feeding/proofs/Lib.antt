@@ -3,6 +3,8 @@ pub mod Ways
 pub mod Turns
 pub mod Steps
 pub mod Cases
+pub mod Limits
 pub mod Theorems
+pub mod Runs
 pub mod Unique
 pub mod Examples

@@ -25,7 +25,7 @@ use Rattle.feeding.proofs.Cases.{read-all, feed-case, case-one, fed-bac
 
 pub feed-promise : (κs : _) (a : _) (r : _) (s : _) → feed.Post κs a r s
     → Feeds (now (a .0)) (now (a .1 .0)) (a .1 .1 .0) (a .1 .1 .1 .0) (now (a .1 .1 .1 .1 .0)) r (now (s .0)) (now (s .1 .0))
-feed-promise κs a r s p = record { result = p .0; words = p .1 .0; buffer = p .1 .1 }
+feed-promise κs a r s p = record { result = p .0; words = p .1 .0; buffer = p .1 .1 .0 }
 
 pub feed-allowed-promise : (κs : _) (a : _) (r : _) (s : _) → feed-allowed.Post κs a r s
     → Feeds (now (a .0)) (now (a .1 .0)) (a .1 .1 .0) (a .1 .1 .1 .0) (now (a .1 .1 .1 .1 .0)) r (now (s .0)) (now (s .1 .0))

@@ -56,7 +56,7 @@ held-none held (Held n) a =
     let z : n + 0 ≡ n = omega arith in
     rw (z, le-leb n (length held) (begins held n a .fits), append-nil (take n held)) (take-append-drop n held)
 
--- ---- what is stateAfter is allowed
+-- ---- what is left is allowed
 
 -- the line that ends leaves a line's start
 module _ (held : List ℕ) (begun : Begun) (a : isAllowed held begun ≡ true) (p : List ℕ) (none : upTo lineFeed p ≡ length p) where
@@ -236,7 +236,7 @@ module _ (board held : List ℕ) (begun : Begun) (b : isBoard board ≡ true) (a
   first-buffer : heldAfter board held begun 1 (p ++ lineFeed ∷ t) ≡ held₁
   first-buffer = next-buffer 0 ∙ nothing-held board₁ held₁ start allowed₁ (closed-allowed held begun a p none) 0 t (read-zero t)
 
--- ---- ONE TURN: r, board₁ and held₁ are what one line of what is stateAfter gave
+-- ---- ONE TURN: r, board₁ and held₁ are what one line of what is left gave
 
 pub record Turn (board held : List ℕ) (begun : Begun) (n : ℕ) (rest : List ℕ) (r : AfterFeed) (board₁ held₁ : List ℕ) : Type 0 where
   -- what is read then makes up the whole
@@ -257,7 +257,7 @@ module _ (board held : List ℕ) (begun : Begun) (b : isBoard board ≡ true) (a
         buffer = rw (z, drop-cut p t) (sym (next-buffer board held begun b a p t none n));
       })
 
-  -- no line feed is stateAfter: all is read
+  -- no line feed is left: all is read
   module _ (rest : List ℕ) (none : upTo lineFeed rest ≡ length rest) where
     same-result : (n : ℕ) → fedOf board held begun (suc n) rest ≡ fedOf board held begun 1 rest
     unfolding fedWith

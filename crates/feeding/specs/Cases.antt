@@ -1,4 +1,4 @@
--- When each number is answered by `feed`, and what is then read, counted and stateAfter. Assumes nothing.
+-- When each number is answered by `feed`, and what is then read, counted and left. Assumes nothing.
 use Prim.Native.Nat.{ℕ, _<_}
 use mathlib.Core.Path.{_≡_}
 use mathlib.Core.Bool.{true, false}
@@ -15,7 +15,7 @@ use Rattle.feeding.specs.Tally.{rowsBy, takenBy, lineFeeds}
 use Rattle.feeding.specs.Fed.{linesFed, feedNumber}
 use Rattle.feeding.specs.declared.AfterFeed.{AfterFeed}
 
--- a call of `feed`: its number, the bytes used, the lines and the taken lines counted, the board and the state that are stateAfter
+-- a call of `feed`: its number, the bytes used, the lines and the taken lines counted, the board and the state that are left
 pub record Outcome : Type 0 where
   pub number : ℕ
   pub used : ℕ
@@ -50,7 +50,7 @@ pub data FeedCase (board held : List ℕ) (begun : Begun) (most : ℕ) (part : L
   Most : isBoard board ≡ true → isAllowed held begun ≡ true → (ls : List (List ℕ)) (rest : List ℕ) → noneHas lineFeed ls ≡ true → length ls ≡ most → part ≡ feedOf ls rest
       → FeedCase board held begun most part (reading board held begun (feedOf ls []))
 
--- what a call that answered r and stateAfter board′ and held′ came to
+-- what a call that answered r and left board′ and held′ came to
 abbrev pub outcomeOf : AfterFeed → List ℕ → List ℕ → Outcome
 outcomeOf r board′ held′ =
     record { number = feedNumber (r .answer); used = r .used; lines = r .lines; taken = r .taken; board = board′; state = stateIn held′ (r .begun) }

@@ -1,3 +1,4 @@
 pub mod Tally
 pub mod Fed
 pub mod Cases
+pub mod Run

@@ -18,6 +18,7 @@ ghost use Rattle.cutter.specs.Calls.{lineIn};
 ghost use Rattle.cutter.specs.Cases.{toldBy};
 ghost use Rattle.feeding.specs.Tally.{one, rowsBy, takenBy};
 ghost use Rattle.feeding.specs.Fed.{fedOf, boardFed, heldAfter, refusedWith};
+ghost use Rattle.feeding.specs.Cases.{FeedCase, outcomeOf};
 
 // What `feed` answers: 0, 13.
 pub enum FeedAnswer {
@@ -155,6 +156,7 @@ pub fn feed(board: &mut [u64], held: &mut [u8], begun: Begun, most: usize, part:
     ensures { λ r. ⌜ r ≡ fedOf (now (board .entry)) (now (held .entry)) begun most (now (part .entry)) ⌝ }
     ensures { λ _. ⌜ now (board .exit) ≡ boardFed (now (board .entry)) (now (held .entry)) begun most (now (part .entry)) ⌝ }
     ensures { λ _. ⌜ now (held .exit) ≡ heldAfter (now (board .entry)) (now (held .entry)) begun most (now (part .entry)) ⌝ }
+    ensures { λ r. ⌜ FeedCase (now (board .entry)) (now (held .entry)) begun most (now (part .entry)) (outcomeOf r (now (board .exit)) (now (held .exit))) ⌝ }
 {
     if !is_allowed(&board[..]) {
         return refused(begun);

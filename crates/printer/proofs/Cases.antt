@@ -1,13 +1,16 @@
--- THE CASES of a call of `print`: its number and the buffer that it leaves are those of the document's case. Assumes nothing.
+-- THE CASES of a call of `print` and of `print_counts`: its number and the buffer that it leaves are those of the document's case. Assumes nothing.
 use mathlib.Core.Path.{_≡_, refl}
 use mathlib.Core.Bool.{Bool, true, false}
 use mathlib.Core.List.{List}
 use Prim.Native.Nat.{ℕ, _+_}
 use lib.ListN.{length}
-use Rattle.text.specs.Text.{hasRoom, spliced}
+use Rattle.text.specs.Text.{hasRoom, spliced, writtenNext, writtenBytes}
+use Rattle.text.specs.declared.Written.{Written}
 use Rattle.text.proofs.Logic.{true-false}
+use Rattle.fields.specs.Answer.{writeAnswer}
 use Rattle.board.specs.Board.{isAllowed}
-use Rattle.printer.specs.Print.{textIn, printOf, outAfter, printNumber, PrintCase, BoardNotAllowed, NoRoomLeft, Fits}
+use Rattle.printer.specs.Print.{textIn, printOf, outAfter, printNumber, PrintCase, BoardNotAllowed, NoRoomLeft, Fits, CountsCase, CountsNoRoom, CountsFit}
+use Rattle.printer.specs.Text.{countsText}
 use Rattle.printer.specs.declared.Printed.{Printed}
 use Rattle.printer.specs.declared.Printed.the-variants.{Next, NoRoom, NotAllowed}
 
@@ -52,3 +55,25 @@ print-one-case (NoRoomLeft a h) (Fits a′ h′) = true-false h′ h
 print-one-case (Fits a h) (BoardNotAllowed a′) = true-false a a′
 print-one-case (Fits a h) (NoRoomLeft a′ h′) = true-false h h′
 print-one-case (Fits a h) (Fits a′ h′) = (refl, refl)
+
+-- ---- `print_counts`
+
+counts-own : (lines taken : ℕ) (out : List ℕ) (at : ℕ) → CountsCase lines taken out at (writeAnswer (writtenNext true (countsText lines taken) out at)) (writtenBytes true (countsText lines taken) out at)
+unfolding writtenNext writtenBytes
+counts-own lines taken out at = go (hasRoom (countsText lines taken) out at) refl
+  where
+    go : (h : Bool) → hasRoom (countsText lines taken) out at ≡ h
+        → CountsCase lines taken out at (writeAnswer (writtenNext true (countsText lines taken) out at)) (writtenBytes true (countsText lines taken) out at)
+    go false q = rw q (CountsNoRoom q)
+    go true q = rw q (CountsFit q)
+
+pub in-counts-case : (lines taken : ℕ) (out : List ℕ) (at : ℕ) {r : Written} {o : List ℕ}
+    → (r ≡ writtenNext true (countsText lines taken) out at) × (o ≡ writtenBytes true (countsText lines taken) out at)
+    → (r ≡ writtenNext true (countsText lines taken) out at) × ((o ≡ writtenBytes true (countsText lines taken) out at) × CountsCase lines taken out at (writeAnswer r) o)
+in-counts-case lines taken out at e = (e .0, (e .1, rw (e .0, e .1) (counts-own lines taken out at)))
+
+pub counts-one-case : {lines taken : ℕ} {out : List ℕ} {at n n′ : ℕ} {o o′ : List ℕ} → CountsCase lines taken out at n o → CountsCase lines taken out at n′ o′ → (n ≡ n′) × (o ≡ o′)
+counts-one-case (CountsNoRoom h) (CountsNoRoom h′) = (refl, refl)
+counts-one-case (CountsNoRoom h) (CountsFit h′) = true-false h′ h
+counts-one-case (CountsFit h) (CountsNoRoom h′) = true-false h h′
+counts-one-case (CountsFit h) (CountsFit h′) = (refl, refl)

@@ -1,11 +1,13 @@
 -- What the promises of `printer` require on inputs written out, and so wrong answers that they do not allow: of each, `Post` is the function's
 -- `ensures` as it stands in the source, r any result that meets it, s the state at exit. Assumes nothing.
-use Prim.Native.Nat.{ℕ}
+use Prim.Native.Nat.{ℕ, _+_}
+use native.Mathlib.Omega.{arith}
 use mathlib.Core.Bool.{false}
 use mathlib.Core.List.{List, [], _∷_, _++_}
 use mathlib.Core.Path.{_≡_, refl, _∙_}
 use denote.Ref.{now}
-use lib.ListN.{replicate}
+use lib.ListN.{length, replicate}
+use borrow.Author.Tests.{lt-leb}
 use Rattle.text.specs.Bytes.{bytes}
 use Rattle.text.specs.Class.{isDigit, isLetter}
 use Rattle.text.specs.Code.{codeOf, byteOf}
@@ -14,10 +16,12 @@ use Rattle.text.specs.Number.{padded}
 use Rattle.text.specs.Place.{value, places, digits}
 use Rattle.text.specs.Text.{packed, textOf, spliced, hasRoom, writtenNext, writtenBytes}
 use Rattle.text.specs.declared.Written.the-variants as written
+use Rattle.text.proofs.Logic.{true-false}
+use Rattle.fields.specs.Answer.{writeAnswer}
 use Rattle.board.specs.Board.{wordsOf, isAllowed}
 use Rattle.board.proofs.Examples.{tracked, one-row}
 use Rattle.board.proofs.Theorems.{rows-words, allowed-words}
-use Rattle.printer.specs.Print.{printOf, outAfter, printNumber}
+use Rattle.printer.specs.Print.{printOf, outAfter, printNumber, CountsCase, CountsNoRoom, CountsFit}
 use Rattle.printer.specs.RowText.{lineText, rowText, rowsText}
 use Rattle.printer.specs.Text.{boardText, countsText}
 use Rattle.printer.proofs.print.Reads as print
@@ -58,10 +62,20 @@ numbers-13-and-15 κs a r s p b f = rw (p .0, b)
 pub counts-exchanged : (κs : _) (a : _) (r : _) (s : _) → print-counts.Post κs a r s → a .0 ≡ 5 → a .1 .0 ≡ 4 → now (a .1 .1 .0) ≡ replicate 18 0 → a .1 .1 .1 .0 ≡ 1
     → now (s .1 .1 .0) ≡ 0 ∷ (bytes "LINES 5 TAKEN 4" ++ 10 ∷ 0 ∷ [])
 unfolding writtenBytes hasRoom spliced countsText lineText byteOf decimal padded places widthBy
-counts-exchanged κs a r s p e f g h = p .1 ∙ rw (e, f, g, h)
+counts-exchanged κs a r s p e f g h = p .1 .0 ∙ rw (e, f, g, h)
 
 -- the line feed needs room too: without it nothing is written
 pub no-room-for-the-line-feed : (κs : _) (a : _) (r : _) (s : _) → print-counts.Post κs a r s → a .0 ≡ 5 → a .1 .0 ≡ 4 → now (a .1 .1 .0) ≡ replicate 15 0 → a .1 .1 .1 .0 ≡ 0
     → (r ≡ written.NoRoom) × (now (s .1 .1 .0) ≡ replicate 15 0)
 unfolding writtenNext writtenBytes hasRoom countsText lineText byteOf decimal padded places widthBy
-no-room-for-the-line-feed κs a r s p e f g h = (p .0 ∙ rw (e, f, g, h), p .1 ∙ rw (e, f, g, h))
+no-room-for-the-line-feed κs a r s p e f g h = (p .0 ∙ rw (e, f, g, h), p .1 .0 ∙ rw (e, f, g, h))
+
+-- what the case of a call says: 15 and the buffer as it was where the line has no room, else 0
+counts-case : {lines taken : ℕ} {out : List ℕ} {at n : ℕ} {o : List ℕ} → CountsCase lines taken out at n o → hasRoom (countsText lines taken) out at ≡ false → (n ≡ 15) × (o ≡ out)
+counts-case (CountsNoRoom h) e = (refl, refl)
+counts-case (CountsFit h) e = true-false h e
+
+-- past the buffer's end there is no room for any counts: 15, and not 0
+pub counts-past-the-end : (κs : _) (a : _) (r : _) (s : _) → print-counts.Post κs a r s → now (a .1 .1 .0) ≡ [] → a .1 .1 .1 .0 ≡ 1 → (writeAnswer r ≡ 15) × (now (s .1 .1 .0) ≡ [])
+unfolding hasRoom
+counts-past-the-end κs a r s p f g = let q = counts-case (p .1 .1) (rw (f, g) (lt-leb (1 + length (countsText (a .0) (a .1 .0))) 0 (omega arith))) in (q .0, q .1 ∙ f)

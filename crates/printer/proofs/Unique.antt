@@ -10,4 +10,4 @@ pub print-one : (κs : _) (a : _) (r r′ : _) (s s′ : _) → print.Post κs a
 print-one κs a r r′ s s′ p q = (p .0 ∙ sym (q .0), p .1 .0 ∙ sym (q .1 .0))
 
 pub print-counts-one : (κs : _) (a : _) (r r′ : _) (s s′ : _) → print-counts.Post κs a r s → print-counts.Post κs a r′ s′ → (r ≡ r′) × (now (s .1 .1 .0) ≡ now (s′ .1 .1 .0))
-print-counts-one κs a r r′ s s′ p q = (p .0 ∙ sym (q .0), p .1 ∙ sym (q .1))
+print-counts-one κs a r r′ s s′ p q = (p .0 ∙ sym (q .0), p .1 .0 ∙ sym (q .1 .0))

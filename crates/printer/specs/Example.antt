@@ -8,7 +8,7 @@ use Rattle.board.specs.declared.rows.Row.{Row}
 use Rattle.board.specs.declared.rows.ArrivalSlot.the-variants as arrival
 use Rattle.board.specs.declared.rows.TrackSlot.the-variants as track
 
-abbrev word : String → ℕ
+abbrev pub word : String → ℕ
 word s = packed (bytes s)
 
 -- lines 1, 2 and 3 of the input are about QQX12, line 4 is about N5AB, and line 5 is not taken
@@ -41,7 +41,8 @@ exampleRows =
     }
     ∷ []
 
-abbrev ended : String → List ℕ
+-- a line with its line feed
+abbrev pub ended : String → List ℕ
 ended s = bytes s ++ 10 ∷ []
 
 -- its first three lines, and its last

@@ -12,10 +12,11 @@ ghost use mathlib.Core.Bool.{true};
 ghost use Prim.Native.Nat.{_+_, _≤_};
 ghost use lib.ListN.{length};
 ghost use Rattle.text.specs.Text.{spliced, writtenNext, writtenBytes};
+ghost use Rattle.fields.specs.Answer.{writeAnswer};
 ghost use Rattle.board.specs.Board.{rowsOf, isAllowed};
 ghost use Rattle.printer.specs.RowText.{rowsText};
 ghost use Rattle.printer.specs.Text.{countsText};
-ghost use Rattle.printer.specs.Print.{textIn, printOf, outAfter, printNumber, PrintCase};
+ghost use Rattle.printer.specs.Print.{textIn, printOf, outAfter, printNumber, PrintCase, CountsCase};
 ghost use Rattle.printer.specs.Asks.{counted, RowsAsk, BoardAsks};
 
 // What `print` answers: 0 with the place after the text; 15; 13.
@@ -107,10 +108,11 @@ fn put_counts(lines: u64, taken: u64, out: &mut [u8], at: usize)
     put_count(b"TAKEN ", taken, b'\n', out, j);
 }
 
-// Writes the line of how many lines were read, and how many of them taken, from place `at`; where it does not fit it writes nothing.
+// Writes the line of how many lines were read, and how many of them taken, from place `at`: 15 where it does not fit, and then it writes nothing.
 pub fn print_counts(lines: u32, taken: u32, out: &mut [u8], at: usize) -> Written
     ensures { λ r. ⌜ r ≡ writtenNext true (countsText lines taken) (now (out .entry)) at ⌝ }
     ensures { λ _. ⌜ now (out .exit) ≡ writtenBytes true (countsText lines taken) (now (out .entry)) at ⌝ }
+    ensures { λ r. ⌜ CountsCase lines taken (now (out .entry)) at (writeAnswer r) (now (out .exit)) ⌝ }
 {
     let n = 14 + decimals::size(lines as u64) + decimals::size(taken as u64);
     if !has_room(n, out.len(), at) {

@@ -1,18 +1,21 @@
 -- Two texts, one after the other: their lines, what these do to the rows, how many are taken, and how far is read. Assumes nothing.
-use mathlib.Core.Path.{_≡_, refl}
+use mathlib.Core.Path.{_≡_, refl, sym, ap, _∙_}
 use mathlib.Core.Bool.{Bool, true, false}
 use mathlib.Core.List.{List, [], _∷_, _++_}
 use Prim.Native.Nat.{ℕ, zero, suc, _+_, _-_}
 use native.Mathlib.Nat.{sub-zero}
 use native.Mathlib.Omega.{arith}
 use lib.Dec.{eqb}
+use lib.ListN.{length}
 use Rattle.board.specs.declared.rows.Row.{Row}
 use Rattle.history.specs.Steps.{rowsAfter}
 use Rattle.rules.specs.Frame.{lineFeed}
-use Rattle.cutter.specs.Feed.{Line}
+use Rattle.cutter.specs.Feed.{Line, linesOf}
+use Rattle.cutter.specs.State.{Bytes}
+use Rattle.cutter.proofs.Feeds.{start-lines}
 use Rattle.feeding.specs.Tally.{eventOf, rowsBy, takenBy, lineFeeds, readOf}
 use Rattle.feeding.specs.Fed.{readIn}
-use Rattle.feeding.proofs.Tallies.{read-none, read-zero}
+use Rattle.feeding.proofs.Tallies.{read-none, read-zero, lines-told}
 
 pub rows-then : (rs : List Row) (ls ms : List Line) → rowsBy rs (ls ++ ms) ≡ rowsBy (rowsBy rs ls) ms
 unfolding rowsBy
@@ -32,6 +35,10 @@ feeds-then (x ∷ a) b = go (eqb x lineFeed) refl (feeds-then a b)
     go : (t : Bool) → eqb x lineFeed ≡ t → lineFeeds (a ++ b) ≡ lineFeeds a + lineFeeds b → lineFeeds (x ∷ (a ++ b)) ≡ lineFeeds (x ∷ a) + lineFeeds b
     go true q k = rw (q, k) (omega arith)
     go false q k = rw (q, k)
+
+-- a text has as many lines as line feeds
+pub feeds-are : (s : List ℕ) → length (linesOf s) ≡ lineFeeds s
+feeds-are s = ap length (sym (start-lines s)) ∙ lines-told (Bytes []) s
 
 -- ---- what is read where at most n lines are
 

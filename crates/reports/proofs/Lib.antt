@@ -1,5 +1,9 @@
 pub mod Joins
 pub mod Taken
 pub mod Theorems
+pub mod Calls
+pub mod Limit
 pub mod Sizes
+pub mod PrintedLines
+pub mod Printed
 pub mod Wrong

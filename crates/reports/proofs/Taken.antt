@@ -8,7 +8,8 @@ use Rattle.history.specs.Steps.{Answer, Took, Refused, NoRoom, NotListed, rowsA
 use Rattle.history.specs.Promise.{Taken}
 use Rattle.cutter.specs.Feed.{Line}
 use Rattle.feeding.specs.Tally.{eventOf, rowsBy, one, takenBy}
-use Rattle.reports.specs.Taken.{historyFrom, historyOf, CountTaken, none, took, refused}
+use Rattle.feeding.specs.Run.{historyFrom}
+use Rattle.reports.specs.Taken.{historyOf, CountTaken, none, took, refused}
 
 rows-from : (h : History) (ls : List Line) → rowsBy (after h) ls ≡ after (historyFrom h ls)
 unfolding rowsBy after historyFrom

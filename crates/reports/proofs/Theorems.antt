@@ -29,11 +29,11 @@ use Rattle.cutter.proofs.States.{start-allowed}
 use Rattle.cutter.proofs.Feeds.{feed-then, start-lines}
 use Rattle.feeding.specs.Tally.{rowsBy, takenBy, lineFeeds}
 use Rattle.feeding.specs.Fed.{readIn, linesFed, fedWith, fedOf, boardFed, heldAfter}
-use Rattle.feeding.proofs.Tallies.{feeds-most, lines-told, taken-le}
+use Rattle.feeding.proofs.Tallies.{feeds-most, taken-le}
 use Rattle.feeding.proofs.Turns.{fed-ready, board-ready, held-ready, board-still, held-still, words-show, state-fed}
 use Rattle.reports.specs.Report.{rowsAfterFeed, linesIn, takenIn, reportOf}
 use Rattle.reports.specs.Run.{Read, begin, go-on, Prints, Counts}
-use Rattle.reports.proofs.Joins.{rows-then, taken-then, feeds-then, read-empty, read-then}
+use Rattle.reports.proofs.Joins.{rows-then, taken-then, feeds-then, feeds-are, read-empty, read-then}
 
 -- what stands after the parts of a feed have been read
 pub record Stands (limit : ℕ) (feed board held : List ℕ) (begun : Begun) (lines taken : ℕ) : Type 0 where
@@ -48,7 +48,7 @@ pub record Stands (limit : ℕ) (feed board held : List ℕ) (begun : Begun) (li
 
 module _ (board held : List ℕ) (begun : Begun) (b : isBoard board ≡ true) (a : isAllowed held begun ≡ true) (n : ℕ) (part s t : List ℕ) (is-t : readIn n part ≡ t) (h : stateIn held begun ≡ stateAfter (Bytes []) (pieces lineFeed s)) where
   -- the lines of both are those of s, and then those that the call tells of
-  lines-both : linesOf (s ++ t) ≡ linesOf s ++ linesFed held begun t
+  pub lines-both : linesOf (s ++ t) ≡ linesOf s ++ linesFed held begun t
   lines-both = sym (start-lines (s ++ t)) ∙ feed-then (Bytes []) s t .0 ∙ rw (start-lines s, h)
 
   rows-both : rowsOf board ≡ rowsAfterFeed s → rowsOf (boardFed board held begun n part) ≡ rowsAfterFeed (s ++ t)
@@ -128,8 +128,7 @@ pub read-bounds : (limit : ℕ) {feed board held : List ℕ} {begun : Begun} {li
 read-bounds limit {feed} p =
     let q = read-stands limit p in
     let s = readIn limit feed in
-    let n : length (linesOf s) ≡ lineFeeds s = ap length (sym (start-lines s)) ∙ lines-told (Bytes []) s in
-    (omega (arith, q .lines-are, feeds-most limit feed), omega (arith, q .lines-are, q .taken-are, taken-le [] (linesOf s), n))
+    (omega (arith, q .lines-are, feeds-most limit feed), omega (arith, q .lines-are, q .taken-are, taken-le [] (linesOf s), feeds-are s))
 
 -- ---- printed
 
@@ -138,7 +137,7 @@ pub print-promise : (κs : _) (a : _) (r : _) (s : _) → print.Post κs a r s �
 print-promise κs a r s p = (p .0, p .1 .0)
 
 pub counts-promise : (κs : _) (a : _) (r : _) (s : _) → counts.Post κs a r s → Counts (a .0) (a .1 .0) (now (a .1 .1 .0)) (a .1 .1 .1 .0) r (now (s .1 .1 .0))
-counts-promise κs a r s p = (p .0, p .1)
+counts-promise κs a r s p = (p .0, p .1 .0)
 
 -- the board's text, and then the counts, where both fit
 module _ (board out : List ℕ) (at : ℕ) (b : isBoard board ≡ true) (line : List ℕ) (room : at + length (textIn board ++ line) ≤ length out) where

@@ -38,12 +38,10 @@ use Rattle.text.specs.Decimal.{decimal}
 use Rattle.text.proofs.Decimal.{decimal-number, decimal-digits}
 use Rattle.printer.specs.Text.{boardText, countsText}
 use Rattle.cutter.specs.Feed.{linesOf}
-use Rattle.cutter.specs.State.{Bytes}
-use Rattle.cutter.proofs.Feeds.{start-lines}
-use Rattle.feeding.specs.Tally.{lineFeeds}
 use Rattle.feeding.specs.Fed.{readIn}
-use Rattle.feeding.proofs.Tallies.{feeds-most, taken-le, lines-told}
+use Rattle.feeding.proofs.Tallies.{feeds-most, taken-le}
 use Rattle.reports.specs.Report.{rowsAfterFeed, linesIn, takenIn, reportOf}
+use Rattle.reports.proofs.Joins.{feeds-are}
 
 -- ---- READERS: what answers each line as `line::read` promises, which is the promise in the source
 
@@ -134,9 +132,8 @@ module _ (limit : ℕ) (small : limit < 10 ^ 20) (feed : List ℕ) (lines taken 
   both =
       let s = readIn limit feed in
       let b = boardText (rowsAfterFeed s) in
-      let n : length (linesOf s) ≡ lineFeeds s = ap length (sym (start-lines s)) ∙ lines-told (Bytes []) s in
       let l : linesIn s < 10 ^ 20 = omega (arith, feeds-most limit feed) in
-      let t : takenIn s < 10 ^ 20 = omega (arith, feeds-most limit feed, taken-le [] (linesOf s), n) in
+      let t : takenIn s < 10 ^ 20 = omega (arith, feeds-most limit feed, taken-le [] (linesOf s), feeds-are s) in
       let q : countsText lines taken ≡ countsText (linesIn s) (takenIn s) =
       sym (drop-at b (countsText lines taken) (length b) refl) ∙ ap (drop (length b)) printed ∙ drop-at b (countsText (linesIn s) (takenIn s)) (length b) refl in (
         same-number lines (linesIn s) h l (sym (lines-digits lines taken h g) ∙ ap (λ (x : List ℕ). before 32 (drop 6 x)) q

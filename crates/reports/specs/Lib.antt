@@ -1,3 +1,4 @@
 pub mod Report
 pub mod Taken
 pub mod Run
+pub mod Printed

@@ -1,5 +1,5 @@
 -- What the board printer prints for a feed (document 01, "The printer"): fixed by the bytes of the feed, given as one list, and by the limit
--- of lines ("It stops reading after 4,294,967,295 lines"). Assumes nothing.
+-- of lines. Assumes nothing.
 use Prim.Native.Nat.{ℕ}
 use mathlib.Core.List.{List, [], _++_}
 use Rattle.board.specs.declared.rows.Row.{Row}
@@ -8,7 +8,7 @@ use Rattle.printer.specs.Text.{boardText, countsText}
 use Rattle.feeding.specs.Tally.{rowsBy, takenBy, lineFeeds}
 use Rattle.feeding.specs.Fed.{readIn}
 
--- "It stops reading after 4,294,967,295 lines"
+-- "It stops reading after 4,294,967,295 lines"; `proofs/Limit` shows that this is the greatest number that `print_counts` takes
 abbrev pub mostLines : ℕ
 mostLines = 4294967295
 

@@ -1,15 +1,11 @@
 -- TAKEN in the customer's words: how many of a feed's lines were taken in the sense of demand 3. Assumes nothing.
 use Prim.Native.Nat.{ℕ, suc}
-use mathlib.Core.List.{List, [], _∷_}
+use mathlib.Core.List.{List}
 use Rattle.history.specs.Events.{Event, History, start, _then_}
 use Rattle.cutter.specs.Feed.{Line}
-use Rattle.feeding.specs.Tally.{eventOf}
+use Rattle.feeding.specs.Run.{historyFrom}
 
--- the history that lines make, after what had come
-unfoldable pub historyFrom : History → List Line → History
-historyFrom h [] = h
-historyFrom h (l ∷ ls) = historyFrom (h then eventOf l) ls
-
+-- the history that the lines of a feed make
 abbrev pub historyOf : List Line → History
 historyOf ls = historyFrom start ls
 

@@ -12,6 +12,7 @@ use Rattle.text.proofs.Laws.{has-room, no-room-told, room-told}
 use Rattle.text.specs.Decimal.{decimal}
 use Rattle.text.proofs.Decimal.{decimal-short}
 use Rattle.printer.specs.Text.{countsText}
+use Rattle.printer.proofs.Cases.{in-counts-case}
 use Rattle.printer.proofs.Counts.{counts-size}
 use Rattle.printer.proofs.print_counts.Statement.{statement}
 use Rattle.printer.proofs.print_counts.Tie as tie
@@ -48,7 +49,7 @@ print-counts-spec =
     (λ c. let a = c .before .before .before .args in omega (arith, small (a .lines) (a .taken) (c .before .size .ensures) (c .size2 .ensures)))
     (λ c κs. search needs)
     (λ c. let z = c .before .before in
-    no-room-told _ _ _ (size _ _ (z .before .size .ensures) (z .size2 .ensures)) (c .before .has-room .ensures) refl (c .if1 .taken))
+    in-counts-case _ _ _ _ (no-room-told _ _ _ (size _ _ (z .before .size .ensures) (z .size2 .ensures)) (c .before .has-room .ensures) refl (c .if1 .taken)))
     (λ c κs. roomy (c .before))
     (λ c. let e = c .before .before .before .before in
     let z = e .before .before in
@@ -58,4 +59,4 @@ print-counts-spec =
     (λ c. let p = c .before .before in
     let e = p .before .before in
     let z = e .before .before in
-    puts _ _ (z .before .size .ensures) (z .size2 .ensures) _ _ (roomy e) (p .put-counts .ensures)))
+    in-counts-case _ _ _ _ (puts _ _ (z .before .size .ensures) (z .size2 .ensures) _ _ (roomy e) (p .put-counts .ensures))))
