@@ -9,14 +9,16 @@ use lib.Count.{ones}
 use lib.ListN.{length, getD, take, drop, length-take}
 use lib.Seq.{drop-drop, getD-drop}
 use Rattle.text.proofs.Logic.{true-false}
-use Rattle.rules.specs.Kind.{POINT, AMENDMENT}
+use Rattle.rules.specs.Kind.{POINT}
 use Rattle.fields.specs.declared.heads.MessageType.{MessageType}
 use Rattle.table.specs.Spacing.{Fields, fieldsOf, fieldsIn}
-use Rattle.table.specs.Field.{IDENT, CONTENT, markText, isMark, contentOf, plain, traceOf, shownKind, shown}
+use Rattle.table.specs.Amends.{markText, isMark, contentOf}
+use Rattle.table.specs.FieldKind.{IDENT, AMENDMENT, CONTENT}
+use Rattle.table.specs.Field.{plain, traceOf, shownKind, shown}
 use Rattle.table.specs.declared.kinds.Value.{Value}
 use Rattle.table.specs.Show.{textsFrom, allowedFrom}
 use Rattle.table.specs.Table.{amendments, isCount, countWith, hasFields, kindsOf, countIn, routeBy, freeIn}
-use Rattle.table.proofs.MarkSets.{each-mark}
+use Rattle.table.proofs.Eight.{each-mark}
 use Rattle.messages.specs.Body.{amendedIn, heldFrom, typeIn, valueOfWord, valueOfIdent, slotsOf, pairsOf, slots, fieldCount, valuesIn}
 use Rattle.messages.specs.Allowed.{kindsIn}
 use Rattle.messages.specs.Named.{Part, numberText, contentText, amendmentParts, named, Stand, placesFrom, AreFields}
