@@ -5,7 +5,6 @@ ghost use mathlib.Core.Bool.{true};
 ghost use mathlib.Core.Logic.{_↔_, _⊎_};
 ghost use lib.Dec.{eqb};
 ghost use lib.ListN.{getD};
-ghost use Prim.Native.Char.{code};
 ghost use Rattle.text.specs.Bytes.{bytes};
 
 // Whether a word asks for help.
@@ -18,9 +17,9 @@ pub fn is_help(word: &[u8]) -> bool
     same(word, b"--help")
 }
 
-// Whether a word is an option: it begins with a hyphen.
+// Whether a word is an option: it begins with a hyphen, byte 45.
 pub fn is_option(word: &[u8]) -> bool
-    ensures { λ r. ⌜ r ≡ eqb (getD (now (word .entry)) 0 0) (code "-") ⌝ }
+    ensures { λ r. ⌜ r ≡ eqb (getD (now (word .entry)) 0 0) 45 ⌝ }
 {
     if word.len() == 0 {
         return false;

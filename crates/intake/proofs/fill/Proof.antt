@@ -23,13 +23,13 @@ fill-spec =
     let p = n .before .before in
     let s = p .before .before .before in
     let e = p .print .ensures in
-    (omega arith, fills-none _ (s .args .day) _ (search needs) _ _ (e .0, e .1 .0) _ (n .printed .given .1) _ _ (k .print-counts .ensures) (c .match2 .keys2)))
+    (omega arith, fills-none _ (s .args .day) _ (search needs) _ _ (e .0, e .1 .0) _ (n .printed .given .1) _ _ (k .print-counts .ensures .0, k .print-counts .ensures .1 .0) (c .match2 .keys2)))
     (λ c. let k = c .before .before .before in
     let n = k .before .before .before .before .before in
     let p = n .before .before in
     let s = p .before .before .before in
     let e = p .print .ensures in
     let m = c .before .counted .given .1 in (
-      inside _ (s .args .day) _ (search needs) _ _ (e .0, e .1 .0) _ (n .printed .given .1) _ _ (k .print-counts .ensures) _ m,
-      fills-all _ (s .args .day) _ (search needs) _ _ (e .0, e .1 .0) _ (n .printed .given .1) _ _ (k .print-counts .ensures) _ m,
+      inside _ (s .args .day) _ (search needs) _ _ (e .0, e .1 .0) _ (n .printed .given .1) _ _ (k .print-counts .ensures .0, k .print-counts .ensures .1 .0) _ m,
+      fills-all _ (s .args .day) _ (search needs) _ _ (e .0, e .1 .0) _ (n .printed .given .1) _ _ (k .print-counts .ensures .0, k .print-counts .ensures .1 .0) _ m,
     )))
