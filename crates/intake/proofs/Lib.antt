@@ -3,3 +3,5 @@ pub mod Days
 pub mod Fills
 pub mod Torn
 pub mod Whole
+pub mod Unique
+pub mod Examples

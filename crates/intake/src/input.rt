@@ -15,7 +15,7 @@ pub struct Input {
 }
 
 // What the descriptor gives, from the first read on.
-pub fn start(fd: i32) -> Input
+pub(crate) fn start(fd: i32) -> Input
     ensures { λ r. ⌜ (r .total ≡ 0) × (r .live ≡ true) ⌝ }
 {
     Input {
@@ -39,7 +39,7 @@ fn closed(input: Input, failed: bool) -> Input
 }
 
 // One read: how many bytes stand at the start of the block then is by how much the total has grown. A read that fails says so.
-pub fn next(input: Input, name: &[u8], block: &mut [u8]) -> Input
+pub(crate) fn next(input: Input, name: &[u8], block: &mut [u8]) -> Input
     ensures { λ r. ⌜ Came input (length (now (block .exit))) r ⌝ }
 {
     if block.len() > usize::MAX - input.total {
@@ -63,19 +63,19 @@ pub fn next(input: Input, name: &[u8], block: &mut [u8]) -> Input
     }
 }
 
-pub fn total(input: Input) -> usize
+pub(crate) fn total(input: Input) -> usize
     ensures { λ r. ⌜ r ≡ input .total ⌝ }
 {
     input.total
 }
 
-pub fn is_live(input: Input) -> bool
+pub(crate) fn is_live(input: Input) -> bool
     ensures { λ r. ⌜ r ≡ input .live ⌝ }
 {
     input.live
 }
 
-pub fn has_failed(input: Input) -> bool
+pub(crate) fn has_failed(input: Input) -> bool
     ensures { λ r. ⌜ r ≡ input .failed ⌝ }
 {
     input.failed

@@ -1,0 +1,42 @@
+-- Wrong answers, ruled out by the promises. Assumes nothing.
+use mathlib.Core.Path.{_≡_, refl, _∙_}
+use mathlib.Core.Bool.{Bool, true, false}
+use mathlib.Core.Logic.{⊎-elim}
+use mathlib.Core.List.{List, [], _∷_, _++_}
+use Prim.Native.Nat.{ℕ}
+use native.Mathlib.Omega.{arith}
+use lib.ListN.{length, take}
+use denote.Ref.{now}
+use Rattle.text.specs.Bytes.{bytes}
+use Rattle.text.proofs.Logic.{not-holds}
+use Rattle.intake.proofs.report.Reads as report
+use Rattle.intake.proofs.words.is_help.Reads as is-help
+use Rattle.intake.proofs.words.is_option.Reads as is-option
+
+no-bytes : (s : List ℕ) → length s ≡ 0 → s ≡ []
+no-bytes [] e = refl
+no-bytes (x ∷ s) e = absurd (omega arith)
+
+-- where no byte came, the board is empty, no line is counted, and no line is torn
+module _ (κs : _) (a : _) (r : _) (s : _) (p : report.Post κs a r s) (none : r .day .input .total ≡ 0) where
+  nothing : p .1 .feed ≡ []
+  nothing = no-bytes (p .1 .feed) (p .1 .handed ∙ none)
+
+  pub seven-lines-of-nothing : take (r .size) (now (s .1 .1 .0)) ≡ bytes "FLIGHTS 0" ++ 10 ∷ (bytes "LINES 0 TAKEN 0" ++ 10 ∷ [])
+  seven-lines-of-nothing = p .1 .report ∙ rw nothing ?
+
+  pub nothing-is-torn : r .torn ≡ false
+  nothing-is-torn = p .1 .torn ∙ rw nothing ?
+
+module _ (κs : _) (a : _) (r : _) (s : _) where
+  pub short-help-refused : is-help.Post κs a r s → now (a .0) ≡ bytes "-h" → r ≡ true
+  short-help-refused p e = p .1 ?
+
+  pub a-file-is-help : is-help.Post κs a r s → now (a .0) ≡ bytes "help" → r ≡ false
+  a-file-is-help p e = not-holds r (λ q. ⊎-elim ? ? (p .0 q))
+
+  pub empty-is-an-option : is-option.Post κs a r s → now (a .0) ≡ [] → r ≡ false
+  empty-is-an-option p e = p ∙ rw e
+
+  pub hyphen-inside-is-an-option : is-option.Post κs a r s → now (a .0) ≡ bytes "a-h" → r ≡ false
+  hyphen-inside-is-an-option p e = p ∙ rw e
