@@ -15,12 +15,12 @@ use Rattle.rules.specs.Kind.{isForm}
 use Rattle.fields.specs.Ident.{tzIdentOf}
 use Rattle.fields.specs.MessageType.{typeOf}
 use Rattle.fields.specs.Pair.{isPairForm, pairOf}
-use Rattle.table.specs.Field.{plain, readKind, readIn, follows}
-use Rattle.table.specs.Read.{answerFrom, counted, answers, answerOf, routeIn, routeOf}
+use Rattle.table.specs.Field.{markOf, contentOf, traceOf, plain, readKind, readIn, follows}
+use Rattle.table.specs.Read.{answerFrom, counted, answers, answerOf, routeIn, routeOf, routeFrom, routeAt, startsAt}
 use Rattle.table.specs.Spacing.{ended, fieldsOf}
-use Rattle.table.specs.Table.{countWith, isCount, kindsOf, countIn, answerBy, routeBy}
+use Rattle.table.specs.Table.{countWith, isCount, kindsOf, countIn, answerBy, routeBy, routeAtBy}
 use Rattle.messages.specs.Read.{bodyRead}
-use Rattle.line.specs.Read.{headOf, restOf, readOf, lineNumber, linePlace, freeOf}
+use Rattle.line.specs.Read.{headOf, restOf, readOf, lineNumber, linePlace, freeOf, freeAt}
 use Rattle.line.proofs.free.Reads as free
 use Rattle.line.proofs.read.Reads as read
 
@@ -43,10 +43,16 @@ answers-4-and-5-exchanged κs a r s p e = ap lineNumber (p .0 ∙ ap readOf e)
 -- the body of an HB begins after its type
 pub free-with-type : (κs : _) (a : _) (r : _) (s : _) → free.Post κs a r s → now (a .0) ≡ bytes "000006143655KZMAHB UP" → now r ≡ bytes " UP"
 unfolding freeOf typeOf fits isOf
-free-with-type κs a r s p e = p ∙ ap freeOf e
+free-with-type κs a r s p e = p .0 ∙ ap freeOf e
 
 -- the route of an FZ is its last field, without the space before it
 pub route-with-its-space : (κs : _) (a : _) (r : _) (s : _) → free.Post κs a r s
     → now (a .0) ≡ bytes "000106081500KZAAFZ QQX12 C172/A 0120 ABC P0816 050 ABC..DEF" → now r ≡ bytes "ABC..DEF"
 unfolding freeOf typeOf fits isOf routeBy routeOf routeIn fieldsOf ended pieces plain
-route-with-its-space κs a r s p e = p ∙ ap freeOf e
+route-with-its-space κs a r s p e = p .0 ∙ ap freeOf e
+
+-- of two equal fields the route is the one after the number 10: the part that is handed back lies 36 bytes after the line's first
+pub an-equal-field-for-the-route : (κs : _) (a : _) (r : _) (s : _) → free.Post κs a r s → now (a .0) ≡ bytes "000106081500KZAAAF QQX12 ABC ABC 10 ABC"
+    → (now r ≡ bytes "ABC") × (r .ptr ≡ startsAt (a .0 .ptr) 36)
+unfolding freeOf freeAt typeOf fits isOf routeBy routeAtBy routeOf routeAt routeIn routeFrom fieldsOf ended pieces plain traceOf contentOf markOf
+an-equal-field-for-the-route κs a r s p e = (p .0 ∙ ap freeOf e, p .1 ∙ ap (λ x. startsAt (a .0 .ptr) (freeAt x)) e)

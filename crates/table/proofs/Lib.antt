@@ -12,6 +12,7 @@ pub mod Theorems
 pub mod Refusals
 pub mod MarksKept
 pub mod Routes
+pub mod RoutePlaces
 pub mod Amends
 pub mod Unique
 pub mod Examples
