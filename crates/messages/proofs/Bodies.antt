@@ -21,7 +21,7 @@ use Rattle.fields.specs.declared.heads.MessageType.{MessageType}
 use Rattle.fields.specs.declared.heads.MessageType.the-variants as type
 use Rattle.table.specs.Field.{IDENT, TZ-IDENT, AIRCRAFT, ROUTE, PLAN-TIME, CONTENT, valued, identIn, aircraftIn, isOne, isTwo, isMark, contentOf, plain, traceOf, marksOf, follows, isKindValue, isValue, shown}
 use Rattle.table.specs.declared.kinds.Value.{Value}
-use Rattle.table.proofs.MarkSets.{each-mark, mark-text}
+use Rattle.table.proofs.Eight.{each-mark, mark-text}
 use Rattle.table.specs.Read.{none, padded}
 use Rattle.table.specs.Show.{allowedFrom}
 use Rattle.table.specs.Table.{amendments, countWith, isCount, kindsOf}

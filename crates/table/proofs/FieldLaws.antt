@@ -41,7 +41,7 @@ use Rattle.fields.proofs.Single.{aircraft-complete}
 use Rattle.table.specs.Field.{IDENT, TZ-IDENT, AIRCRAFT, ROUTE, markOf, markText, isMark, follows, plain, valued, identIn, aircraftIn, isOne, isTwo, ofIdent, ofAircraft, ofRoute, ofWord, readKind, readMark, barred, readIn, isKindValue, shownKind, isValue, shown}
 use Rattle.table.specs.declared.kinds.Value.{Value}
 use Rattle.table.specs.declared.kinds.FieldRead.the-variants.{Read, Nothing, Number}
-use Rattle.table.proofs.MarkSets.{mark-is, mark-some, mark-text, text-mark, each-text}
+use Rattle.table.proofs.Eight.{mark-is, mark-some, mark-text, text-mark, each-text}
 
 -- ---- what each way of reading keeps
 
@@ -259,11 +259,11 @@ mark-kept s v e = go (eqb (markOf s) 0) refl
         let z : valued (markOf s) 0 0 ≡ v = cc in
         (q, ap (λ (w : Value). w .a) z, sym (ap isOne z))
 
-mark-visible : (m : ℕ) → isRoute (markText m) ≡ true
+mark-visible : (m : ℕ) → isMark m ≡ true → isRoute (markText m) ≡ true
 unfolding isRoute all isOf
 mark-visible = each-text isRoute refl refl refl refl refl refl refl refl
 
-mark-short : (m : ℕ) → leb (length (markText m)) 12 ≡ true
+mark-short : (m : ℕ) → isMark m ≡ true → leb (length (markText m)) 12 ≡ true
 mark-short = each-text (λ s. leb (length s) 12) refl refl refl refl refl refl refl refl
 
 -- what is read followed, and was read as a number or by its kind
@@ -309,7 +309,7 @@ pub in-visible : (k p m : ℕ) (s : List ℕ) (v : Value) → readIn k p m s ≡
 in-visible k p m s v e = go (eqb k AMENDMENT) refl (in-known k p m s v e .1)
   where
     go : (b : Bool) → eqb k AMENDMENT ≡ b → cond (eqb k AMENDMENT) (readMark s) (readKind (plain k p) s) ≡ Read v → isRoute s ≡ true
-    go true x f = rw (text-mark s (mark-kept s v (rw x at f) .0)) at (mark-visible (markOf s))
+    go true x f = let h = mark-kept s v (rw x at f) .0 in rw (text-mark s h) at (mark-visible (markOf s) (mark-is s h))
     go false x f = kind-visible (plain k p) s v (rw x at f)
 
 pub shown-visible : (k p : ℕ) (r : List ℕ) (v : Value) → isValue k p r v ≡ true → isRoute (shown k p r v) ≡ true
@@ -317,7 +317,7 @@ unfolding isValue shown
 shown-visible k p r v e = go (eqb k AMENDMENT) refl
   where
     go : (b : Bool) → eqb k AMENDMENT ≡ b → isRoute (shown k p r v) ≡ true
-    go true x = rw x (mark-visible (v .a))
+    go true x = rw x (mark-visible (v .a) (and-left (isMark (v .a)) (isOne v) (rw x at e)))
     go false x = rw x (kind-visible (plain k p) (shownKind (plain k p) r v) v (kind-complete (plain k p) r v (rw x at e)))
 
 -- and, but for a route, at most twelve
@@ -326,5 +326,5 @@ unfolding isValue shown
 shown-short k p r v e w = go (eqb k AMENDMENT) refl
   where
     go : (b : Bool) → eqb k AMENDMENT ≡ b → length (shown k p r v) ≤ 12
-    go true x = rw x (leb-true (length (markText (v .a))) 12 (mark-short (v .a)))
+    go true x = rw x (leb-true (length (markText (v .a))) 12 (mark-short (v .a) (and-left (isMark (v .a)) (isOne v) (rw x at e))))
     go false x = rw x (kind-short (plain k p) r v (rw x at e) w)

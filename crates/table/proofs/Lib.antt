@@ -1,4 +1,5 @@
 pub mod Tables
+pub mod Eight
 pub mod KindWays
 pub mod MarkSets
 pub mod FieldLaws

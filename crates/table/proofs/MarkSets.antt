@@ -1,105 +1,17 @@
--- The laws of the eight marks: a number and its mark give each other, and a set of marks with one more. Assumes nothing.
-use mathlib.Core.Path.{_≡_, refl, sym, ap, ap₂, _∙_, subst}
-use mathlib.Core.Bool.{Bool, true, false, cond, not, _||_, or-assoc}
-use mathlib.Core.List.{List, [], _∷_}
+-- The laws of a set of marks, with one more. Assumes nothing.
+use mathlib.Core.Path.{_≡_, refl, ap, _∙_}
+use mathlib.Core.Bool.{Bool, true, false, not, _||_}
 use Prim.Native.Nat.{ℕ, zero, suc, _+_, _/_, _%_, _≤_, _<_, suc-le-suc, max}
 use native.Mathlib.Nat.{le-of-suc-le-suc, mod-lt, max-le, max-add-min}
 use native.Mathlib.Omega.{arith}
 use lib.Arith.{bin-ind}
 use lib.Bits.{bitAnd, bitOr, and-step, or-step, or-lt}
 use lib.Count.{ones, onesIn, ones-step, ones-cat, ones-le}
-use lib.Dec.{eqb, leb, ltb, lit≤}
-use borrow.Author.Tests.{eqb-true, ne-eqb, leb-true, ltb-true, not-true}
-use Rattle.text.specs.Bytes.{bytes}
-use Rattle.text.specs.Class.{all, isDigit}
-use Rattle.text.proofs.Logic.{and-left, and-right, true-false, either-of, below, below-at}
-use Rattle.shapes.specs.Picture.{isOf, fits}
-use Rattle.table.specs.Field.{markOf, markText, isMark}
-
--- ---- a number and its mark
-
--- a picture of digits fits itself alone
-digit-itself : (k b : ℕ) → isDigit k ≡ true → isOf k b ≡ true → b ≡ k
-unfolding isDigit isOf
-digit-itself k b h e =
-    let l : k ≤ 57 = leb-true k 57 (and-right (leb 48 k) (leb k 57) h) in
-    let other : (n : ℕ) → 57 < n → eqb k n ≡ false = λ n g. ne-eqb k n (λ z. omega arith) in
-    eqb-true b k (rw (other 100 (lit≤ tt), other 108 (lit≤ tt), other 97 (lit≤ tt), other 104 (lit≤ tt), other 110 (lit≤ tt), other 101 (lit≤ tt), other 116 (lit≤ tt), other 109 (lit≤ tt), other 118 (lit≤ tt)) at e)
-
-digits-fit : (p s : List ℕ) → all isDigit p ≡ true → fits p s ≡ true → p ≡ s
-unfolding all fits
-digits-fit [] [] h e = refl
-digits-fit [] (b ∷ s) h e = true-false e refl
-digits-fit (k ∷ p) [] h e = true-false e refl
-digits-fit (k ∷ p) (b ∷ s) h e =
-    ap₂ (λ (x : ℕ) (y : List ℕ). x ∷ y) (sym (digit-itself k b (and-left (isDigit k) (all isDigit p) h) (and-left (isOf k b) (fits p s) e)))
-    (digits-fit p s (and-right (isDigit k) (all isDigit p) h) (and-right (isOf k b) (fits p s) e))
-
--- what the mark n of s tells, unless it is 0
-record Told (s : List ℕ) (n : ℕ) : Type 0 where
-  is : eqb n 0 ≡ false → isMark n ≡ true
-  text : eqb n 0 ≡ false → markText n ≡ s
-
-told : (s : List ℕ) → Told s (markOf s)
-unfolding markOf markText isMark all isDigit
-told s =
-    one (bytes "02") 1 _ refl refl refl
-    (one (bytes "03") 2 _ refl refl refl
-    (one (bytes "05") 4 _ refl refl refl
-    (one (bytes "06") 8 _ refl refl refl
-    (one (bytes "07") 16 _ refl refl refl
-    (one (bytes "08") 32 _ refl refl refl
-    (one (bytes "09") 64 _ refl refl refl
-    (one (bytes "10") 128 0 refl refl refl (record { is = λ e. true-false refl e; text = λ e. true-false refl e }))))))))
-  where
-    one : (p : List ℕ) (n r : ℕ) → all isDigit p ≡ true → isMark n ≡ true → markText n ≡ p → Told s r → Told s (cond (fits p s) n r)
-    one p n r d h t rest = go (fits p s) refl
-      where
-        go : (b : Bool) → fits p s ≡ b → Told s (cond (fits p s) n r)
-        go true q = rw q (record { is = λ e. h; text = λ e. t ∙ digits-fit p s d q })
-        go false q = rw q rest
-
-pub mark-is : (s : List ℕ) → eqb (markOf s) 0 ≡ false → isMark (markOf s) ≡ true
-mark-is s = told s .is
-
-pub text-mark : (s : List ℕ) → eqb (markOf s) 0 ≡ false → markText (markOf s) ≡ s
-text-mark s = told s .text
-
--- what is so of each mark is so of a mark
-pub each-mark : (X : ℕ → Type 0) → X 1 → X 2 → X 4 → X 8 → X 16 → X 32 → X 64 → X 128 → (m : ℕ) → isMark m ≡ true → X m
-unfolding isMark
-each-mark X x₁ x₂ x₄ x₈ x₁₆ x₃₂ x₆₄ x₁₂₈ m e =
-    either-of (eqb m 1) _ (at 1 x₁)
-    (either-of (eqb m 2) _ (at 2 x₂)
-    (either-of (eqb m 4) _ (at 4 x₄)
-    (either-of (eqb m 8) _ (at 8 x₈)
-    (either-of (eqb m 16) _ (at 16 x₁₆)
-    (either-of (eqb m 32) _ (at 32 x₃₂)
-    (either-of (eqb m 64) (eqb m 128) (at 64 x₆₄) (at 128 x₁₂₈))))))) (simp or-assoc at e)
-  where
-    at : (n : ℕ) → X n → eqb m n ≡ true → X m
-    at n x q = subst X (sym (eqb-true m n q)) x
-
-pub mark-text : (m : ℕ) → isMark m ≡ true → markOf (markText m) ≡ m
-unfolding markOf markText fits isOf
-mark-text = each-mark (λ m. markOf (markText m) ≡ m) refl refl refl refl refl refl refl refl
-
--- no mark is 0
-pub mark-some : (m : ℕ) → isMark m ≡ true → eqb m 0 ≡ false
-mark-some = each-mark (λ m. eqb m 0 ≡ false) refl refl refl refl refl refl refl refl
-
--- a test that holds of the eight numbers holds of the number of every mark
-pub each-text : (f : List ℕ → Bool) → f (bytes "02") ≡ true → f (bytes "03") ≡ true → f (bytes "05") ≡ true → f (bytes "06") ≡ true → f (bytes "07") ≡ true → f (bytes "08") ≡ true → f (bytes "09") ≡ true → f (bytes "10") ≡ true → (m : ℕ) → f (markText m) ≡ true
-unfolding markText
-each-text f t₀₂ t₀₃ t₀₅ t₀₆ t₀₇ t₀₈ t₀₉ t₁₀ m =
-    one (eqb m 1) _ _ t₀₂
-    (one (eqb m 2) _ _ t₀₃ (one (eqb m 4) _ _ t₀₅ (one (eqb m 8) _ _ t₀₆ (one (eqb m 16) _ _ t₀₇ (one (eqb m 32) _ _ t₀₈ (one (eqb m 64) _ _ t₀₉ t₁₀))))))
-  where
-    one : (b : Bool) (x y : List ℕ) → f x ≡ true → f y ≡ true → f (cond b x y) ≡ true
-    one true x y p q = p
-    one false x y p q = q
-
--- ---- a set of marks, with one more
+use lib.Dec.{eqb, ltb, lit≤}
+use borrow.Author.Tests.{ltb-true, not-true}
+use Rattle.text.proofs.Logic.{below, below-at}
+use Rattle.table.specs.Amends.{isMark}
+use Rattle.table.proofs.Eight.{each-mark}
 
 -- a digit counts as itself
 ones-digit : (d : ℕ) → d < 2 → ones d ≡ d

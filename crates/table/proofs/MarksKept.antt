@@ -18,7 +18,8 @@ use Rattle.table.specs.Field.{markOf, markText, isMark, isOne, readIn, t
 use Rattle.table.specs.declared.kinds.Value.{Value}
 use Rattle.table.specs.declared.kinds.FieldRead.the-variants as field
 use Rattle.table.proofs.FieldLaws.{in-sound}
-use Rattle.table.proofs.MarkSets.{mark-text, set-more, set-keeps, set-has, set-other}
+use Rattle.table.proofs.Eight.{mark-text}
+use Rattle.table.proofs.MarkSets.{set-more, set-keeps, set-has, set-other}
 use Rattle.table.specs.Read.{answerFrom}
 use Rattle.table.specs.declared.walk.Answer.the-variants.{Taken}
 use Rattle.table.proofs.Theorems.{taken-more}

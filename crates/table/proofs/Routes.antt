@@ -14,7 +14,8 @@ use Rattle.text.proofs.Logic.{and-left, and-right, true-false, not-fails, not-h
 use Rattle.rules.specs.Form.{isRoute}
 use Rattle.rules.specs.Kind.{AMENDMENT}
 use Rattle.table.specs.Spacing.{bodyOf}
-use Rattle.table.specs.Field.{ROUTE, PLAN-TIME, CONTENT, contentOf, plain, traceOf, marksOf, shown, shownKind}
+use Rattle.table.proofs.Eight.{each-mark, no-mark}
+use Rattle.table.specs.Field.{ROUTE, PLAN-TIME, CONTENT, isMark, contentOf, plain, traceOf, marksOf, shown, shownKind}
 use Rattle.table.specs.declared.kinds.Value.{Value}
 use Rattle.table.specs.Read.{answerFrom, answerOf, valuesOf, routeIn, routeOf}
 use Rattle.table.specs.Show.{textsFrom, allowedFrom, marksFrom, routed}
@@ -46,23 +47,12 @@ none-more k j ks e = go (eqb j k) refl
 
 -- a number's content is a route exactly for the mark 128
 content-route : (p : ℕ) → eqb (contentOf p) ROUTE ≡ eqb p 128
-unfolding contentOf
-content-route p =
-    one 1 _ _ refl refl (one 2 _ _ refl refl (one 4 _ _ refl refl (one 8 _ _ refl refl (one 16 _ _ refl refl (one 32 _ _ refl refl (one 64 _ _ refl refl last))))))
+unfolding contentOf isMark
+content-route p = go (isMark p) refl
   where
-    one : (n c x : ℕ) → eqb c ROUTE ≡ false → eqb n 128 ≡ false → eqb x ROUTE ≡ eqb p 128 → eqb (cond (eqb p n) c x) ROUTE ≡ eqb p 128
-    one n c x g h e = go (eqb p n) refl
-      where
-        go : (b : Bool) → eqb p n ≡ b → eqb (cond (eqb p n) c x) ROUTE ≡ eqb p 128
-        go true q = rw (q, g, eqb-true p n q, h)
-        go false q = rw q e
-
-    last : eqb (cond (eqb p 128) ROUTE 0) ROUTE ≡ eqb p 128
-    last = go (eqb p 128) refl
-      where
-        go : (b : Bool) → eqb p 128 ≡ b → eqb (cond (eqb p 128) ROUTE 0) ROUTE ≡ eqb p 128
-        go true q = rw q
-        go false q = rw q
+    go : (b : Bool) → isMark p ≡ b → eqb (contentOf p) ROUTE ≡ eqb p 128
+    go true q = each-mark (λ m. eqb (contentOf m) ROUTE ≡ eqb m 128) refl refl refl refl refl refl refl refl p q
+    go false q = rw (no-mark p q .1, not-holds (eqb p 128) (λ z. true-false (rw (eqb-true p 128 z)) q))
 
 pub plain-route : (k p : ℕ) → eqb (plain k p) ROUTE ≡ cond (eqb k CONTENT) (eqb p 128) (eqb k ROUTE)
 unfolding plain

@@ -7,13 +7,11 @@ use mathlib.Core.List.{List}
 use lib.Bits.{bitAnd, bitOr}
 use lib.Dec.{eqb}
 use lib.ListN.{getD}
-use Rattle.text.specs.Bytes.{bytes}
 use Rattle.text.specs.Text.{textOf}
 use Rattle.text.specs.declared.Packed.{Packed}
 use Rattle.text.specs.declared.Packed.the-variants as word
-use Rattle.shapes.specs.Picture.{fits}
 use Rattle.rules.specs.Form.{isPosition, isRoute}
-use Rattle.rules.specs.Kind.{FILED-SPEED, FIX, TIME, LEVEL, AMENDMENT}
+use Rattle.rules.specs.Kind.{FIX, TIME, AMENDMENT}
 use Rattle.fields.specs.Word.{wordOf, isWord}
 use Rattle.fields.specs.Ident.{identOf, tzIdentOf, identText, isIdentValue}
 use Rattle.fields.specs.Aircraft.{aircraftOf, aircraftText, isAircraftValue}
@@ -23,72 +21,11 @@ use Rattle.fields.specs.declared.idents.IdentRead.the-variants as ident
 use Rattle.fields.specs.declared.aircraft.Aircraft.{Aircraft}
 use Rattle.fields.specs.declared.aircraft.AircraftRead.{AircraftRead}
 use Rattle.fields.specs.declared.aircraft.AircraftRead.the-variants as aircraft
+unfoldable pub use Rattle.table.specs.FieldKind.{IDENT, TZ-IDENT, AIRCRAFT, ROUTE, PLAN-TIME, CONTENT}
+unfoldable pub use Rattle.table.specs.Amends.{markOf, markText, isMark, contentOf}
 use Rattle.table.specs.declared.kinds.Value.{Value}
 use Rattle.table.specs.declared.kinds.FieldRead.{FieldRead}
 use Rattle.table.specs.declared.kinds.FieldRead.the-variants.{Read, Nothing, Number, Two}
-
--- ---- the kinds that are no single text; the others are those of rules/specs/Kind
-
-abbrev pub IDENT : ℕ
-IDENT = code "I"
-
-abbrev pub TZ-IDENT : ℕ
-TZ-IDENT = code "J"
-
-abbrev pub AIRCRAFT : ℕ
-AIRCRAFT = code "Z"
-
-abbrev pub ROUTE : ℕ
-ROUTE = code "R"
-
--- the time of FZ and UZ, which the E rule ties to the fix before it
-abbrev pub PLAN-TIME : ℕ
-PLAN-TIME = code "H"
-
--- what the amendment's number before it asks for
-abbrev pub CONTENT : ℕ
-CONTENT = code "W"
-
--- ---- amendments: "a number 02, 03, 05, 06, 07, 08, 09 or 10, and its content (ident, aircraft, filed speed, fix, time, level,
--- level, route)"; "a set of eight marks, one per number"
-
--- the mark of a number; 0 for what is none of the eight
-unfoldable pub markOf : List ℕ → ℕ
-markOf s =
-    cond (fits (bytes "02") s) 1
-    (cond (fits (bytes "03") s) 2
-    (cond (fits (bytes "05") s) 4
-    (cond (fits (bytes "06") s) 8
-    (cond (fits (bytes "07") s) 16
-    (cond (fits (bytes "08") s) 32
-    (cond (fits (bytes "09") s) 64
-    (cond (fits (bytes "10") s) 128 0)))))))
-
--- the number of a mark
-unfoldable pub markText : ℕ → List ℕ
-markText m =
-    cond (eqb m 1) (bytes "02")
-    (cond (eqb m 2) (bytes "03")
-    (cond (eqb m 4) (bytes "05")
-    (cond (eqb m 8) (bytes "06")
-    (cond (eqb m 16) (bytes "07")
-    (cond (eqb m 32) (bytes "08")
-    (cond (eqb m 64) (bytes "09") (bytes "10")))))))
-
-unfoldable pub isMark : ℕ → Bool
-isMark m = eqb m 1 || eqb m 2 || eqb m 4 || eqb m 8 || eqb m 16 || eqb m 32 || eqb m 64 || eqb m 128
-
--- the kind of its content
-unfoldable pub contentOf : ℕ → ℕ
-contentOf m =
-    cond (eqb m 1) IDENT
-    (cond (eqb m 2) AIRCRAFT
-    (cond (eqb m 4) FILED-SPEED
-    (cond (eqb m 8) FIX
-    (cond (eqb m 16) TIME
-    (cond (eqb m 32) LEVEL
-    (cond (eqb m 64) LEVEL
-    (cond (eqb m 128) ROUTE 0)))))))
 
 -- ---- what one field leaves for the next
 

@@ -1,5 +1,7 @@
 pub mod Table
 pub mod Plan
+pub mod FieldKind
+pub mod Amends
 pub mod Field
 pub mod Spacing
 pub mod Read

@@ -9,21 +9,21 @@ use borrow.Author.Tests.{eq-eqb, not-true}
 use Rattle.text.proofs.Logic.{true-false}
 use Rattle.text.proofs.Laws.{no-text}
 use Rattle.table.specs.Field.{isMark, markText}
-use Rattle.table.proofs.MarkSets.{each-text}
+use Rattle.table.proofs.Eight.{each-text}
 use borrow.Author.Needs.{needs}
 use Rattle.table.proofs.field.put_mark.Statement.{statement}
 use Rattle.table.proofs.field.put_mark.Tie as tie
 
 -- no number begins with the byte 0
-first : (m : ℕ) → eqb (getD (markText m) 0 0) 0 ≡ false
-first m = not-true _ (each-text (λ s. not (eqb (getD s 0 0) 0)) refl refl refl refl refl refl refl refl m)
+first : (m : ℕ) → isMark m ≡ true → eqb (getD (markText m) 0 0) 0 ≡ false
+first m e = not-true _ (each-text (λ s. not (eqb (getD s 0 0) 0)) refl refl refl refl refl refl refl refl m e)
 
 -- digits that begin with 0 are those of no mark, and any others those of a mark
 none : (m : ℕ) (d : List ℕ) → d ≡ cond (isMark m) (markText m) (0 ∷ 0 ∷ []) → getD d 0 0 ≡ 0 → isMark m ≡ false
 none m d e z = go (isMark m) refl
   where
     go : (b : Bool) → isMark m ≡ b → isMark m ≡ false
-    go true q = true-false (eq-eqb _ _ (sym (ap (λ (s : List ℕ). getD s 0 0) (rw q at e)) ∙ z)) (first m)
+    go true q = true-false (eq-eqb _ _ (sym (ap (λ (s : List ℕ). getD s 0 0) (rw q at e)) ∙ z)) (first m q)
     go false q = q
 
 some : (m : ℕ) (d : List ℕ) → d ≡ cond (isMark m) (markText m) (0 ∷ 0 ∷ []) → (getD d 0 0 ≡ 0 → ⊥) → (isMark m ≡ true) × (d ≡ markText m)
