@@ -10,6 +10,8 @@ pub mod Spaces
 pub mod SpacingLaws
 pub mod WalkWays
 pub mod Theorems
+pub mod FieldForms
+pub mod FieldCases
 pub mod Refusals
 pub mod MarksKept
 pub mod Routes
