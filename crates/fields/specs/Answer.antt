@@ -11,7 +11,8 @@ use Rattle.rules.specs.Kind.{SEQUENCE, STAMP}
 use Rattle.fields.specs.declared.words.Pair.{Pair}
 use Rattle.fields.specs.declared.words.Pair.the-variants as pair
 
--- a text without a reading: 4 a sequence number, 5 a stamp, 9 any other field of these kinds
+-- a text without a reading: 4 a sequence number, 5 a stamp, 9 any other field of the kinds of rules/specs/Kind. (An AF's number is none of
+-- these: a wrong one is answered 10, "never 9", and read by table/specs/Field.)
 unfoldable pub refusal : ℕ → ℕ
 refusal k = cond (eqb k SEQUENCE) 4 (cond (eqb k STAMP) 5 9)
 

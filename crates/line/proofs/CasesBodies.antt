@@ -30,8 +30,9 @@ use Rattle.line.specs.Cases.{Faulty}
 pub faulty-fields : (t : MessageType) (b : List ℕ) (i n : ℕ) → Faulty t b i n → hasFields t ≡ true
 unfolding kindsOf
 faulty-fields t b i n f =
-    not-fails (hasFields t)
-    (λ e. omega (arith, f .first .inside, kinds-length t (length (f .fields)) (f .count), length-take (length (f .fields)) (tableOf t), eqb-true (length (tableOf t)) 0 (not-false (eqb (length (tableOf t)) 0) e)))
+    let k = kinds-length t (length (f .fields)) (f .count) in
+    let l = length-take (length (f .fields)) (tableOf t) in
+    not-fails (hasFields t) (λ e. omega (arith, f .first .inside, k, l, eqb-true (length (tableOf t)) 0 (not-false (eqb (length (tableOf t)) 0) e)))
 
 -- ---- the fields of a body are counted
 

@@ -98,7 +98,8 @@ free-part s = go (ltb (length s) headLength) refl (typeOf (typePart s)) refl
     body h {i} {r} a = (sym (a .bytes) ∙ rw (drop-drop i headLength s), omega (arith, a .inside, length-drop headLength s))
 
     by : headLength ≤ length s → (t : MessageType) (c : Bool) → hasFields t ≡ c
-        → (freeIn t (bodyPart s) ≡ part (headLength + freeAtIn t (bodyPart s)) (length (freeIn t (bodyPart s))) s) × (headLength + freeAtIn t (bodyPart s) + length (freeIn t (bodyPart s)) ≤ length s)
+        → (freeIn t (bodyPart s) ≡ part (headLength + freeAtIn t (bodyPart s)) (length (freeIn t (bodyPart s))) s)
+        × (headLength + freeAtIn t (bodyPart s) + length (freeIn t (bodyPart s)) ≤ length s)
     by h t true q = rw q (body h (route-part-by t (bodyPart s)))
     by h t false q = rw q (body h {i = 0} (record { bytes = take-length (bodyPart s); inside = omega arith }))
 

@@ -13,13 +13,13 @@ use lib.Seq.{take-at, drop-at}
 use borrow.Author.Tests.{eqb-true, leb-true}
 use Rattle.text.proofs.Logic.{and-left, and-right, true-false}
 use Rattle.rules.specs.Form.{isRoute}
-use Rattle.rules.specs.Kind.{POINT, TIME, AMENDMENT}
+use Rattle.rules.specs.Kind.{POINT, TIME}
 use Rattle.fields.specs.Word.{isWord}
 use Rattle.fields.specs.Ident.{isIdentValue}
 use Rattle.fields.specs.Aircraft.{isAircraftValue}
 use Rattle.fields.specs.declared.heads.MessageType.{MessageType}
 use Rattle.fields.specs.declared.heads.MessageType.the-variants as type
-use Rattle.table.specs.Field.{IDENT, TZ-IDENT, AIRCRAFT, ROUTE, PLAN-TIME, CONTENT, valued, identIn, aircraftIn, isOne, isTwo, isMark, contentOf, plain, traceOf, marksOf, follows, isKindValue, isValue, shown}
+use Rattle.table.specs.Field.{AMENDMENT, IDENT, TZ-IDENT, AIRCRAFT, ROUTE, PLAN-TIME, CONTENT, valued, identIn, aircraftIn, isOne, isTwo, isMark, contentOf, plain, traceOf, marksOf, follows, isKindValue, isValue, shown}
 use Rattle.table.specs.declared.kinds.Value.{Value}
 use Rattle.table.proofs.Eight.{each-mark, mark-text}
 use Rattle.table.specs.Read.{none, padded}

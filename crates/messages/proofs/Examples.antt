@@ -3,24 +3,28 @@
 use Prim.Native.Nat.{ℕ}
 use Prim.Native.String.{String}
 use mathlib.Core.Bool.{false}
-use mathlib.Core.List.{[], _∷_}
+use mathlib.Core.List.{List, [], _∷_, map}
 use mathlib.Core.Path.{_≡_, ap, _∙_, refl}
 use denote.Ref.{now}
-use lib.ListN.{getD}
+use lib.ListN.{getD, drop}
 use Rattle.text.specs.Bytes.{bytes}
 use Rattle.text.specs.Class.{all, isDigit, isLetter, isAlnum}
 use Rattle.text.specs.Code.{codeOf}
+use Rattle.text.specs.Number.{isNumeral, isDigitTo, digitOf, numberOf}
 use Rattle.text.specs.Place.{value, allIn}
 use Rattle.text.specs.Text.{textOf, packed}
-use Rattle.shapes.specs.Cut.{upTo, has, before, after}
-use Rattle.shapes.specs.Picture.{isOf, fits, fitsAny, oneOf, run}
+use Rattle.shapes.specs.Cut.{upTo, has, before, after, joins}
+use Rattle.shapes.specs.Picture.{isOf, fits, fitsAny, oneOf, run, within}
 use Rattle.shapes.specs.Pieces.{pieces}
-use Rattle.rules.specs.Form.{isKey, isIdent}
+use Rattle.rules.specs.Form.{isKey, isIdent, isTzIdent, isFix, isTime, isClock, isPosition}
 use Rattle.rules.specs.Kind.{isForm}
-use Rattle.fields.specs.Ident.{identFrom, identOf}
+use Rattle.fields.specs.Aircraft.{aircraftOf, plainOf, prefixedOf}
+use Rattle.fields.specs.Ident.{identFrom, identOf, tzIdentOf}
+use Rattle.fields.specs.Pair.{isPairForm, pairOf}
 use Rattle.fields.specs.Word.{wordOf}
+use Rattle.fields.specs.declared.heads.MessageType.{MessageType}
 use Rattle.fields.specs.declared.heads.MessageType.the-variants as type
-use Rattle.table.specs.Field.{valued, markOf, contentOf, traceOf, marksOf, follows, plain, readKind, readMark, barred, readIn}
+use Rattle.table.specs.Field.{valued, identIn, aircraftIn, markOf, contentOf, traceOf, marksOf, follows, plain, readKind, readMark, barred, readIn}
 use Rattle.table.specs.Read.{padded, valuesFrom, answerFrom, counted, answers, values, answerOf, valuesOf, none}
 use Rattle.table.specs.Spacing.{fieldsOf, ended}
 use Rattle.table.specs.Table.{countWith, isCount, kindsOf, countIn, answerBy, valuesBy}
@@ -29,6 +33,7 @@ use Rattle.table.specs.declared.walk.Fault.the-variants as fault
 use Rattle.messages.specs.Body.{planLevel, amendedIn, heldOf, typeIn, marksIn, valueOfWord, bodyFrom, slots}
 use Rattle.messages.specs.Read.{bodyRead}
 use Rattle.messages.specs.declared.Amended.the-variants as amended
+use Rattle.messages.specs.declared.Amendment.{Amendment}
 use Rattle.messages.specs.declared.Body.the-variants as body
 use Rattle.messages.specs.declared.PlanLevel.the-variants as level
 use Rattle.messages.specs.declared.typed.BodyRead.{BodyRead}
@@ -51,10 +56,22 @@ pub never-requested : (κs : _) (a : _) (r : _) (s : _) → filed-level.Post κs
 unfolding planLevel
 never-requested κs a r s p e = p ∙ rw e
 
+-- an amendment with the number n and the content v
+abbrev numbered : String → Value → Amendment
+numbered n v = record { mark = markOf (bytes n); content = v }
+
+-- "its content (ident, aircraft, filed speed, fix, time, level, level, route)", each number's by its own type: of the levels 08 is the assigned one
+-- and 09 the requested one (000)
+pub content-by-number : (κs : _) (a : _) (r : _) (s : _) → content.Post κs a r s → (v : Value) → (a .0 ≡ numbered "02" v → r ≡ amended.Ident (identIn v)) × (a .0 ≡ numbered "03" v → r ≡ amended.Aircraft (aircraftIn v)) × (a .0 ≡ numbered "05" v → r ≡ amended.Speed (record { 0 = v .a })) × (a .0 ≡ numbered "06" v → r ≡ amended.Fix (record { 0 = v .a })) × (a .0 ≡ numbered "07" v → r ≡ amended.Time (record { 0 = v .a })) × (a .0 ≡ numbered "08" v → r ≡ amended.Assigned (record { 0 = v .a })) × (a .0 ≡ numbered "09" v → r ≡ amended.Requested (record { 0 = v .a })) × (a .0 ≡ numbered "10" v → r ≡ amended.Route)
+unfolding amendedIn markOf
+content-by-number κs a r s p v = (on, on, on, on, on, on, on, on)
+  where
+    on : {x : Amendment} → a .0 ≡ x → r ≡ amendedIn x
+    on e = p ∙ ap amendedIn e
+
 -- an 08 has an assigned level
-pub amended-08-is-requested : (κs : _) (a : _) (r : _) (s : _) → content.Post κs a r s → (w : ℕ) → a .0 ≡ record { mark = 32; content = valued w 0 0 } → r ≡ amended.Assigned (record { 0 = w })
-unfolding amendedIn
-amended-08-is-requested κs a r s p w e = p ∙ ap amendedIn e
+pub amended-08-is-requested : (κs : _) (a : _) (r : _) (s : _) → content.Post κs a r s → (v : Value) → a .0 ≡ numbered "08" v → r ≡ amended.Assigned (record { 0 = v .a })
+amended-08-is-requested κs a r s p v = content-by-number κs a r s p v .5
 
 -- a mark of no number, or of two, has no content
 pub two-marks-are-the-first : (κs : _) (a : _) (r : _) (s : _) → content.Post κs a r s → (w : ℕ) → a .0 ≡ record { mark = 5; content = valued w 0 0 } → r ≡ amended.Nothing
@@ -62,11 +79,13 @@ unfolding amendedIn
 two-marks-are-the-first κs a r s p w e = p ∙ ap amendedIn e
 
 -- a route has the mark of 10, and no content is held
-pub route-unmarked : (κs : _) (a : _) (r : _) (s : _) → held.Post κs a r s → a .0 ≡ amended.Route → r ≡ record { mark = 128; content = valued 0 0 0 }
+pub route-unmarked : (κs : _) (a : _) (r : _) (s : _) → held.Post κs a r s → a .0 ≡ amended.Route → r ≡ numbered "10" (valued 0 0 0)
+unfolding markOf
 route-unmarked κs a r s p e = p ∙ ap heldOf e
 
 -- a filed speed has the mark of 05
-pub speed-is-a-fix : (κs : _) (a : _) (r : _) (s : _) → held.Post κs a r s → (w : ℕ) → a .0 ≡ amended.Speed (record { 0 = w }) → r ≡ record { mark = 4; content = valued w 0 0 }
+pub speed-is-a-fix : (κs : _) (a : _) (r : _) (s : _) → held.Post κs a r s → (w : ℕ) → a .0 ≡ amended.Speed (record { 0 = w }) → r ≡ numbered "05" (valued w 0 0)
+unfolding markOf
 speed-is-a-fix κs a r s p w e = p ∙ ap heldOf e
 
 -- a UZ is no FZ, though both hold a plan
@@ -91,7 +110,7 @@ abbrev word : String → Value
 word t = valueOfWord (packed (bytes t))
 
 abbrev answered : BodyRead
-answered = read.Read (bodyFrom type.Af 32 (padded (word "NVL88" ∷ word "BOS" ∷ word "ALB" ∷ valueOfWord 32 ∷ word "290" ∷ []))) false
+answered = read.Read (bodyFrom type.Af (markOf (bytes "08")) (padded (word "NVL88" ∷ word "BOS" ∷ word "ALB" ∷ valueOfWord (markOf (bytes "08")) ∷ word "290" ∷ []))) false
 
 read-as : (bodyRead type.Rz (bytes " NVL88 BOS A-B") ≡ read.Refused (fault.Field 3)) × (bodyRead type.Af (bytes " NVL88 BOS ALB 08 290") ≡ answered)
 unfolding bodyRead padded answerBy valuesBy countIn kindsOf isCount countWith answerOf answers answerFrom valuesOf values valuesFrom counted fieldsOf ended readIn readKind readMark barred plain traceOf marksOf contentOf follows markOf identOf identFrom wordOf isForm isKey isIdent has before after upTo oneOf fitsAny fits pieces run isOf isAlnum isDigit isLetter all allIn packed value codeOf
@@ -104,6 +123,43 @@ field-answered-as-number κs a r s p e f = p ∙ rw (e, f) (read-as .0)
 -- an 08 is kept with its own mark and the word of its level
 pub typed-amended-08-is-requested : (κs : _) (a : _) (r : _) (s : _) → read-body.Post κs a r s → a .0 ≡ type.Af → now (a .1 .0) ≡ bytes " NVL88 BOS ALB 08 290" → r ≡ answered
 typed-amended-08-is-requested κs a r s p e f = p ∙ rw (e, f) (read-as .1)
+
+-- a body, and the place of its field that is answered 9
+pub record Unread : Type 0 where
+  pub kind : MessageType
+  pub text : String
+  pub place : ℕ
+
+abbrev unread : MessageType → String → ℕ → Unread
+unread t s i = record { kind = t; text = s; place = i }
+
+-- "A filed speed is never handed on as a ground speed, nor a level as either": M080 and 0310 are filed speeds, 05 and 310B330 levels
+abbrev pub notHandedOn : List Unread
+notHandedOn =
+    unread type.Tz " QQX12/101 M080 240 3015N/08430W" 2
+    ∷ unread type.Tz " QQX12/101 0310 240 3015N/08430W" 2
+    ∷ unread type.Tz " QQX12/101 05 240 3015N/08430W" 2
+    ∷ unread type.Tz " QQX12/101 310B330 240 3015N/08430W" 2
+    ∷ unread type.Tz " QQX12/101 310 05 3015N/08430W" 3
+    ∷ unread type.Tz " QQX12/101 310 310B330 3015N/08430W" 3
+    ∷ unread type.Fz " QQX12/101 C172/A 310B330 ABC D0816 310 ABC..DEF" 3
+    ∷ unread type.Fz " QQX12/101 C172/A 310 ABC D0816 M080 ABC..DEF" 6
+    ∷ unread type.Af " QQX12/101 ABC DEF 05 310B330" 5
+    ∷ unread type.Af " QQX12/101 ABC DEF 08 M080" 5
+    ∷ []
+
+-- the type t and the body s being those of a row, r is a refusal with its place, and hands nothing on; and so of each row
+abbrev pub Refuses : MessageType → List ℕ → BodyRead → List Unread → Type 0
+Refuses t s r [] = Unit {0}
+Refuses t s r (x ∷ l) = (t ≡ x .kind → s ≡ bytes (x .text) → r ≡ read.Refused (fault.Field (x .place))) × Refuses t s r l
+
+refuses : (t : MessageType) (s : List ℕ) (l : List Unread) → map (λ (x : Unread). bodyRead (x .kind) (bytes (x .text))) l ≡ map (λ (x : Unread). read.Refused (fault.Field (x .place))) l → Refuses t s (bodyRead t s) l
+refuses t s [] e = tt
+refuses t s (x ∷ l) e = ((λ p q. rw (p, q) (ap (λ bs. getD bs 0 (read.Refused fault.Spacing)) e)), refuses t s l (ap (drop 1) e))
+
+pub speeds-and-levels : (κs : _) (a : _) (r : _) (s : _) → read-body.Post κs a r s → Refuses (a .0) (now (a .1 .0)) r notHandedOn
+unfolding bodyRead answerBy valuesBy countIn kindsOf isCount answerOf answers answerFrom counted fieldsOf ended readIn readKind readMark barred plain traceOf marksOf contentOf follows markOf identOf tzIdentOf wordOf aircraftOf plainOf prefixedOf pairOf isPairForm isForm isKey isIdent isTzIdent isFix isTime isClock isPosition joins has before after upTo oneOf fitsAny fits pieces run isOf isAlnum isDigit isLetter all within isNumeral isDigitTo digitOf numberOf value codeOf
+speeds-and-levels κs a r s p = rw p (refuses (a .0) (now (a .1 .0)) notHandedOn refl)
 
 -- ---- values
 

@@ -10,6 +10,7 @@ use Rattle.fields.specs.declared.heads.MessageType.{MessageType}
 use Rattle.fields.specs.declared.heads.MessageType.the-variants as type
 use Rattle.fields.specs.declared.idents.Ident.{Ident}
 use Rattle.fields.specs.declared.aircraft.Aircraft.{Aircraft}
+use Rattle.table.specs.Amends.{markFor}
 use Rattle.table.specs.Field.{valued, identIn, aircraftIn}
 use Rattle.table.specs.declared.kinds.Value.{Value}
 use Rattle.table.specs.Read.{none}
@@ -37,17 +38,18 @@ planLevel p = cond (eqb (getD (textOf (p .time .0)) 0 0) (code "P")) (level.Requ
 abbrev pub at : List Value → ℕ → Value
 at w i = getD w i none
 
--- "An amendment is two fields: a number and its content": the content by its number's mark
+-- "An amendment is two fields: a number .. and its content": the content by its number; of the two levels 08 is the assigned one and 09 the
+-- requested one (000)
 unfoldable pub amendedIn : Amendment → Amended
 amendedIn x =
-    cond (eqb (x .mark) 1) (amended.Ident (identIn (x .content)))
-    (cond (eqb (x .mark) 2) (amended.Aircraft (aircraftIn (x .content)))
-    (cond (eqb (x .mark) 4) (amended.Speed (record { 0 = x .content .a }))
-    (cond (eqb (x .mark) 8) (amended.Fix (record { 0 = x .content .a }))
-    (cond (eqb (x .mark) 16) (amended.Time (record { 0 = x .content .a }))
-    (cond (eqb (x .mark) 32) (amended.Assigned (record { 0 = x .content .a }))
-    (cond (eqb (x .mark) 64) (amended.Requested (record { 0 = x .content .a }))
-    (cond (eqb (x .mark) 128) amended.Route amended.Nothing)))))))
+    cond (eqb (x .mark) (markFor "02")) (amended.Ident (identIn (x .content)))
+    (cond (eqb (x .mark) (markFor "03")) (amended.Aircraft (aircraftIn (x .content)))
+    (cond (eqb (x .mark) (markFor "05")) (amended.Speed (record { 0 = x .content .a }))
+    (cond (eqb (x .mark) (markFor "06")) (amended.Fix (record { 0 = x .content .a }))
+    (cond (eqb (x .mark) (markFor "07")) (amended.Time (record { 0 = x .content .a }))
+    (cond (eqb (x .mark) (markFor "08")) (amended.Assigned (record { 0 = x .content .a }))
+    (cond (eqb (x .mark) (markFor "09")) (amended.Requested (record { 0 = x .content .a }))
+    (cond (eqb (x .mark) (markFor "10")) amended.Route amended.Nothing)))))))
 
 -- an amendment from the values of its number and its content
 abbrev pub heldFrom : Value → Value → Amendment
@@ -136,14 +138,14 @@ valueOfAircraft x = valued (x .prefix) (x .model) (x .letter)
 
 -- an amendment as a message holds it: the mark of its number, and the value of its content
 abbrev pub heldOf : Amended → Amendment
-heldOf (amended.Ident i) = record { mark = 1; content = valueOfIdent i }
-heldOf (amended.Aircraft x) = record { mark = 2; content = valueOfAircraft x }
-heldOf (amended.Speed x) = record { mark = 4; content = valueOfWord (x .0) }
-heldOf (amended.Fix x) = record { mark = 8; content = valueOfWord (x .0) }
-heldOf (amended.Time x) = record { mark = 16; content = valueOfWord (x .0) }
-heldOf (amended.Assigned x) = record { mark = 32; content = valueOfWord (x .0) }
-heldOf (amended.Requested x) = record { mark = 64; content = valueOfWord (x .0) }
-heldOf amended.Route = record { mark = 128; content = none }
+heldOf (amended.Ident i) = record { mark = markFor "02"; content = valueOfIdent i }
+heldOf (amended.Aircraft x) = record { mark = markFor "03"; content = valueOfAircraft x }
+heldOf (amended.Speed x) = record { mark = markFor "05"; content = valueOfWord (x .0) }
+heldOf (amended.Fix x) = record { mark = markFor "06"; content = valueOfWord (x .0) }
+heldOf (amended.Time x) = record { mark = markFor "07"; content = valueOfWord (x .0) }
+heldOf (amended.Assigned x) = record { mark = markFor "08"; content = valueOfWord (x .0) }
+heldOf (amended.Requested x) = record { mark = markFor "09"; content = valueOfWord (x .0) }
+heldOf amended.Route = record { mark = markFor "10"; content = none }
 heldOf amended.Nothing = record { mark = 0; content = none }
 
 -- the amendments in their order

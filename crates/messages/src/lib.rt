@@ -22,6 +22,7 @@ use fields::track::Clock;
 use fields::track::GroundSpeed;
 use fields::track::Position;
 use fields::track::TrackLevel;
+use table::kinds;
 use table::kinds::Value;
 ghost use mathlib.Core.Path.{_≡_};
 ghost use Rattle.table.specs.Field.{identIn, aircraftIn};
@@ -163,21 +164,21 @@ impl Amendment {
         let mark = self.mark;
         let v = self.content;
         match mark {
-            1 => return Amended::Ident(Ident {
+            kinds::KEPT_02 => return Amended::Ident(Ident {
                 key: Key(v.a),
                 number: ComputerNumber(v.b),
             }),
-            2 => return Amended::Aircraft(Aircraft {
+            kinds::KEPT_03 => return Amended::Aircraft(Aircraft {
                 prefix: v.a,
                 model: v.b,
                 letter: v.c,
             }),
-            4 => return Amended::Speed(FiledSpeed(v.a)),
-            8 => return Amended::Fix(Fix(v.a)),
-            16 => return Amended::Time(Time(v.a)),
-            32 => return Amended::Assigned(Level(v.a)),
-            64 => return Amended::Requested(Level(v.a)),
-            128 => return Amended::Route,
+            kinds::KEPT_05 => return Amended::Speed(FiledSpeed(v.a)),
+            kinds::KEPT_06 => return Amended::Fix(Fix(v.a)),
+            kinds::KEPT_07 => return Amended::Time(Time(v.a)),
+            kinds::KEPT_08 => return Amended::Assigned(Level(v.a)),
+            kinds::KEPT_09 => return Amended::Requested(Level(v.a)),
+            kinds::KEPT_10 => return Amended::Route,
             _ => return Amended::Nothing,
         }
     }
@@ -189,14 +190,14 @@ impl Amended {
         ensures { λ r. ⌜ r ≡ heldOf self ⌝ }
     {
         match self {
-            Amended::Ident(i) => held(1, i.key.0, i.number.0, 0),
-            Amended::Aircraft(x) => held(2, x.prefix, x.model, x.letter),
-            Amended::Speed(x) => held(4, x.0, 0, 0),
-            Amended::Fix(x) => held(8, x.0, 0, 0),
-            Amended::Time(x) => held(16, x.0, 0, 0),
-            Amended::Assigned(x) => held(32, x.0, 0, 0),
-            Amended::Requested(x) => held(64, x.0, 0, 0),
-            Amended::Route => held(128, 0, 0, 0),
+            Amended::Ident(i) => held(kinds::KEPT_02, i.key.0, i.number.0, 0),
+            Amended::Aircraft(x) => held(kinds::KEPT_03, x.prefix, x.model, x.letter),
+            Amended::Speed(x) => held(kinds::KEPT_05, x.0, 0, 0),
+            Amended::Fix(x) => held(kinds::KEPT_06, x.0, 0, 0),
+            Amended::Time(x) => held(kinds::KEPT_07, x.0, 0, 0),
+            Amended::Assigned(x) => held(kinds::KEPT_08, x.0, 0, 0),
+            Amended::Requested(x) => held(kinds::KEPT_09, x.0, 0, 0),
+            Amended::Route => held(kinds::KEPT_10, 0, 0, 0),
             Amended::Nothing => held(0, 0, 0, 0),
         }
     }

@@ -99,8 +99,7 @@ table =
     ++ (rows kinds.LEVEL ("35" ∷ "350" ∷ "35B350" ∷ "350B35" ∷ []) ("3" ∷ "35C350" ∷ [])  -- level_1, level_c_between
     ++ (rows kinds.TRACK-LEVEL ("350" ∷ "350C" ∷ []) ("35" ∷ "350CC" ∷ [])  -- track_level_2, track_level_two_letters
     ++ (rows kinds.POSITION ("9000N/18000W" ∷ "0000S/00000E" ∷ []) ("9001N/00000E" ∷ "8960N/00000E" ∷ [])  -- position_9001, position_minute_60
-    ++ (rows kinds.AMENDMENT ("02" ∷ "03" ∷ "05" ∷ "06" ∷ "07" ∷ "08" ∷ "09" ∷ "10" ∷ []) ("04" ∷ "11" ∷ [])  -- amendment_04, amendment_11
-    ++ rows (code "Z") [] ("12" ∷ "" ∷ []))))))))))))))))))  -- a letter that names no kind
+    ++ rows (code "Z") [] ("12" ∷ "" ∷ [])))))))))))))))))  -- a letter that names no kind
 
 -- the kind k and the text t being a row's, r is the row's answer; and so of each row
 abbrev pub Tells : ℕ → List ℕ → Bool → List Row → Type 0

@@ -19,8 +19,8 @@ use Rattle.shapes.specs.Picture.{either, isOf, fits, pictures, fitsAny, oneOf, 
 use Rattle.shapes.specs.Cut.{before, after, joins}
 use Rattle.shapes.proofs.Laws.{fits-length, run-least, run-most, run-class}
 use Rattle.shapes.proofs.Joins.{joins-parts}
-use Rattle.rules.specs.Form.{isSequence, isStamp, isKey, isNumber, isPrefix, isModel, isOneLetter, isFiledSpeed, isGroundSpeed, isPoint, isFix, isClock, isTime, isArrival, isLevel, isTrackLevel, isPosition, isAmendment}
-use Rattle.rules.specs.Kind.{SEQUENCE, STAMP, KEY, NUMBER, PREFIX, MODEL, LETTER, FILED-SPEED, GROUND-SPEED, POINT, FIX, TIME, CLOCK, ARRIVAL, LEVEL, TRACK-LEVEL, POSITION, AMENDMENT, isForm}
+use Rattle.rules.specs.Form.{isSequence, isStamp, isKey, isNumber, isPrefix, isModel, isOneLetter, isFiledSpeed, isGroundSpeed, isPoint, isFix, isClock, isTime, isArrival, isLevel, isTrackLevel, isPosition}
+use Rattle.rules.specs.Kind.{SEQUENCE, STAMP, KEY, NUMBER, PREFIX, MODEL, LETTER, FILED-SPEED, GROUND-SPEED, POINT, FIX, TIME, CLOCK, ARRIVAL, LEVEL, TRACK-LEVEL, POSITION, isForm}
 
 pub record Held (s : List ℕ) : Type 0 where
   pub text : isText s ≡ true
@@ -201,5 +201,4 @@ form-held k s =
     (pick (eqb k ARRIVAL) (isArrival s) _ (arrival-held s)
     (pick (eqb k LEVEL) (isLevel s) _ (one-held (bytes "dd|ddd|ddBdd|ddBddd|dddBdd|dddBddd") s refl)
     (pick (eqb k TRACK-LEVEL) (isTrackLevel s) _ (one-held (bytes "ddd|dddl") s refl)
-    (pick (eqb k POSITION) (isPosition s) _ (position-held s)
-    (pick (eqb k AMENDMENT) (isAmendment s) false (one-held (bytes "02|03|05|06|07|08|09|10") s refl) (λ e. true-false e refl))))))))))))))))))
+    (pick (eqb k POSITION) (isPosition s) false (position-held s) (λ e. true-false e refl)))))))))))))))))

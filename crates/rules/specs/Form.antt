@@ -95,7 +95,3 @@ isPosition s =
 -- route: "one or more bytes 33 to 126"
 unfoldable pub isRoute : List ℕ → Bool
 isRoute s = leb 1 (length s) && all (isOf (code "v")) s
-
--- amendment: "a number 02, 03, 05, 06, 07, 08, 09 or 10"
-abbrev pub isAmendment : List ℕ → Bool
-isAmendment s = oneOf (bytes "02|03|05|06|07|08|09|10") s

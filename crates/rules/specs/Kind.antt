@@ -4,7 +4,7 @@ use Prim.Native.Char.{code}
 use mathlib.Core.Bool.{Bool, false, cond}
 use mathlib.Core.List.{List}
 use lib.Dec.{eqb}
-use Rattle.rules.specs.Form.{isSequence, isStamp, isKey, isNumber, isPrefix, isModel, isOneLetter, isFiledSpeed, isGroundSpeed, isPoint, isFix, isTime, isClock, isArrival, isLevel, isTrackLevel, isPosition, isAmendment}
+use Rattle.rules.specs.Form.{isSequence, isStamp, isKey, isNumber, isPrefix, isModel, isOneLetter, isFiledSpeed, isGroundSpeed, isPoint, isFix, isTime, isClock, isArrival, isLevel, isTrackLevel, isPosition}
 
 abbrev pub SEQUENCE : ℕ
 SEQUENCE = code "Q"
@@ -57,9 +57,6 @@ TRACK-LEVEL = code "M"
 abbrev pub POSITION : ℕ
 POSITION = code "O"
 
-abbrev pub AMENDMENT : ℕ
-AMENDMENT = code "B"
-
 -- the form of the kind k; a letter that names no kind has none
 unfoldable pub isForm : ℕ → List ℕ → Bool
 isForm k s =
@@ -79,5 +76,4 @@ isForm k s =
     (cond (eqb k ARRIVAL) (isArrival s)
     (cond (eqb k LEVEL) (isLevel s)
     (cond (eqb k TRACK-LEVEL) (isTrackLevel s)
-    (cond (eqb k POSITION) (isPosition s)
-    (cond (eqb k AMENDMENT) (isAmendment s) false)))))))))))))))))
+    (cond (eqb k POSITION) (isPosition s) false))))))))))))))))

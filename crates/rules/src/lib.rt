@@ -22,7 +22,7 @@ ghost use Rattle.rules.specs.Form.{isFacility, isKey, isFix, isPosition,
 ghost use Rattle.rules.specs.Kind.{isForm};
 ghost use Rattle.rules.specs.Drawn.{isDrawn};
 
-// The kinds of fields that are held as their text. (I, J, R and Z are left for what is no such field.)
+// The kinds of fields that are held as their text. (B, H, I, J, R, W and Z are left for what is no such field.)
 pub const SEQUENCE: u8 = b'Q';
 
 pub const STAMP: u8 = b'D';
@@ -56,8 +56,6 @@ pub const LEVEL: u8 = b'L';
 pub const TRACK_LEVEL: u8 = b'M';
 
 pub const POSITION: u8 = b'O';
-
-pub const AMENDMENT: u8 = b'B';
 
 // Four characters, right justified. Few have a space, so those without are asked first.
 pub fn is_facility(s: &[u8]) -> bool
@@ -161,7 +159,6 @@ fn is_drawn(kind: u8, s: &[u8]) -> bool
         GROUND_SPEED => run(b'd', 3, 3, s),
         LEVEL => run(b'd', 2, 3, s) || one_of(b"ddBdd|ddBddd|dddBdd|dddBddd", s),
         TRACK_LEVEL => is_track_level(s),
-        AMENDMENT => one_of(b"02|03|05|06|07|08|09|10", s),
         _ => false,
     }
 }

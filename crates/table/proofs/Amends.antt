@@ -13,8 +13,7 @@ use lib.ListN.{length, getD}
 use borrow.Author.Tests.{eqb-true}
 use Rattle.text.specs.Bytes.{bytes}
 use Rattle.text.proofs.Logic.{and-left, and-right, true-false, not-fails, not-holds, implied}
-use Rattle.rules.specs.Kind.{AMENDMENT}
-use Rattle.table.specs.Field.{ROUTE, CONTENT, plain, traceOf, marksOf}
+use Rattle.table.specs.Field.{AMENDMENT, ROUTE, CONTENT, plain, traceOf, marksOf}
 use Rattle.table.specs.declared.kinds.Value.{Value}
 use Rattle.table.specs.Read.{answerFrom}
 use Rattle.table.specs.Show.{textsFrom, allowedFrom, marksFrom, routed}

@@ -2,8 +2,9 @@
 -- `ensures` as it stands in the source, r any result that meets it, s the state at exit. Assumes nothing.
 use mathlib.Core.Bool.{false, true}
 use Prim.Native.Nat.{ℕ}
+use Prim.Native.String.{String}
 use mathlib.Core.Path.{_≡_, refl, ap, _∙_}
-use mathlib.Core.List.{List}
+use mathlib.Core.List.{List, [], _∷_, map}
 use denote.Ref.{now}
 use lib.Count.{ones}
 use Rattle.text.specs.Bytes.{bytes}
@@ -16,18 +17,19 @@ use Rattle.text.specs.declared.Written.the-variants.{NoText}
 use Rattle.shapes.specs.Picture.{isOf, fits, run, within}
 use Rattle.shapes.specs.Pieces.{pieces}
 use Rattle.rules.specs.Form.{isIdent, isKey, isClock, isArrival, isPosition, isRoute}
-use Rattle.rules.specs.Kind.{isForm, POINT, FIX, TIME, LEVEL, AMENDMENT}
+use Rattle.rules.specs.Kind.{isForm, FILED-SPEED, POINT, FIX, TIME, LEVEL}
 use Rattle.fields.specs.Ident.{identOf}
 use Rattle.fields.specs.Word.{wordOf}
 use Rattle.fields.specs.declared.heads.MessageType.{MessageType}
 use Rattle.fields.specs.declared.heads.MessageType.the-variants.{Af, Az, Dz, Fz, Rz, Tz, Uz, Rt, To, Hb}
-use Rattle.table.specs.Field.{markOf, contentOf, traceOf, marksOf, follows, plain, readKind, readIn, PLAN-TIME, CONTENT, ROUTE, valued, isOne, isMark, markText, isKindValue, isValue, shown}
+use Rattle.table.specs.Amends.{Amends, theEight}
+use Rattle.table.specs.Field.{IDENT, AIRCRAFT, AMENDMENT, markOf, contentOf, traceOf, marksOf, follows, plain, readKind, readMark, barred, readIn, PLAN-TIME, CONTENT, ROUTE, valued, isOne, isMark, markText, isKindValue, isValue, shown}
 use Rattle.table.specs.Read.{answerOf, answers, counted, answerFrom, routeIn, routeOf}
 use Rattle.table.specs.Spacing.{ended, fieldsOf}
 use Rattle.table.specs.Table.{isCount, dotted, kindsOf, countIn, answerBy, routeBy, countWith}
 use Rattle.table.specs.declared.walk.Answer.{Answer}
 use Rattle.table.specs.declared.walk.Answer.the-variants.{Taken, Refused}
-use Rattle.table.specs.declared.walk.Fault.the-variants.{Spacing}
+use Rattle.table.specs.declared.walk.Fault.the-variants.{Spacing, Number}
 use Rattle.table.proofs.field.put_field.Reads as put-field
 use Rattle.table.proofs.field_count.Reads as field-count
 use Rattle.table.proofs.has_fields.Reads as has-fields
@@ -96,7 +98,7 @@ three-kinds-for-every-body κs x r s p e = p .0 ∙ ap (answerBy Az) e
 -- the route of an AF is the content of its number 10
 pub route-by-the-fz-table : (κs : _) (x : _) (r : _) (s : _) → route.Post κs (Af, (x, tt)) r s
     → now x ≡ bytes " N5AB GHI JKL 10 GHI..JKL" → now r ≡ bytes "GHI..JKL"
-unfolding routeBy routeOf routeIn fieldsOf ended pieces plain contentOf traceOf markOf fits isOf
+unfolding routeBy routeOf routeIn fieldsOf ended pieces plain contentOf traceOf markOf
 route-by-the-fz-table κs x r s p e = p .0 ∙ ap (routeBy Af) e
 
 -- an FZ has a route, its last field
@@ -167,7 +169,7 @@ plan-time-is-a-clock κs m r s p = p
 
 -- the number 10 leaves its mark
 pub nothing-left : (κs : _) (x : _) (r : _) (s : _) → trace-read.Post κs (AMENDMENT, (x, tt)) r s → now x ≡ bytes "10" → r ≡ 128
-unfolding traceOf markOf fits isOf
+unfolding traceOf markOf
 nothing-left κs x r s p e = p ∙ ap (traceOf AMENDMENT) e
 
 -- a fix that is a position says so
@@ -177,7 +179,7 @@ left-by-another-field κs x r s p e = p ∙ ap (traceOf FIX) e
 
 -- after 02 and then 10 both marks are set
 pub marks-before-lost : (κs : _) (x : _) (r : _) (s : _) → marks-read.Post κs (AMENDMENT, (1, (x, tt))) r s → now x ≡ bytes "10" → r ≡ 129
-unfolding marksOf markOf fits isOf
+unfolding marksOf markOf
 marks-before-lost κs x r s p e = p ∙ ap (marksOf AMENDMENT 1) e
 
 -- a point that looks like a number sets none
@@ -194,8 +196,48 @@ e-rule-for-d κs m x r s p e = p ∙ ap (follows PLAN-TIME 0 m) e
 -- nor a number one that came before
 pub number-twice : (κs : _) (l : _) (x : _) (r : _) (s : _) → follows-read.Post κs (AMENDMENT, (l, (128, (x, tt)))) r s
     → now x ≡ bytes "10" → r ≡ false
-unfolding follows markOf fits isOf
+unfolding follows markOf
 number-twice κs l x r s p e = p ∙ ap (follows AMENDMENT l 128) e
+
+-- ---- an amendment's number
+
+-- the sentence of document 01, word for word: "a number 02, 03, 05, 06, 07, 08, 09 or 10, and its content (ident, aircraft, filed speed, fix,
+-- time, level, level, route)"
+abbrev numbers : List String
+numbers = "02" ∷ "03" ∷ "05" ∷ "06" ∷ "07" ∷ "08" ∷ "09" ∷ "10" ∷ []
+
+abbrev contents : List ℕ
+contents = IDENT ∷ AIRCRAFT ∷ FILED-SPEED ∷ FIX ∷ TIME ∷ LEVEL ∷ LEVEL ∷ ROUTE ∷ []
+
+-- the eight are those of the sentence, in its order
+pub eight-of-the-sentence : (map (λ (a : Amends). a .number) theEight ≡ map bytes numbers) × (map (λ (a : Amends). a .content) theEight ≡ contents)
+eight-of-the-sentence = (refl, refl)
+
+-- a number t of these asks for the content k in its place, in the sentence's order; and so of each
+abbrev Asks : List ℕ → ℕ → List String → List ℕ → Type 0
+Asks t k [] cs = Unit {0}
+Asks t k (n ∷ ns) [] = Unit {0}
+Asks t k (n ∷ ns) (c ∷ cs) = (t ≡ bytes n → k ≡ c) × Asks t k ns cs
+
+-- what a number leaves, and what is read after it: 06 asks for a fix and 07 for a time, not the other way round
+pub number-asks : (κs : _) (x : _) (m : _) (s : _) → trace-read.Post κs (AMENDMENT, (x, tt)) m s → (κs′ : _) (k : _) (s′ : _) → plain-read.Post κs′ (CONTENT, (m, tt)) k s′ → Asks (now x) k numbers contents
+unfolding plain contentOf traceOf markOf
+number-asks κs x m s p κs′ k s′ q = (on, (on, (on, (on, (on, (on, (on, (on, tt))))))))
+  where
+    on : {t : List ℕ} → now x ≡ t → k ≡ plain CONTENT (traceOf AMENDMENT t)
+    on e = q ∙ ap (plain CONTENT) (p ∙ ap (traceOf AMENDMENT) e)
+
+-- "an AF number field that is none of the eight (never 9)": 04 and 11 are answered 10, with their place
+none-of-the-eight : (answerBy Af (bytes " N5 AB CD 04 120") ≡ Refused (Number 4)) × (answerBy Af (bytes " N5 AB CD 11 120") ≡ Refused (Number 4))
+unfolding answerBy isCount countIn fieldsOf ended pieces kindsOf answerOf answers counted answerFrom readIn follows readKind readMark markOf barred plain
+    traceOf marksOf identOf wordOf isForm isIdent isKey run fits isOf all isAlnum isDigit isLetter
+none-of-the-eight = (refl, refl)
+
+pub number-04 : (κs : _) (x : _) (r : _) (s : _) → read.Post κs (Af, (x, tt)) r s → now x ≡ bytes " N5 AB CD 04 120" → r .answer ≡ Refused (Number 4)
+number-04 κs x r s p e = p .0 ∙ rw e (none-of-the-eight .0)
+
+pub number-11 : (κs : _) (x : _) (r : _) (s : _) → read.Post κs (Af, (x, tt)) r s → now x ≡ bytes " N5 AB CD 11 120" → r .answer ≡ Refused (Number 4)
+number-11 κs x r s p e = p .0 ∙ rw e (none-of-the-eight .1)
 
 -- ---- showing
 

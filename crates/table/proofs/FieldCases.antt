@@ -14,9 +14,9 @@ use lib.ListN.{length, take, getD}
 use borrow.Author.Tests.{eqb-true, eqb-false, eq-eqb}
 use Rattle.text.proofs.Logic.{and-left, and-right, true-false, not-holds}
 use Rattle.rules.specs.Form.{isTime, isPosition}
-use Rattle.rules.specs.Kind.{FIX, TIME, AMENDMENT}
+use Rattle.rules.specs.Kind.{FIX, TIME}
 use Rattle.table.specs.Amends.{Amends, theEight, markOf, markText, isMark, contentOf}
-use Rattle.table.specs.Field.{PLAN-TIME, CONTENT, readKind, readIn, traceOf, marksOf}
+use Rattle.table.specs.Field.{PLAN-TIME, AMENDMENT, CONTENT, readKind, readIn, traceOf, marksOf}
 use Rattle.table.specs.Fault.{kindAt, fieldAt, FormCase, Formed, Unformed, Asked, Content, Time, Plain, NoPosition, Came, FieldCase, ByForm, ERule, NoneOfEight, Twice, Fresh}
 use Rattle.table.specs.declared.kinds.FieldRead.{FieldRead}
 use Rattle.fields.specs.declared.heads.MessageType.{MessageType}
@@ -87,7 +87,8 @@ module _ (ks : List ℕ) (fs : List (List ℕ)) where
   -- ---- the marks are those of the numbers that came
 
   -- a number's mark that is in stands in a number's field before
-  pub came : (i : ℕ) (s : List ℕ) → eqb (markOf s) 0 ≡ false → (bitAnd (marksAt ks fs i) (markOf s) ≡ 0 → ⊥) → (j : ℕ) × (j < i) × (kindAt ks j ≡ AMENDMENT) × (fieldAt fs j ≡ s)
+  pub came : (i : ℕ) (s : List ℕ) → eqb (markOf s) 0 ≡ false → (bitAnd (marksAt ks fs i) (markOf s) ≡ 0 → ⊥)
+      → (j : ℕ) × (j < i) × (kindAt ks j ≡ AMENDMENT) × (fieldAt fs j ≡ s)
   unfolding marksOf
   came zero s n e = absurd (e (and-zero-l (markOf s)))
   came (suc i) s n e = go (eqb (kindAt ks i) AMENDMENT) refl (eqb (markOf s) (markOf (fieldAt fs i))) refl (came i s n)
@@ -122,7 +123,8 @@ module _ (ks : List ℕ) (fs : List (List ℕ)) where
       less true x = both x .0
       less false x = rw x at e
 
-      go : (b : Bool) → eqb j i ≡ b → (bitAnd (marksAt ks fs i) (markOf s) ≡ 0 → (j : ℕ) → j < i → kindAt ks j ≡ AMENDMENT → fieldAt fs j ≡ s → markOf s ≡ 0) → markOf s ≡ 0
+      go : (b : Bool) → eqb j i ≡ b → (bitAnd (marksAt ks fs i) (markOf s) ≡ 0 → (j : ℕ) → j < i → kindAt ks j ≡ AMENDMENT → fieldAt fs j ≡ s → markOf s ≡ 0)
+          → markOf s ≡ 0
       go true q ih =
           let z = eqb-true j i q in
           let g : fieldAt fs i ≡ s = ap (fieldAt fs) (sym z) ∙ f in
@@ -202,7 +204,9 @@ module _ (ks : List ℕ) (fs : List (List ℕ)) where
 
       go : ((a : Amends) × List·Memᴰ a theEight × (a .number ≡ f)) ⊎ (markOf f ≡ 0) → FieldCase ks fs (suc j) (answered (readAt ks fs (suc j)))
       go (inl (a, h, q)) =
-          let r : readAt ks fs (suc j) ≡ readKind (a .content) s = ap (λ n. readIn n (traceAt ks fs (suc j)) (marksAt ks fs (suc j)) s) k ∙ in-content (traceAt ks fs (suc j)) (marksAt ks fs (suc j)) s ∙ ap (λ n. readKind n s) (asks a h q) in
+          let p = traceAt ks fs (suc j) in
+          let m = marksAt ks fs (suc j) in
+          let r : readAt ks fs (suc j) ≡ readKind (a .content) s = ap (λ n. readIn n p m s) k ∙ in-content p m s ∙ ap (λ n. readKind n s) (asks a h q) in
           subst (λ y. FieldCase ks fs (suc j) (answered y)) (sym r)
           (ByForm (Content j refl k a h q) (form-own (a .content) s) (λ z n. let y = n .time in omega arith))
       go (inr z) = let y : _≡_ {A = ℕ} 10 0 = rw (eq-eqb (markOf f) 0 z) at number in absurd (omega arith)

@@ -12,7 +12,7 @@ use lib.ListN.{getD}
 use borrow.Author.Tests.{eqb-true, eqb-false}
 use Rattle.text.proofs.Logic.{true-false}
 use Rattle.rules.specs.Form.{isTime, isIdent, isTzIdent, isRoute, isPosition}
-use Rattle.rules.specs.Kind.{FIX, TIME, AMENDMENT, isForm}
+use Rattle.rules.specs.Kind.{FIX, TIME, isForm}
 use Rattle.fields.specs.Word.{wordOf}
 use Rattle.fields.specs.Ident.{identOf, tzIdentOf}
 use Rattle.fields.specs.Aircraft.{aircraftOf, aircraftAnswer}
@@ -22,7 +22,7 @@ use Rattle.fields.specs.declared.aircraft.AircraftRead.the-variants as read
 use Rattle.fields.proofs.Answers.{aircraft-answer}
 use Rattle.table.specs.Amends.{markOf, contentOf}
 use Rattle.table.specs.Fault.{hasForm, FormCase, Readings, Formed, Unformed}
-use Rattle.table.specs.Field.{IDENT, TZ-IDENT, AIRCRAFT, ROUTE, PLAN-TIME, CONTENT, traceOf, follows, plain, ofAircraft, readKind, readMark, barred, readIn}
+use Rattle.table.specs.Field.{IDENT, TZ-IDENT, AIRCRAFT, ROUTE, PLAN-TIME, AMENDMENT, CONTENT, traceOf, follows, plain, ofAircraft, readKind, readMark, barred, readIn}
 use Rattle.table.specs.declared.kinds.FieldRead.{FieldRead}
 use Rattle.table.specs.declared.kinds.FieldRead.the-variants.{Read, Nothing, Number, Two}
 

@@ -18,7 +18,7 @@ use Rattle.text.proofs.Laws.{text-is, text-length}
 use Rattle.shapes.specs.Picture.{isOf, run}
 use Rattle.shapes.specs.Cut.{upTo, has, joins}
 use Rattle.rules.specs.Form.{isKey, isTzIdent, isIdent, isRoute}
-use Rattle.rules.specs.Kind.{KEY, NUMBER, AMENDMENT, isForm}
+use Rattle.rules.specs.Kind.{KEY, NUMBER, isForm}
 use Rattle.rules.proofs.Held.{form-held}
 use Rattle.fields.specs.Word.{wordOf, isWord}
 use Rattle.fields.specs.Pair.{isPairForm, pairOf, pairText, isPair, pairWord}
@@ -38,7 +38,7 @@ use Rattle.fields.proofs.IdentLaws.{asTz, tz-as, ident-sound, ident-complete, t
 use Rattle.fields.proofs.AircraftLaws.{aircraft-writes, aircraft-word}
 use Rattle.fields.proofs.AircraftReadings.{aircraft-one}
 use Rattle.fields.proofs.Single.{aircraft-complete}
-use Rattle.table.specs.Field.{IDENT, TZ-IDENT, AIRCRAFT, ROUTE, markOf, markText, isMark, follows, plain, valued, identIn, aircraftIn, isOne, isTwo, ofIdent, ofAircraft, ofRoute, ofWord, readKind, readMark, barred, readIn, isKindValue, shownKind, isValue, shown}
+use Rattle.table.specs.Field.{AMENDMENT, IDENT, TZ-IDENT, AIRCRAFT, ROUTE, markOf, markText, isMark, follows, plain, valued, identIn, aircraftIn, isOne, isTwo, ofIdent, ofAircraft, ofRoute, ofWord, readKind, readMark, barred, readIn, isKindValue, shownKind, isValue, shown}
 use Rattle.table.specs.declared.kinds.Value.{Value}
 use Rattle.table.specs.declared.kinds.FieldRead.the-variants.{Read, Nothing, Number}
 use Rattle.table.proofs.Eight.{mark-is, mark-some, mark-text, text-mark, each-text}

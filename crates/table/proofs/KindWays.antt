@@ -1,7 +1,6 @@
 -- The ways of the functions that look at a text's bytes: a text without a first byte, and the mark of a text of two bytes and of
 -- any other. Assumes nothing.
 use mathlib.Core.Path.{_≡_, refl, sym, ap, _∙_}
-use mathlib.Core.Bool.{false}
 use mathlib.Core.List.{List, [], _∷_}
 use Prim.Native.Char.{code}
 use Prim.Native.Nat.{ℕ}

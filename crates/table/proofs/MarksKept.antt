@@ -13,8 +13,8 @@ use lib.ListN.{length}
 use borrow.Author.Tests.{eqb-true, eqb-false}
 use Rattle.text.proofs.Logic.{and-left, true-false, not-holds}
 use Rattle.rules.specs.Form.{isPosition}
-use Rattle.rules.specs.Kind.{FIX, AMENDMENT}
-use Rattle.table.specs.Field.{markOf, markText, isMark, isOne, readIn, traceOf, marksOf, follows, isValue, shown}
+use Rattle.rules.specs.Kind.{FIX}
+use Rattle.table.specs.Field.{AMENDMENT, markOf, markText, isMark, isOne, readIn, traceOf, marksOf, follows, isValue, shown}
 use Rattle.table.specs.declared.kinds.Value.{Value}
 use Rattle.table.specs.declared.kinds.FieldRead.the-variants as field
 use Rattle.table.proofs.FieldLaws.{in-sound}

@@ -5,13 +5,13 @@ use mathlib.Core.List.{List}
 use Prim.Native.Nat.{ℕ}
 use Rattle.text.specs.declared.Packed.{Packed}
 use Rattle.text.specs.declared.Packed.the-variants as word
-use Rattle.rules.specs.Kind.{TIME, AMENDMENT}
+use Rattle.rules.specs.Kind.{TIME}
 use Rattle.fields.specs.Word.{wordOf}
 use Rattle.fields.specs.declared.plan.Time.{Time}
 use Rattle.fields.specs.declared.plan.TimeRead.{TimeRead}
 use Rattle.fields.specs.declared.plan.TimeRead.the-variants as time
 use Rattle.fields.specs.Typed.{asTime}
-use Rattle.table.specs.Field.{PLAN-TIME, markOf, plain, follows, valued, ofWord, readKind, readMark, barred, readIn}
+use Rattle.table.specs.Field.{AMENDMENT, PLAN-TIME, markOf, plain, follows, valued, ofWord, readKind, readMark, barred, readIn}
 use Rattle.table.specs.declared.kinds.FieldRead.{FieldRead}
 use Rattle.table.specs.declared.kinds.FieldRead.the-variants.{Read, Nothing, Number}
 

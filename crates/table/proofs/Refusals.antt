@@ -1,4 +1,4 @@
--- THE THEOREMS of what is refused by any list of kinds: the spacing, and the first field that is not read. Assumes nothing.
+-- THE THEOREMS of what is refused by any list of kinds: the spacing, and the first field that is not right. Assumes nothing.
 use mathlib.Core.Path.{_≡_, refl, sym, ap, _∙_, subst}
 use mathlib.Core.Bool.{Bool, true, false}
 use mathlib.Core.List.{List, [], _∷_}
@@ -63,7 +63,7 @@ isFault field.Nothing = true
 isFault field.Number = true
 isFault field.Two = true
 
--- two faults are one only with one place, and only where they are one answer
+-- two faults are one only with one place
 fault-same : (n j : ℕ) (a b : FieldRead) → isFault a ≡ true → isFault b ≡ true → Refused (faultAt n b) ≡ Refused (faultAt j a) → (j ≡ n) × (b ≡ a)
 fault-same n j (field.Read v) b h g e = true-false h refl
 fault-same n j field.Nothing (field.Read v) h g e = true-false g refl
@@ -149,7 +149,8 @@ module _ (u : Bool) (ks : List ℕ) (fs : List (List ℕ)) (same : length fs ≡
         go false q ih = ih j (let n = eqb-false j i q in omega arith)
 
     -- what is refused from the field i on, the fields before it being read; n fields are left
-    first-from : (n i : ℕ) → n + i ≡ length ks → ((j : ℕ) → j < i → answered (readAt ks fs j) ≡ 0) → (j : ℕ) (a : FieldRead) → isFault a ≡ true → from i ≡ Refused (faultAt j a)
+    first-from : (n i : ℕ) → n + i ≡ length ks → ((j : ℕ) → j < i → answered (readAt ks fs j) ≡ 0)
+        → (j : ℕ) (a : FieldRead) → isFault a ≡ true → from i ≡ Refused (faultAt j a)
         → (x : ℕ) × (j ≡ suc x) × FirstFault ks fs x (answered a)
     first-from zero i l r j a h e = not-taken u (marksAt ks fs i) (faultAt j a) (sym (sym (done i (omega arith)) ∙ e))
     first-from (suc n) i l r j a h e = go (read-or-fault (readAt ks fs i)) (first-from n (suc i) (omega arith))
@@ -165,12 +166,14 @@ module _ (u : Bool) (ks : List ℕ) (fs : List (List ℕ)) (same : length fs ≡
             at false z = r x (let n = eqb-false x i z in omega arith)
 
         go : (answered (readAt ks fs i) ≡ 0) ⊎ (isFault (readAt ks fs i) ≡ true)
-            → (((j : ℕ) → j < suc i → answered (readAt ks fs j) ≡ 0) → (j : ℕ) (a : FieldRead) → isFault a ≡ true → from (suc i) ≡ Refused (faultAt j a) → (x : ℕ) × (j ≡ suc x) × FirstFault ks fs x (answered a))
+            → (((j : ℕ) → j < suc i → answered (readAt ks fs j) ≡ 0) → (j : ℕ) (a : FieldRead) → isFault a ≡ true → from (suc i) ≡ Refused (faultAt j a)
+            → (x : ℕ) × (j ≡ suc x) × FirstFault ks fs x (answered a))
             → (x : ℕ) × (j ≡ suc x) × FirstFault ks fs x (answered a)
         go (inl q) ih = ih (more q) j a h (sym (or-read (suc i) (readAt ks fs i) (from (suc i)) q) ∙ t)
         go (inr q) ih =
             let x = fault-same (suc i) j a (readAt ks fs i) h q (sym (or-fault (suc i) (readAt ks fs i) (from (suc i)) q) ∙ t) in
-            (i, x .0, record { inside = omega arith; before = rights i (omega arith) r; here = subst (λ b. FieldCase ks fs i (answered b)) (x .1) (field-own ks fs ties i (omega arith) r) })
+            let c = subst (λ b. FieldCase ks fs i (answered b)) (x .1) (field-own ks fs ties i (omega arith) r) in
+            (i, x .0, record { inside = omega arith; before = rights i (omega arith) r; here = c })
 
     fault-first : (j : ℕ) (a : FieldRead) → isFault a ≡ true → answerFrom 1 u ks 0 0 fs ≡ Refused (faultAt j a) → (x : ℕ) × (j ≡ suc x) × FirstFault ks fs x (answered a)
     fault-first = first-from (length ks) 0 (omega arith) (λ j l. absurd (omega arith))
@@ -196,13 +199,15 @@ pub record Bad (ks body : List ℕ) (i n : ℕ) : Type 0 where
   pub count : length fields ≡ length ks
   pub first : FirstFault ks fields i n
 
-pub bad-only : (ks body : List ℕ) (i : ℕ) (a : FieldRead) → length ks ≤ 19 → tied 0 ks ≡ true → isFault a ≡ true → Bad ks body i (answered a) → answerOf ks body ≡ Refused (faultAt (suc i) a)
+pub bad-only : (ks body : List ℕ) (i : ℕ) (a : FieldRead) → length ks ≤ 19 → tied 0 ks ≡ true → isFault a ≡ true → Bad ks body i (answered a)
+    → answerOf ks body ≡ Refused (faultAt (suc i) a)
 unfolding answerOf answers
 bad-only ks body i a few ties h b =
     rw (b .split, counted-is ks (b .fields) (b .count) few) (first-fault (b .trailing) ks (b .fields) (b .count) ties i a h (b .first))
 
 -- a place is one more than an index
-pub bad-at : (ks body : List ℕ) (j : ℕ) (a : FieldRead) → tied 0 ks ≡ true → isFault a ≡ true → answerOf ks body ≡ Refused (faultAt j a) → (i : ℕ) × (j ≡ suc i) × Bad ks body i (answered a)
+pub bad-at : (ks body : List ℕ) (j : ℕ) (a : FieldRead) → tied 0 ks ≡ true → isFault a ≡ true → answerOf ks body ≡ Refused (faultAt j a)
+    → (i : ℕ) × (j ≡ suc i) × Bad ks body i (answered a)
 bad-at ks body j a ties h e =
     let s = parted ks body (Refused (faultAt j a)) e (fault-spacing j a h) in
     let (i, z, f) = fault-first (s .trailing) ks (s .fields) (s .count) ties j a h (s .answer) in (

@@ -47,8 +47,9 @@ route-stands (k ∷ ks) p (f ∷ fs) t pre = go (eqb (plain k p) ROUTE) refl (ro
         → StandsAt (routeFrom (length pre) (k ∷ ks) p (f ∷ fs)) (routeIn (k ∷ ks) p (f ∷ fs)) (pre ++ bodyOf (f ∷ fs) t)
     go true q ih = rw q (after-space pre f (bodyOf fs t))
     go false q ih =
-        let l : length ((pre ++ space ∷ []) ++ f) ≡ length pre + 1 + length f = length-append (pre ++ space ∷ []) f ∙ ap (λ n. n + length f) (length-append pre (space ∷ [])) in
-        let s : ((pre ++ space ∷ []) ++ f) ++ bodyOf fs t ≡ pre ++ bodyOf (f ∷ fs) t = append-assoc (pre ++ space ∷ []) f (bodyOf fs t) ∙ append-assoc pre (space ∷ []) (f ++ bodyOf fs t) in
+        let x = pre ++ space ∷ [] in
+        let l : length (x ++ f) ≡ length pre + 1 + length f = length-append x f ∙ ap (λ n. n + length f) (length-append pre (space ∷ [])) in
+        let s : (x ++ f) ++ bodyOf fs t ≡ pre ++ bodyOf (f ∷ fs) t = append-assoc x f (bodyOf fs t) ∙ append-assoc pre (space ∷ []) (f ++ bodyOf fs t) in
         rw q (rw (l, s) at ih)
 
 pub route-part : (ks body : List ℕ) → StandsAt (routeAt ks body) (routeOf ks body) body

@@ -12,10 +12,9 @@ use borrow.Author.Tests.{eq-eqb, eqb-true}
 use Rattle.text.specs.Bytes.{bytes}
 use Rattle.text.proofs.Logic.{and-left, and-right, true-false, not-fails, not-holds, either-of}
 use Rattle.rules.specs.Form.{isRoute}
-use Rattle.rules.specs.Kind.{AMENDMENT}
 use Rattle.table.specs.Spacing.{bodyOf}
 use Rattle.table.proofs.Eight.{each-mark, no-mark}
-use Rattle.table.specs.Field.{ROUTE, PLAN-TIME, CONTENT, isMark, contentOf, plain, traceOf, marksOf, shown, shownKind}
+use Rattle.table.specs.Field.{AMENDMENT, ROUTE, PLAN-TIME, CONTENT, isMark, contentOf, plain, traceOf, marksOf, shown, shownKind}
 use Rattle.table.specs.declared.kinds.Value.{Value}
 use Rattle.table.specs.Read.{answerFrom, answerOf, valuesOf, routeIn, routeOf}
 use Rattle.table.specs.Show.{textsFrom, allowedFrom, marksFrom, routed}

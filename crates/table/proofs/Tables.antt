@@ -9,10 +9,9 @@ use lib.Count.{ones}
 use lib.Dec.{eqb, leb, lit≤}
 use borrow.Author.Tests.{eqb-true, leb-true}
 use Rattle.text.proofs.Logic.{and-left, and-right}
-use Rattle.rules.specs.Kind.{AMENDMENT}
 use Rattle.fields.specs.declared.heads.MessageType.{MessageType}
 use Rattle.fields.specs.declared.heads.MessageType.the-variants.{Af, Az, Dz, Fz, Rz, Tz, Uz, Rt, To, Hb}
-use Rattle.table.specs.Field.{traceOf, marksOf, shown}
+use Rattle.table.specs.Field.{AMENDMENT, traceOf, marksOf, shown}
 use Rattle.table.specs.declared.kinds.Value.{Value}
 use Rattle.table.specs.Show.{allowedFrom, marksFrom, routed}
 use Rattle.table.proofs.MarksKept.{times}

@@ -9,9 +9,9 @@ use mathlib.Core.List.{List, [], List·Memᴰ}
 use lib.Dec.{eqb}
 use lib.ListN.{length, getD}
 use Rattle.rules.specs.Form.{isIdent, isTzIdent, isPosition, isRoute}
-use Rattle.rules.specs.Kind.{FIX, TIME, AMENDMENT, isForm}
+use Rattle.rules.specs.Kind.{FIX, TIME, isForm}
 use Rattle.fields.specs.Aircraft as aircraft
-use Rattle.table.specs.FieldKind.{IDENT, TZ-IDENT, AIRCRAFT, ROUTE, PLAN-TIME, CONTENT}
+use Rattle.table.specs.FieldKind.{IDENT, TZ-IDENT, AIRCRAFT, ROUTE, PLAN-TIME, AMENDMENT, CONTENT}
 use Rattle.table.specs.Amends.{Amends, theEight}
 
 -- the kind of the field i, and its bytes; the ident is the field 0

@@ -1,5 +1,5 @@
--- One field of document 01's table ("Fields"), of any kind: its reading, its text, and the values that some text gives; what
--- an amendment's number asks for, and what may follow what. Assumes nothing.
+-- One field of document 01's table ("Fields"), of any kind: its reading, its text, and the values that some text gives; and what may follow
+-- what. The letters of the kinds (FieldKind) and an amendment's numbers (Amends) are handed on. Assumes nothing.
 use Prim.Native.Nat.{ℕ}
 use Prim.Native.Char.{code}
 use mathlib.Core.Bool.{Bool, true, cond, not, _&&_, _||_}
@@ -11,7 +11,7 @@ use Rattle.text.specs.Text.{textOf}
 use Rattle.text.specs.declared.Packed.{Packed}
 use Rattle.text.specs.declared.Packed.the-variants as word
 use Rattle.rules.specs.Form.{isPosition, isRoute}
-use Rattle.rules.specs.Kind.{FIX, TIME, AMENDMENT}
+use Rattle.rules.specs.Kind.{FIX, TIME}
 use Rattle.fields.specs.Word.{wordOf, isWord}
 use Rattle.fields.specs.Ident.{identOf, tzIdentOf, identText, isIdentValue}
 use Rattle.fields.specs.Aircraft.{aircraftOf, aircraftText, isAircraftValue}
@@ -21,7 +21,7 @@ use Rattle.fields.specs.declared.idents.IdentRead.the-variants as ident
 use Rattle.fields.specs.declared.aircraft.Aircraft.{Aircraft}
 use Rattle.fields.specs.declared.aircraft.AircraftRead.{AircraftRead}
 use Rattle.fields.specs.declared.aircraft.AircraftRead.the-variants as aircraft
-unfoldable pub use Rattle.table.specs.FieldKind.{IDENT, TZ-IDENT, AIRCRAFT, ROUTE, PLAN-TIME, CONTENT}
+unfoldable pub use Rattle.table.specs.FieldKind.{IDENT, TZ-IDENT, AIRCRAFT, ROUTE, PLAN-TIME, AMENDMENT, CONTENT}
 unfoldable pub use Rattle.table.specs.Amends.{markOf, markText, isMark, contentOf}
 use Rattle.table.specs.declared.kinds.Value.{Value}
 use Rattle.table.specs.declared.kinds.FieldRead.{FieldRead}

@@ -18,6 +18,9 @@ ROUTE = code "R"
 abbrev pub PLAN-TIME : ℕ
 PLAN-TIME = code "H"
 
--- what the amendment's number before it asks for
+-- an amendment's number, and its content, which is what the number before it asks for
+abbrev pub AMENDMENT : ℕ
+AMENDMENT = code "B"
+
 abbrev pub CONTENT : ℕ
 CONTENT = code "W"

@@ -8,14 +8,15 @@ use lib.Bits.{bitAnd}
 use lib.Count.{ones}
 use lib.Dec.{eqb, leb}
 use lib.ListN.{length, take, replicate}
-use Rattle.rules.specs.Kind.{FILED-SPEED, GROUND-SPEED, POINT, FIX, TIME, CLOCK, ARRIVAL, LEVEL, TRACK-LEVEL, POSITION, AMENDMENT}
+use Rattle.rules.specs.Kind.{FILED-SPEED, GROUND-SPEED, POINT, FIX, TIME, CLOCK, ARRIVAL, LEVEL, TRACK-LEVEL, POSITION}
 use Rattle.fields.specs.declared.heads.MessageType.{MessageType}
 use Rattle.fields.specs.declared.heads.MessageType.the-variants.{Af, Az, Dz, Fz, Rz, Tz, Uz, Rt, To, Hb}
 use Rattle.table.specs.declared.kinds.Value.{Value}
 use Rattle.table.specs.declared.walk.Answer.{Answer}
 use Rattle.table.specs.declared.walk.Answer.the-variants.{Refused}
 use Rattle.table.specs.declared.walk.Fault.the-variants.{Spacing}
-use Rattle.table.specs.Field.{IDENT, TZ-IDENT, AIRCRAFT, ROUTE, PLAN-TIME, CONTENT}
+use Rattle.table.specs.Amends.{markFor}
+use Rattle.table.specs.Field.{AMENDMENT, IDENT, TZ-IDENT, AIRCRAFT, ROUTE, PLAN-TIME, CONTENT}
 use Rattle.table.specs.Spacing.{fieldsOf, fieldsIn}
 use Rattle.table.specs.Read.{answerOf, valuesOf, routeOf, routeAt}
 
@@ -59,9 +60,9 @@ isCount t n = cond (hasAmendments t) (leb 5 n && leb n 19 && eqb (n % 2) 1) (eqb
 abbrev pub hasFields : MessageType → Bool
 hasFields t = not (eqb (length (tableOf t)) 0)
 
--- a route is among the fields, or the content of an amendment; m is the set of marks, in which 128 stands for the number 10
+-- a route is among the fields, or the content of an amendment, whose number is 10; m is the set of marks
 abbrev pub hasRouteWith : MessageType → ℕ → Bool
-hasRouteWith t m = isAmong ROUTE (tableOf t) || (hasAmendments t && not (eqb (bitAnd m 128) 0))
+hasRouteWith t m = isAmong ROUTE (tableOf t) || (hasAmendments t && not (eqb (bitAnd m (markFor "10")) 0))
 
 -- ---- a body by the table
 

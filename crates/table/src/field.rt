@@ -1,6 +1,7 @@
 // One field, of a kind by itself and after the fields before it: read, and written back. Where a writer refuses it writes nothing.
 use crate::kinds;
 use crate::kinds::AIRCRAFT;
+use crate::kinds::AMENDMENT;
 use crate::kinds::CONTENT;
 use crate::kinds::FieldRead;
 use crate::kinds::IDENT;
@@ -25,8 +26,7 @@ ghost use Rattle.rules.specs.Form.{isRoute};
 ghost use Rattle.fields.specs.Word.{wordOf, isWord};
 ghost use Rattle.fields.specs.Ident.{identOf, tzIdentOf, isIdentValue, identText};
 ghost use Rattle.fields.specs.Aircraft.{aircraftOf, isAircraftValue, aircraftText};
-ghost use Rattle.table.specs.Field.{PLAN-TIME, ofIdent, ofAircraft, ofRoute, ofWord, readKind, readIn, identIn, aircraftIn, isOne, isTwo, isMark, markText, isKindValue, shownKind, isValue, shown};
-ghost use Rattle.rules.specs.Kind.{AMENDMENT};
+ghost use Rattle.table.specs.Field.{AMENDMENT, PLAN-TIME, ofIdent, ofAircraft, ofRoute, ofWord, readKind, readIn, identIn, aircraftIn, isOne, isTwo, isMark, markText, isKindValue, shownKind, isValue, shown};
 ghost use mathlib.Core.Bool.{cond, _&&_};
 ghost use mathlib.Core.List.{[], _∷_};
 ghost use lib.Dec.{eqb};
@@ -149,7 +149,7 @@ pub(crate) fn read_field(kind: u8, trace: u8, marks: u8, s: &[u8]) -> FieldRead
     ensures { λ r. ⌜ r ≡ readIn kind trace marks (now (s .entry)) ⌝ }
 {
     match kind {
-        rules::AMENDMENT => read_number(marks, s),
+        AMENDMENT => read_number(marks, s),
         PLAN_TIME => read_plan_time(trace, s),
         CONTENT => read_kind(kinds::content(trace), s),
         _ => read_kind(kind, s),
@@ -239,14 +239,14 @@ fn number(mark: u64) -> [u8; 2]
     ensures { λ r. ⌜ r ≡ cond (isMark mark) (markText mark) (0 ∷ 0 ∷ []) ⌝ }
 {
     match mark {
-        1 => [b'0', b'2'],
-        2 => [b'0', b'3'],
-        4 => [b'0', b'5'],
-        8 => [b'0', b'6'],
-        16 => [b'0', b'7'],
-        32 => [b'0', b'8'],
-        64 => [b'0', b'9'],
-        128 => [b'1', b'0'],
+        kinds::KEPT_02 => [b'0', b'2'],
+        kinds::KEPT_03 => [b'0', b'3'],
+        kinds::KEPT_05 => [b'0', b'5'],
+        kinds::KEPT_06 => [b'0', b'6'],
+        kinds::KEPT_07 => [b'0', b'7'],
+        kinds::KEPT_08 => [b'0', b'8'],
+        kinds::KEPT_09 => [b'0', b'9'],
+        kinds::KEPT_10 => [b'1', b'0'],
         _ => [0, 0],
     }
 }
@@ -267,7 +267,7 @@ pub fn put_field(kind: u8, trace: u8, v: Value, route: &[u8], out: &mut [u8], at
     ensures { λ r. ⌜ r ≡ writtenNext (isValue kind trace (now (route .entry)) v) (shown kind trace (now (route .entry)) v) (now (out .entry)) at ⌝ }
     ensures { λ _. ⌜ now (out .exit) ≡ writtenBytes (isValue kind trace (now (route .entry)) v) (shown kind trace (now (route .entry)) v) (now (out .entry)) at ⌝ }
 {
-    if kind != rules::AMENDMENT {
+    if kind != AMENDMENT {
         return put_kind(kinds::plain(kind, trace), v, route, out, at);
     }
     if v.b != 0 {

@@ -15,8 +15,44 @@ pub const ROUTE: u8 = b'R';
 // The time of FZ and UZ, which the E rule ties to the fix before it.
 pub const PLAN_TIME: u8 = b'H';
 
-// What the amendment's number before it asks for.
+// An amendment's number, and its content, which is what the number before it asks for.
+pub const AMENDMENT: u8 = b'B';
+
 pub const CONTENT: u8 = b'W';
+
+// The marks of the eight numbers of an amendment, a bit each.
+pub const MARK_02: u8 = 1;
+
+pub const MARK_03: u8 = 2;
+
+pub const MARK_05: u8 = 4;
+
+pub const MARK_06: u8 = 8;
+
+pub const MARK_07: u8 = 16;
+
+pub const MARK_08: u8 = 32;
+
+pub const MARK_09: u8 = 64;
+
+pub const MARK_10: u8 = 128;
+
+// The same marks as a value keeps them.
+pub const KEPT_02: u64 = MARK_02 as u64;
+
+pub const KEPT_03: u64 = MARK_03 as u64;
+
+pub const KEPT_05: u64 = MARK_05 as u64;
+
+pub const KEPT_06: u64 = MARK_06 as u64;
+
+pub const KEPT_07: u64 = MARK_07 as u64;
+
+pub const KEPT_08: u64 = MARK_08 as u64;
+
+pub const KEPT_09: u64 = MARK_09 as u64;
+
+pub const KEPT_10: u64 = MARK_10 as u64;
 
 // What is kept of a field: its word; an ident's key and number; an aircraft's prefix, type and letter; of a route nothing.
 // Parts that a field has not are 0.
@@ -44,7 +80,7 @@ pub(crate) fn mark(s: &[u8]) -> u8
     }
     if s[0] == b'1' {
         if s[1] == b'0' {
-            return 128;
+            return MARK_10;
         }
         return 0;
     }
@@ -53,13 +89,13 @@ pub(crate) fn mark(s: &[u8]) -> u8
     }
     let last = s[1];
     match last {
-        b'2' => 1,
-        b'3' => 2,
-        b'5' => 4,
-        b'6' => 8,
-        b'7' => 16,
-        b'8' => 32,
-        b'9' => 64,
+        b'2' => MARK_02,
+        b'3' => MARK_03,
+        b'5' => MARK_05,
+        b'6' => MARK_06,
+        b'7' => MARK_07,
+        b'8' => MARK_08,
+        b'9' => MARK_09,
         _ => 0,
     }
 }
@@ -69,14 +105,14 @@ pub(crate) fn content(mark: u8) -> u8
     ensures { λ r. ⌜ r ≡ contentOf mark ⌝ }
 {
     match mark {
-        1 => IDENT,
-        2 => AIRCRAFT,
-        4 => rules::FILED_SPEED,
-        8 => rules::FIX,
-        16 => rules::TIME,
-        32 => rules::LEVEL,
-        64 => rules::LEVEL,
-        128 => ROUTE,
+        MARK_02 => IDENT,
+        MARK_03 => AIRCRAFT,
+        MARK_05 => rules::FILED_SPEED,
+        MARK_06 => rules::FIX,
+        MARK_07 => rules::TIME,
+        MARK_08 => rules::LEVEL,
+        MARK_09 => rules::LEVEL,
+        MARK_10 => ROUTE,
         _ => 0,
     }
 }
@@ -96,7 +132,7 @@ pub fn plain(kind: u8, trace: u8) -> u8
 pub fn trace(kind: u8, s: &[u8]) -> u8
     ensures { λ r. ⌜ r ≡ traceOf kind (now (s .entry)) ⌝ }
 {
-    if kind == rules::AMENDMENT {
+    if kind == AMENDMENT {
         return mark(s);
     }
     if kind == rules::FIX {
@@ -111,7 +147,7 @@ pub fn trace(kind: u8, s: &[u8]) -> u8
 pub fn marks_after(kind: u8, marks: u8, s: &[u8]) -> u8
     ensures { λ r. ⌜ r ≡ marksOf kind marks (now (s .entry)) ⌝ }
 {
-    if kind == rules::AMENDMENT {
+    if kind == AMENDMENT {
         return marks | mark(s);
     }
     marks
@@ -121,7 +157,7 @@ pub fn marks_after(kind: u8, marks: u8, s: &[u8]) -> u8
 pub fn follows(kind: u8, trace: u8, marks: u8, s: &[u8]) -> bool
     ensures { λ r. ⌜ r ≡ following kind trace marks (now (s .entry)) ⌝ }
 {
-    if kind == rules::AMENDMENT {
+    if kind == AMENDMENT {
         return marks & mark(s) == 0;
     }
     if kind != PLAN_TIME {

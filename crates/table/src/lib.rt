@@ -5,6 +5,7 @@ pub mod kinds;
 pub mod spacing;
 pub mod walk;
 
+use crate::kinds::MARK_10;
 use crate::spacing::Counted;
 use crate::walk::TableRead;
 use fields::heads::MessageType;
@@ -117,7 +118,7 @@ pub fn has_route(t: MessageType, marks: u8) -> bool
     ensures { λ r. ⌜ r ≡ hasRouteWith t marks ⌝ }
 {
     match t {
-        MessageType::Af => marks & 128 != 0,
+        MessageType::Af => marks & MARK_10 != 0,
         MessageType::Fz => true,
         MessageType::Uz => true,
         _ => false,

@@ -28,12 +28,15 @@ module _ (m : Message) (r : List ℕ) where
   one-line s s′ e f e′ f′ = line-of s e f .1 ∙ sym (line-of s′ e′ f′ .1)
 
   module _ (out : List ℕ) (at : ℕ) where
-    write-own : WriteCase m r out at (writeAnswer (writtenNext (isAllowed m r) (lineOf m r) out at)) (placeAfter (writtenNext (isAllowed m r) (lineOf m r) out at)) (writtenBytes (isAllowed m r) (lineOf m r) out at)
+    abbrev Own : Written → List ℕ → Type 0
+    Own w o = WriteCase m r out at (writeAnswer w) (placeAfter w) o
+
+    write-own : Own (writtenNext (isAllowed m r) (lineOf m r) out at) (writtenBytes (isAllowed m r) (lineOf m r) out at)
     unfolding writtenNext writtenBytes
     write-own = go (isAllowed m r) refl (hasRoom (lineOf m r) out at) refl
       where
         go : (a : Bool) → isAllowed m r ≡ a → (h : Bool) → hasRoom (lineOf m r) out at ≡ h
-            → WriteCase m r out at (writeAnswer (writtenNext (isAllowed m r) (lineOf m r) out at)) (placeAfter (writtenNext (isAllowed m r) (lineOf m r) out at)) (writtenBytes (isAllowed m r) (lineOf m r) out at)
+            → Own (writtenNext (isAllowed m r) (lineOf m r) out at) (writtenBytes (isAllowed m r) (lineOf m r) out at)
         go false q h p = rw q (NoLine (λ s e f. true-false (line-of s e f .0) q))
         go true q false p = let a = allowed-reads m r q in rw (q, p) (NoRoomLeft (lineOf m r) (a .0) (a .1) p)
         go true q true p = let a = allowed-reads m r q in rw (q, p) (Wrote (lineOf m r) (a .0) (a .1) p)
@@ -41,12 +44,13 @@ module _ (m : Message) (r : List ℕ) where
     -- a call that gives this is in its case
     pub in-write-case : {w : Written} {o : List ℕ}
         → (w ≡ writtenNext (isAllowed m r) (lineOf m r) out at) × (o ≡ writtenBytes (isAllowed m r) (lineOf m r) out at)
-        → (w ≡ writtenNext (isAllowed m r) (lineOf m r) out at) × ((o ≡ writtenBytes (isAllowed m r) (lineOf m r) out at) × WriteCase m r out at (writeAnswer w) (placeAfter w) o)
+        → (w ≡ writtenNext (isAllowed m r) (lineOf m r) out at) × ((o ≡ writtenBytes (isAllowed m r) (lineOf m r) out at) × Own w o)
     in-write-case e = (e .0, (e .1, rw (e .0, e .1) write-own))
 
 -- ---- no call is in two cases
 
-pub write-one-case : {m : Message} {r out : List ℕ} {at n n′ i i′ : ℕ} {o o′ : List ℕ} → WriteCase m r out at n i o → WriteCase m r out at n′ i′ o′ → (n ≡ n′) × (i ≡ i′) × (o ≡ o′)
+pub write-one-case : {m : Message} {r out : List ℕ} {at n n′ i i′ : ℕ} {o o′ : List ℕ}
+    → WriteCase m r out at n i o → WriteCase m r out at n′ i′ o′ → (n ≡ n′) × (i ≡ i′) × (o ≡ o′)
 write-one-case (NoLine none) (NoLine none′) = (refl, refl, refl)
 write-one-case (NoLine none) (NoRoomLeft s′ e′ f′ h′) = absurd (none s′ e′ f′)
 write-one-case (NoLine none) (Wrote s′ e′ f′ h′) = absurd (none s′ e′ f′)

@@ -14,9 +14,8 @@ use borrow.Author.Tests.{eqb-true}
 use Rattle.text.proofs.Logic.{not-holds}
 use Rattle.rules.specs.Form.{isRoute}
 use Rattle.rules.specs.Frame.{longestLine}
-use Rattle.rules.specs.Kind.{AMENDMENT}
 use Rattle.table.specs.Spacing.{bodyOf}
-use Rattle.table.specs.Field.{ROUTE, plain, traceOf, marksOf, follows, isOne, isKindValue, shownKind, isValue, shown}
+use Rattle.table.specs.Field.{AMENDMENT, ROUTE, plain, traceOf, marksOf, follows, isOne, isKindValue, shownKind, isValue, shown}
 use Rattle.table.specs.declared.kinds.Value.{Value}
 use Rattle.table.proofs.FieldLaws.{shown-short}
 use Rattle.table.specs.Read.{none}

@@ -16,7 +16,7 @@ is-drawn-spec =
     (tie.spec
     (λ c κs. search needs) (λ c κs. search needs) (λ c. search needs) (λ c κs. search needs) (λ c κs. search needs)
     (λ c κs. search needs) (λ c. search needs) (λ c κs. search needs) (λ c κs. search needs) (λ c κs. search needs)
-    (λ c. search needs) (λ c κs. search needs) (λ c κs. search needs) (λ c. search needs) (λ c κs. search needs)
+    (λ c. search needs) (λ c κs. search needs) (λ c κs. search needs)
     (λ c. c .run .ensures ∙ rw (c .before .match .keys1) (sym (fits-same (code "h") 4 _)))
     (λ c. c .is-number .ensures ∙ rw (c .before .match .keys2))
     (λ c. c .one-of .ensures ∙ rw (c .before .before .match .keys3))
@@ -29,6 +29,5 @@ is-drawn-spec =
     (λ c. let c₂ = c .before .before in
     c .one-of3 .ensures ∙ rw (c₂ .before .before .match .keys7, level-runs, sym (c₂ .before .run5 .ensures) ∙ c₂ .if2 .left))
     (λ c. c .is-track-level .ensures ∙ rw (c .before .match .keys8))
-    (λ c. c .one-of4 .ensures ∙ rw (c .before .before .match .keys9))
     (λ c. let n = c .match .rest in
-    rw (ne-eqb _ _ (n .0 .0 .0 .0 .0 .0 .0 .0 .1), ne-eqb _ _ (n .0 .0 .0 .0 .0 .0 .0 .1), ne-eqb _ _ (n .0 .0 .0 .0 .0 .0 .1), ne-eqb _ _ (n .0 .0 .0 .0 .0 .1), ne-eqb _ _ (n .0 .0 .0 .0 .1), ne-eqb _ _ (n .0 .0 .0 .1), ne-eqb _ _ (n .0 .0 .1), ne-eqb _ _ (n .0 .1), ne-eqb _ _ (n .1))))
+    rw (ne-eqb _ _ (n .0 .0 .0 .0 .0 .0 .0 .1), ne-eqb _ _ (n .0 .0 .0 .0 .0 .0 .1), ne-eqb _ _ (n .0 .0 .0 .0 .0 .1), ne-eqb _ _ (n .0 .0 .0 .0 .1), ne-eqb _ _ (n .0 .0 .0 .1), ne-eqb _ _ (n .0 .0 .1), ne-eqb _ _ (n .0 .1), ne-eqb _ _ (n .1))))
