@@ -213,10 +213,10 @@ module _ (s : List ℕ) where
   case-only n p (NoFacility f a b c) = refused refusal.NoFacility (no-facility-reads f a b c)
   case-only n p (NoType f a b c d) = refused refusal.NoType (no-type-reads f a b c (no-type d))
   case-only n p (Spacing t k l h d) = refused (refusal.Body fault.Spacing) (table-reads t k l h (fields-none t (bodyPart s) d))
-  case-only n p (Field t i k l f) = refused (refusal.Body (fault.Field (suc i))) (table-reads t k l (faulty-fields t (bodyPart s) i field.Nothing f) (faulty-fault t (bodyPart s) i field.Nothing refl f))
-  case-only n p (Number t i k l f) = refused (refusal.Body (fault.Number (suc i))) (table-reads t k l (faulty-fields t (bodyPart s) i field.Number f) (faulty-fault t (bodyPart s) i field.Number refl f))
+  case-only n p (Field t i k l f) = refused (refusal.Body (fault.Field (suc i))) (table-reads t k l (faulty-fields t (bodyPart s) i 9 f) (faulty-fault t (bodyPart s) i field.Nothing refl f))
+  case-only n p (Number t i k l f) = refused (refusal.Body (fault.Number (suc i))) (table-reads t k l (faulty-fields t (bodyPart s) i 10 f) (faulty-fault t (bodyPart s) i field.Number refl f))
   case-only n p (LongPlan k h) = refused refusal.LongPlan (long-reads Fz k (lt-ltb 439 (length s - 16) h))
-  case-only n p (Two t i k l f) = refused (refusal.Body (fault.Two (suc i))) (table-reads t k l (faulty-fields t (bodyPart s) i field.Two f) (faulty-fault t (bodyPart s) i field.Two refl f))
+  case-only n p (Two t i k l f) = refused (refusal.Body (fault.Two (suc i))) (table-reads t k l (faulty-fields t (bodyPart s) i 18 f) (faulty-fault t (bodyPart s) i field.Two refl f))
 
   -- so no line is in two cases with different numbers or places
   pub one-case : (n p m q : ℕ) → Case s n p → Case s m q → (n ≡ m) × (p ≡ q)

@@ -1,9 +1,9 @@
 -- The cases of a body with fields: its spacing and count are wrong exactly if no right fields have its text, and a
--- fault at a place is that of the first field that is not read. Assumes nothing.
-use mathlib.Core.Path.{_≡_, refl, sym, ap, _∙_}
+-- fault at a place is that of the first field that is not right. Assumes nothing.
+use mathlib.Core.Path.{_≡_, refl, sym, _∙_}
 use mathlib.Core.Bool.{Bool, true, false}
 use mathlib.Core.List.{List}
-use Prim.Native.Nat.{ℕ, suc, _+_, _<_}
+use Prim.Native.Nat.{ℕ, suc}
 use native.Mathlib.Omega.{arith}
 use lib.Dec.{eqb}
 use lib.ListN.{length, length-take}
@@ -16,6 +16,8 @@ use Rattle.table.specs.declared.kinds.FieldRead.{FieldRead}
 use Rattle.table.specs.Read.{faultAt, answerOf}
 use Rattle.table.specs.declared.walk.Answer.the-variants.{Refused}
 use Rattle.table.specs.declared.walk.Fault.the-variants.{Spacing}
+use Rattle.table.specs.Read.{fieldNumber}
+use Rattle.table.proofs.FieldCases.{table-tied}
 use Rattle.table.proofs.Refusals.{spacing, spacing-only, isFault, Bad, bad-at, bad-only, fault-spacing}
 use Rattle.table.specs.Table.{tableOf, isCount, hasFields, kindsOf, countIn, answerBy}
 use Rattle.table.proofs.TableWays.{kinds-length}
@@ -25,12 +27,12 @@ use Rattle.line.specs.Cases.{Faulty}
 -- ---- a body with a fault has fields
 
 -- a type that is kept whole has no field that could be wrong
-none-inside : (t : MessageType) (n i : ℕ) → hasFields t ≡ false → i < length (kindsOf t n) → ⊥
+pub faulty-fields : (t : MessageType) (b : List ℕ) (i n : ℕ) → Faulty t b i n → hasFields t ≡ true
 unfolding kindsOf
-none-inside t n i e h = omega (arith, length-take n (tableOf t), eqb-true (length (tableOf t)) 0 (not-false (eqb (length (tableOf t)) 0) e))
-
-pub faulty-fields : (t : MessageType) (b : List ℕ) (i : ℕ) (a : FieldRead) → Faulty t b i a → hasFields t ≡ true
-faulty-fields t b i a f = not-fails (hasFields t) (λ e. none-inside t (length (f .fields)) i e (f .first .inside))
+faulty-fields t b i n f =
+    let k = kinds-length t (length (f .fields)) (f .count) in
+    let l = length-take (length (f .fields)) (tableOf t) in
+    not-fails (hasFields t) (λ e. omega (arith, f .first .inside, k, l, eqb-true (length (tableOf t)) 0 (not-false (eqb (length (tableOf t)) 0) e)))
 
 -- ---- the fields of a body are counted
 
@@ -62,17 +64,17 @@ module _ (t : MessageType) (b : List ℕ) where
       go true q = rw q (spacing-only (kindsOf t (countIn b)) b (λ fs u every n text. h fs u every (rw (count-is fs u every text) at q) text))
       go false q = rw q
 
-  -- ---- the first field that is not read, with any fault
+  -- ---- the first field that is not right, with any fault
 
-  pub fault-faulty : (j : ℕ) (a : FieldRead) → isFault a ≡ true → answerBy t b ≡ Refused (faultAt j a) → (i : ℕ) × (j ≡ suc i) × Faulty t b i a
+  pub fault-faulty : (j : ℕ) (a : FieldRead) → isFault a ≡ true → answerBy t b ≡ Refused (faultAt j a) → (i : ℕ) × (j ≡ suc i) × Faulty t b i (fieldNumber a)
   unfolding answerBy
   fault-faulty j a h e = go (isCount t (countIn b)) refl
     where
-      from : isCount t (countIn b) ≡ true → (i : ℕ) × (j ≡ i + 1) × Bad (kindsOf t (countIn b)) b i a → (i : ℕ) × (j ≡ suc i) × Faulty t b i a
+      from : isCount t (countIn b) ≡ true → (i : ℕ) × (j ≡ suc i) × Bad (kindsOf t (countIn b)) b i (fieldNumber a) → (i : ℕ) × (j ≡ suc i) × Faulty t b i (fieldNumber a)
       from q (i, z, f) =
           let n : countIn b ≡ length (f .fields) = sym (f .count ∙ kinds-length t (countIn b) q) in (
             i,
-            omega (arith, z),
+            z,
             record {
               fields = f .fields;
               trailing = f .trailing;
@@ -83,16 +85,15 @@ module _ (t : MessageType) (b : List ℕ) where
             },
           )
 
-      go : (c : Bool) → isCount t (countIn b) ≡ c → (i : ℕ) × (j ≡ suc i) × Faulty t b i a
-      go true q = from q (bad-at (kindsOf t (countIn b)) b j a h (rw q at e))
+      go : (c : Bool) → isCount t (countIn b) ≡ c → (i : ℕ) × (j ≡ suc i) × Faulty t b i (fieldNumber a)
+      go true q = from q (bad-at (kindsOf t (countIn b)) b j a (table-tied t (countIn b)) h (rw q at e))
       go false q = absurd (fault-spacing j a h (rw q at e))
 
-  pub faulty-fault : (i : ℕ) (a : FieldRead) → isFault a ≡ true → Faulty t b i a → answerBy t b ≡ Refused (faultAt (suc i) a)
+  pub faulty-fault : (i : ℕ) (a : FieldRead) → isFault a ≡ true → Faulty t b i (fieldNumber a) → answerBy t b ≡ Refused (faultAt (suc i) a)
   faulty-fault i a h f =
       let n = kinds-length t (length (f .fields)) (f .count) in
-      let z : i + 1 ≡ suc i = omega arith in
       by-kinds (f .fields) (f .trailing) (f .every) (f .text) (f .count)
-      ∙ bad-only (kindsOf t (length (f .fields))) b i a (rw n (table-few t (length (f .fields)) (f .count))) h (record {
+      ∙ bad-only (kindsOf t (length (f .fields))) b i a (rw n (table-few t (length (f .fields)) (f .count))) (table-tied t (length (f .fields))) h (record {
         fields = f .fields;
         trailing = f .trailing;
         split = split-is (f .fields) (f .trailing) (f .every) (f .text);
@@ -100,4 +101,3 @@ module _ (t : MessageType) (b : List ℕ) where
         count = sym n;
         first = f .first;
       })
-      ∙ ap (λ m. Refused (faultAt m a)) z

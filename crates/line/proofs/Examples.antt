@@ -1,26 +1,30 @@
 -- What the promises of `line` require on inputs written out, and so wrong answers that they do not allow: of each, `Post` is the function's
 -- `ensures` as it stands in the source, r any result that meets it, s the state at exit. Assumes nothing.
-use mathlib.Core.Path.{_≡_, ap, _∙_}
+use Prim.Native.Nat.{ℕ}
+use Prim.Native.String.{String}
+use mathlib.Core.Path.{_≡_, refl, ap, _∙_}
 use denote.Ref.{now}
 use Rattle.text.specs.Bytes.{bytes}
 use Rattle.text.specs.Class.{all, isDigit, isLetter, isAlnum}
 use Rattle.text.specs.Code.{codeOf}
 use Rattle.text.specs.Number.{isDigitTo, digitOf, isNumeral, numberOf as number}
 use Rattle.text.specs.Place.{value, allIn}
-use Rattle.shapes.specs.Cut.{upTo, has, joins}
-use Rattle.shapes.specs.Picture.{isOf, fits, fitsAny, oneOf, within}
+use Rattle.shapes.specs.Cut.{upTo, has, before, after, joins}
+use Rattle.shapes.specs.Picture.{isOf, fits, fitsAny, oneOf, run, within}
 use Rattle.shapes.specs.Pieces.{pieces}
-use Rattle.rules.specs.Form.{isStamp, isTzIdent}
+use Rattle.rules.specs.Form.{isStamp, isKey, isIdent, isTzIdent, isFix, isClock, isTime, isPosition}
 use Rattle.rules.specs.Kind.{isForm}
-use Rattle.fields.specs.Ident.{tzIdentOf}
+use Rattle.fields.specs.Aircraft.{aircraftOf, plainOf, prefixedOf}
+use Rattle.fields.specs.Ident.{identOf, tzIdentOf}
+use Rattle.fields.specs.Word.{wordOf}
 use Rattle.fields.specs.MessageType.{typeOf}
 use Rattle.fields.specs.Pair.{isPairForm, pairOf}
-use Rattle.table.specs.Field.{plain, readKind, readIn, follows}
-use Rattle.table.specs.Read.{answerFrom, counted, answers, answerOf, routeIn, routeOf}
+use Rattle.table.specs.Field.{markOf, contentOf, traceOf, marksOf, plain, readKind, readMark, barred, readIn, follows}
+use Rattle.table.specs.Read.{answerFrom, counted, answers, answerOf, routeIn, routeOf, routeFrom, routeAt, startsAt}
 use Rattle.table.specs.Spacing.{ended, fieldsOf}
-use Rattle.table.specs.Table.{countWith, isCount, kindsOf, countIn, answerBy, routeBy}
+use Rattle.table.specs.Table.{countWith, isCount, kindsOf, countIn, answerBy, routeBy, routeAtBy}
 use Rattle.messages.specs.Read.{bodyRead}
-use Rattle.line.specs.Read.{headOf, restOf, readOf, lineNumber, linePlace, freeOf}
+use Rattle.line.specs.Read.{headOf, restOf, readOf, lineNumber, linePlace, freeOf, freeAt}
 use Rattle.line.proofs.free.Reads as free
 use Rattle.line.proofs.read.Reads as read
 
@@ -43,10 +47,51 @@ answers-4-and-5-exchanged κs a r s p e = ap lineNumber (p .0 ∙ ap readOf e)
 -- the body of an HB begins after its type
 pub free-with-type : (κs : _) (a : _) (r : _) (s : _) → free.Post κs a r s → now (a .0) ≡ bytes "000006143655KZMAHB UP" → now r ≡ bytes " UP"
 unfolding freeOf typeOf fits isOf
-free-with-type κs a r s p e = p ∙ ap freeOf e
+free-with-type κs a r s p e = p .0 ∙ ap freeOf e
 
 -- the route of an FZ is its last field, without the space before it
 pub route-with-its-space : (κs : _) (a : _) (r : _) (s : _) → free.Post κs a r s
     → now (a .0) ≡ bytes "000106081500KZAAFZ QQX12 C172/A 0120 ABC P0816 050 ABC..DEF" → now r ≡ bytes "ABC..DEF"
 unfolding freeOf typeOf fits isOf routeBy routeOf routeIn fieldsOf ended pieces plain
-route-with-its-space κs a r s p e = p ∙ ap freeOf e
+route-with-its-space κs a r s p e = p .0 ∙ ap freeOf e
+
+-- of two equal fields the route is the one after the number 10: the part that is handed back lies 36 bytes after the line's first
+pub an-equal-field-for-the-route : (κs : _) (a : _) (r : _) (s : _) → free.Post κs a r s → now (a .0) ≡ bytes "000106081500KZAAAF QQX12 ABC ABC 10 ABC"
+    → (now r ≡ bytes "ABC") × (r .ptr ≡ startsAt (a .0 .ptr) 36)
+unfolding freeOf freeAt typeOf fits isOf routeBy routeAtBy routeOf routeAt routeIn routeFrom fieldsOf ended pieces plain traceOf contentOf markOf
+an-equal-field-for-the-route κs a r s p e = (p .0 ∙ ap freeOf e, p .1 ∙ ap (λ x. startsAt (a .0 .ptr) (freeAt x)) e)
+
+-- ---- faults of fields; antt computes what the rules say
+
+-- a line's number and place
+abbrev at : String → ℕ × ℕ
+at s = (lineNumber (readOf (bytes s)), linePlace (readOf (bytes s)))
+
+-- an AF with 08 twice, one with 04, and an FZ whose time has E after a fix that is no position
+told : (at "000106081500KZAAAF QQX12 ABC DEF 08 050 08 060" ≡ (10, 6)) × (at "000106081500KZAAAF QQX12 ABC DEF 04 050" ≡ (10, 4))
+    × (at "000106081500KZAAFZ QQX12 C172/A 0120 ABC E0816 050 ABC..DEF" ≡ (9, 5))
+unfolding readOf headOf restOf bodyRead typeOf allIn isStamp isOf fits pieces within isDigit isLetter isAlnum all isNumeral isDigitTo codeOf number value digitOf answerBy
+    isCount countIn fieldsOf ended countWith answerOf answers counted kindsOf answerFrom readIn readKind plain isTzIdent isForm isPairForm pairOf tzIdentOf upTo has joins
+    oneOf fitsAny follows identOf isIdent isKey run readMark markOf traceOf marksOf contentOf barred aircraftOf plainOf prefixedOf wordOf isTime isClock isFix isPosition
+    before after
+told = (refl, refl, refl)
+
+-- "never 9", and the place is the second 08's
+pub a-number-twice-has-no-reading : (κs : _) (a : _) (r : _) (s : _) → read.Post κs a r s → now (a .0) ≡ bytes "000106081500KZAAAF QQX12 ABC DEF 08 050 08 060"
+    → (lineNumber r ≡ 10) × (linePlace r ≡ 6)
+a-number-twice-has-no-reading κs a r s p e =
+    let z = p .0 ∙ ap readOf e in
+    (ap lineNumber z ∙ ap (λ x. x .0) (told .0), ap linePlace z ∙ ap (λ x. x .1) (told .0))
+
+pub a-wrong-number-has-no-reading : (κs : _) (a : _) (r : _) (s : _) → read.Post κs a r s → now (a .0) ≡ bytes "000106081500KZAAAF QQX12 ABC DEF 04 050"
+    → (lineNumber r ≡ 10) × (linePlace r ≡ 4)
+a-wrong-number-has-no-reading κs a r s p e =
+    let z = p .0 ∙ ap readOf e in
+    (ap lineNumber z ∙ ap (λ x. x .0) (told .1), ap linePlace z ∙ ap (λ x. x .1) (told .1))
+
+-- "else the time field is at fault", and not the fix before it
+pub the-fix-is-at-fault : (κs : _) (a : _) (r : _) (s : _) → read.Post κs a r s → now (a .0) ≡ bytes "000106081500KZAAFZ QQX12 C172/A 0120 ABC E0816 050 ABC..DEF"
+    → (lineNumber r ≡ 9) × (linePlace r ≡ 5)
+the-fix-is-at-fault κs a r s p e =
+    let z = p .0 ∙ ap readOf e in
+    (ap lineNumber z ∙ ap (λ x. x .0) (told .2), ap linePlace z ∙ ap (λ x. x .1) (told .2))

@@ -1,24 +1,34 @@
 -- THE THEOREMS of a line, demand 2: what reads is allowed and its text is the line, and the text of every allowed message
 -- reads as that message. Assumes nothing.
 use mathlib.Core.Path.{_≡_, refl, sym, ap, _∙_}
-use mathlib.Core.Bool.{true}
+use mathlib.Core.Bool.{Bool, true, false}
 use mathlib.Core.List.{List}
-use Prim.Native.Nat.{ℕ}
+use Prim.Native.Nat.{ℕ, _+_, _≤_}
 use native.Mathlib.Omega.{arith}
+use lib.Dec.{ltb}
+use lib.ListN.{length, length-drop}
+use lib.Seq.{take-length, drop-drop}
+use borrow.Author.Tests.{ltb-false}
+use Rattle.shapes.specs.Picture.{part}
+use Rattle.fields.specs.MessageType.{typeOf}
+use Rattle.fields.specs.declared.heads.MessageType.{MessageType}
+use Rattle.fields.specs.declared.heads.TypeRead.{TypeRead}
 use Rattle.fields.specs.declared.heads.TypeRead.the-variants as type
 use Rattle.messages.specs.Body.{typeIn}
 use Rattle.messages.specs.Allowed.{bodyText, isBody}
 use Rattle.messages.specs.declared.Message.{Message}
 use Rattle.messages.proofs.Theorems.{body-sound, body-complete}
 use Rattle.line.specs.Line.{lineOf, isAllowed}
-use Rattle.line.specs.Read.{readOf, refusalNumber, lineNumber, freeBy, freeOf}
+use Rattle.line.specs.Read.{readOf, refusalNumber, lineNumber, freeBy, freeOf, freeAt}
 use Rattle.line.specs.declared.LineRead.{LineRead}
 use Rattle.line.specs.declared.LineRead.the-variants.{Read, Refused}
 use Rattle.line.specs.declared.Refusal.{Refusal}
 use Rattle.line.specs.declared.Refusal.the-variants.{Short, Long, Unprintable, NoSequence, NoStamp, NoFacility, NoType, LongPlan, Body}
+use Rattle.table.specs.Table.{hasFields, freeIn, freeAtIn}
+use Rattle.table.proofs.RoutePlaces.{StandsAt, route-part-by}
 use Rattle.table.specs.declared.walk.Fault.the-variants.{Spacing, Field, Number, Two}
 use Rattle.line.proofs.Heads.{printable-left}
-use Rattle.rules.specs.Frame.{bodyPart}
+use Rattle.rules.specs.Frame.{bodyPart, headLength, typePart}
 use Rattle.line.proofs.Steps.{reads-passes, passes-reads, passes-free, passes-text, passes-allows, allowed-allows, allows-allowed, allows-passes, text-body}
 
 -- what reads is allowed, and its text is the line
@@ -75,3 +85,26 @@ one-message m n r q a b e =
     let x = allowed-reads m r a in
     let y = allowed-reads n q b in
     ((cc), sym (x .1) ∙ ap freeOf e ∙ y .1)
+
+-- ---- the free text is a part of the line
+
+-- its bytes are those of the line from its place on, and they end inside the line
+pub free-part : (s : List ℕ) → (freeOf s ≡ part (freeAt s) (length (freeOf s)) s) × (freeAt s + length (freeOf s) ≤ length s)
+unfolding freeOf freeAt
+free-part s = go (ltb (length s) headLength) refl (typeOf (typePart s)) refl
+  where
+    -- a part of the body is that part of the line, 18 bytes further on
+    body : headLength ≤ length s → {i : ℕ} {r : List ℕ} → StandsAt i r (bodyPart s) → (r ≡ part (headLength + i) (length r) s) × (headLength + i + length r ≤ length s)
+    body h {i} {r} a = (sym (a .bytes) ∙ rw (drop-drop i headLength s), omega (arith, a .inside, length-drop headLength s))
+
+    by : headLength ≤ length s → (t : MessageType) (c : Bool) → hasFields t ≡ c
+        → (freeIn t (bodyPart s) ≡ part (headLength + freeAtIn t (bodyPart s)) (length (freeIn t (bodyPart s))) s)
+        × (headLength + freeAtIn t (bodyPart s) + length (freeIn t (bodyPart s)) ≤ length s)
+    by h t true q = rw q (body h (route-part-by t (bodyPart s)))
+    by h t false q = rw q (body h {i = 0} (record { bytes = take-length (bodyPart s); inside = omega arith }))
+
+    go : (c : Bool) → ltb (length s) headLength ≡ c → (x : TypeRead) → typeOf (typePart s) ≡ x
+        → (freeOf s ≡ part (freeAt s) (length (freeOf s)) s) × (freeAt s + length (freeOf s) ≤ length s)
+    go true q x e = rw q (refl, omega arith)
+    go false q type.Nothing e = rw (q, e) (refl, omega arith)
+    go false q (type.Read t) e = rw (q, e) (by (ltb-false (length s) headLength q) t (hasFields t) refl)

@@ -8,6 +8,6 @@ use Rattle.line.proofs.read.Reads as read
 pub read-one : (κs : _) (a : _) (r r′ : _) (s s′ : _) → read.Post κs a r s → read.Post κs a r′ s′ → r ≡ r′
 read-one κs a r r′ s s′ p q = p .0 ∙ sym (q .0)
 
--- the free text is a part of the line: its bytes are those of one list
-pub free-one : (κs : _) (a : _) (r r′ : _) (s s′ : _) → free.Post κs a r s → free.Post κs a r′ s′ → now r ≡ now r′
-free-one κs a r r′ s s′ p q = p ∙ sym q
+-- the free text is a part of the line: where it lies, and its bytes
+pub free-one : (κs : _) (a : _) (r r′ : _) (s s′ : _) → free.Post κs a r s → free.Post κs a r′ s′ → (r .ptr ≡ r′ .ptr) × (now r ≡ now r′)
+free-one κs a r r′ s s′ p q = (p .1 ∙ sym (q .1), p .0 ∙ sym (q .0))

@@ -1,8 +1,8 @@
 -- The ways of the line's functions: each way out is a case of the definition. Assumes nothing.
-use mathlib.Core.Path.{_≡_, refl, _∙_}
+use mathlib.Core.Path.{_≡_, refl, ap, _∙_}
 use mathlib.Core.Bool.{Bool, true, false}
 use mathlib.Core.List.{List, []}
-use Prim.Native.Nat.{ℕ, _-_, _≤_, _<_}
+use Prim.Native.Nat.{ℕ, _+_, _-_, _≤_, _<_}
 use native.Mathlib.Omega.{arith}
 use lib.ListN.{length, take}
 use borrow.Author.Tests.{lt-ltb, le-ltb}
@@ -24,11 +24,12 @@ use Rattle.fields.specs.declared.heads.Facility.{Facility}
 use Rattle.fields.specs.declared.heads.FacilityRead.the-variants as facility
 use Rattle.fields.specs.declared.heads.MessageType.{MessageType}
 use Rattle.fields.specs.declared.heads.TypeRead.the-variants as type
-use Rattle.table.specs.Table.{hasFields, routeBy, freeIn}
+use Rattle.table.specs.Table.{hasFields, routeBy, routeAtBy, freeIn, freeAtIn}
+use Rattle.table.specs.Read.{startsAt}
 use Rattle.table.specs.Plan.{isLongPlan}
 use Rattle.messages.specs.Read.{bodyRead}
 use Rattle.messages.specs.declared.typed.BodyRead.{BodyRead}
-use Rattle.line.specs.Read.{headOf, withBody, restOf, byHead, readOf, freeOf}
+use Rattle.line.specs.Read.{headOf, withBody, restOf, byHead, readOf, freeOf, freeAt}
 use Rattle.line.specs.declared.Head.{Head}
 use Rattle.line.specs.declared.HeadRead.{HeadRead}
 use Rattle.line.specs.declared.HeadRead.the-variants as head
@@ -152,25 +153,37 @@ module _ (s : List ℕ) where
       unfolding readOf
       line-head e q = rw (le-ltb (length s) headLength enough, le-ltb longestLine (length s) few, e, q)
 
--- ---- the free text
+-- ---- the free text: its bytes, and where they start
+
+-- of a part of a part, where it lies
+pub part-of-part : (s : ℕ × ℕ) (a i : ℕ) {n : ℕ} → a + i ≡ n → startsAt (startsAt s a) i ≡ startsAt s n
+part-of-part s a i {n} e = let z : i + (a + s .1) ≡ n + s .1 = omega arith in ap (λ (x : ℕ). (s .0, x)) z
 
 module _ (s : List ℕ) where
-  pub free-short : length s < headLength → [] ≡ freeOf s
-  unfolding freeOf
-  free-short h = rw (lt-ltb (length s) headLength h)
+  pub free-short : length s < headLength → ([] ≡ freeOf s) × (0 ≡ freeAt s)
+  unfolding freeOf freeAt
+  free-short h = let z = lt-ltb (length s) headLength h in (rw z, rw z)
 
   module _ (enough : headLength ≤ length s) where
-    pub free-none : typeOf (typePart s) ≡ type.Nothing → [] ≡ freeOf s
-    unfolding freeOf
-    free-none e = rw (le-ltb (length s) headLength enough, e)
+    pub free-none : typeOf (typePart s) ≡ type.Nothing → ([] ≡ freeOf s) × (0 ≡ freeAt s)
+    unfolding freeOf freeAt
+    free-none e = let z = le-ltb (length s) headLength enough in (rw (z, e), rw (z, e))
 
-    free-is : (t : MessageType) → typeOf (typePart s) ≡ type.Read t → freeIn t (bodyPart s) ≡ freeOf s
-    unfolding freeOf
-    free-is t e = rw (le-ltb (length s) headLength enough, e)
+    free-is : (t : MessageType) → typeOf (typePart s) ≡ type.Read t → (freeIn t (bodyPart s) ≡ freeOf s) × (headLength + freeAtIn t (bodyPart s) ≡ freeAt s)
+    unfolding freeOf freeAt
+    free-is t e = let z = le-ltb (length s) headLength enough in (rw (z, e), rw (z, e))
 
     module _ (t : MessageType) (e : typeOf (typePart s) ≡ type.Read t) where
-      pub free-whole : hasFields t ≡ false → bodyPart s ≡ freeOf s
-      free-whole f = let z : bodyPart s ≡ freeIn t (bodyPart s) = rw f in z ∙ free-is t e
+      pub free-whole : hasFields t ≡ false → (bodyPart s ≡ freeOf s) × (headLength ≡ freeAt s)
+      free-whole f =
+          let i = free-is t e in
+          let z : bodyPart s ≡ freeIn t (bodyPart s) = rw f in
+          let y : headLength ≡ headLength + freeAtIn t (bodyPart s) = rw f in
+          (z ∙ i .0, y ∙ i .1)
 
-      pub free-route : hasFields t ≡ true → routeBy t (bodyPart s) ≡ freeOf s
-      free-route f = let z : routeBy t (bodyPart s) ≡ freeIn t (bodyPart s) = rw f in z ∙ free-is t e
+      pub free-route : hasFields t ≡ true → (routeBy t (bodyPart s) ≡ freeOf s) × (headLength + routeAtBy t (bodyPart s) ≡ freeAt s)
+      free-route f =
+          let i = free-is t e in
+          let z : routeBy t (bodyPart s) ≡ freeIn t (bodyPart s) = rw f in
+          let y : headLength + routeAtBy t (bodyPart s) ≡ headLength + freeAtIn t (bodyPart s) = rw f in
+          (z ∙ i .0, y ∙ i .1)

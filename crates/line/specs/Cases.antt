@@ -13,9 +13,7 @@ use Rattle.fields.specs.MessageType.{typeText}
 use Rattle.fields.specs.declared.heads.MessageType.{MessageType}
 use Rattle.fields.specs.declared.heads.MessageType.the-variants as type
 use Rattle.table.specs.Spacing.{bodyOf, allFields}
-use Rattle.table.specs.declared.kinds.FieldRead.{FieldRead}
-use Rattle.table.specs.declared.kinds.FieldRead.the-variants as field
-use Rattle.table.specs.Fault.{First}
+use Rattle.table.specs.Fault.{FirstFault}
 use Rattle.table.specs.Table.{isCount, hasFields, kindsOf}
 use Rattle.table.specs.Plan.{isLongPlan}
 use Rattle.messages.specs.declared.Message.{Message}
@@ -35,14 +33,14 @@ pub record Headed (s : List ℕ) (t : MessageType) : Type 0 where
   pub facility : isFacility (facilityPart s) ≡ true
   pub type : typePart s ≡ typeText t
 
--- a body whose spacing and count are right: its field i is answered a, and all fields before it are read
-pub record Faulty (t : MessageType) (b : List ℕ) (i : ℕ) (a : FieldRead) : Type 0 where
+-- a body whose spacing and count are right: its field i is the first at fault, in the case of the number n (table/specs/Fault)
+pub record Faulty (t : MessageType) (b : List ℕ) (i n : ℕ) : Type 0 where
   pub fields : List (List ℕ)
   pub trailing : Bool
   pub text : bodyOf fields trailing ≡ b
   pub every : allFields fields ≡ true
   pub count : isCount t (length fields) ≡ true
-  pub first : First (kindsOf t (length fields)) 0 0 fields i a
+  pub first : FirstFault (kindsOf t (length fields)) fields i n
 
 -- Case s n p: the line s is in the case of the number n, with the place p
 pub data Case (s : List ℕ) : ℕ → ℕ → Type 0 where
@@ -62,10 +60,10 @@ pub data Case (s : List ℕ) : ℕ → ℕ → Type 0 where
   -- 8: body spacing or field count wrong
   Spacing : (t : MessageType) → Headed s t → isLongPlan t (length s) ≡ false → hasFields t ≡ true → ((fs : List (List ℕ)) (u : Bool) → allFields fs ≡ true → isCount t (length fs) ≡ true → bodyOf fs u ≡ bodyPart s → ⊥) → Case s 8 0
   -- 9: a field without a reading; its place is given, 1 for the ident
-  Field : (t : MessageType) (i : ℕ) → Headed s t → isLongPlan t (length s) ≡ false → Faulty t (bodyPart s) i field.Nothing → Case s 9 (suc i)
+  Field : (t : MessageType) (i : ℕ) → Headed s t → isLongPlan t (length s) ≡ false → Faulty t (bodyPart s) i 9 → Case s 9 (suc i)
   -- 10: an AF number field that is none of the eight, or come twice; its place
-  Number : (t : MessageType) (i : ℕ) → Headed s t → isLongPlan t (length s) ≡ false → Faulty t (bodyPart s) i field.Number → Case s 10 (suc i)
+  Number : (t : MessageType) (i : ℕ) → Headed s t → isLongPlan t (length s) ≡ false → Faulty t (bodyPart s) i 10 → Case s 10 (suc i)
   -- 11: FZ over 439 bytes, counted from its type
   LongPlan : Headed s type.Fz → 439 < length s - 16 → Case s 11 0
   -- 18: an aircraft field with two different readings; its place
-  Two : (t : MessageType) (i : ℕ) → Headed s t → isLongPlan t (length s) ≡ false → Faulty t (bodyPart s) i field.Two → Case s 18 (suc i)
+  Two : (t : MessageType) (i : ℕ) → Headed s t → isLongPlan t (length s) ≡ false → Faulty t (bodyPart s) i 18 → Case s 18 (suc i)

@@ -1,6 +1,6 @@
 -- What a line is read as, in document 01's order: "1 to 7 rising, 11, 8, then fields from the left"; the answer
 -- numbers; the free text. Assumes nothing.
-use Prim.Native.Nat.{ℕ}
+use Prim.Native.Nat.{ℕ, _+_}
 use mathlib.Core.Bool.{cond}
 use mathlib.Core.List.{List, []}
 use lib.Dec.{ltb}
@@ -14,7 +14,7 @@ use Rattle.fields.specs.declared.heads.TypeRead.{TypeRead}
 use Rattle.fields.specs.declared.heads.TypeRead.the-variants as type
 use Rattle.table.specs.Plan.{isLongPlan}
 use Rattle.table.specs.Read.{faultNumber, faultPlace}
-use Rattle.table.specs.Table.{freeIn}
+use Rattle.table.specs.Table.{freeIn, freeAtIn}
 use Rattle.messages.specs.Read.{bodyRead}
 use Rattle.messages.specs.declared.typed.BodyRead.{BodyRead}
 use Rattle.messages.specs.declared.typed.BodyRead.the-variants as body
@@ -99,3 +99,12 @@ freeBy (type.Read t) b = freeIn t b
 
 unfoldable pub freeOf : List ℕ → List ℕ
 freeOf s = cond (ltb (length s) headLength) [] (freeBy (typeOf (typePart s)) (bodyPart s))
+
+-- where it starts in the line: "the body" of RT, TO and HB at its byte 18, a route after the space before it; an empty part that is no free text
+-- starts where it is looked for, at the body or, where the line has no type, at its front
+abbrev pub freeAtBy : TypeRead → List ℕ → ℕ
+freeAtBy type.Nothing b = 0
+freeAtBy (type.Read t) b = headLength + freeAtIn t b
+
+unfoldable pub freeAt : List ℕ → ℕ
+freeAt s = cond (ltb (length s) headLength) 0 (freeAtBy (typeOf (typePart s)) (bodyPart s))

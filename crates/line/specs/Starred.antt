@@ -19,7 +19,7 @@ use Rattle.fields.specs.declared.aircraft.AircraftRead.the-variants as aircraft
 use Rattle.fields.specs.Facility.{facilityText}
 use Rattle.fields.specs.MessageType.{typeText}
 use Rattle.messages.specs.Body.{typeIn}
-use Rattle.line.specs.Read.{readOf, refusalNumber, freeOf}
+use Rattle.line.specs.Read.{readOf, lineNumber, freeOf}
 use Rattle.line.specs.declared.LineRead.{LineRead}
 use Rattle.line.specs.declared.LineRead.the-variants as line
 use Rattle.meanings.specs.Meaning.{minutesOf}
@@ -40,9 +40,10 @@ pub data Question : Type 0 where
   -- now, the last day of the previous month, the stamp
   Age : String → ℕ → String → Question
 
--- no reading; two readings; a reading with these parts; two signed numbers; an age in seconds, or its word; refused
--- with this number
+-- of a line its answer number, and its parts where it is read; of a field no reading, two readings, or a reading with these parts; two signed
+-- numbers; an age in seconds, or its word; refused with this number
 pub data Answer : Type 0 where
+  Numbered : ℕ → List (List ℕ) → Answer
   Refused : ℕ → Answer
   None : Answer
   Two : Answer
@@ -54,10 +55,10 @@ pub data Answer : Type 0 where
 
 -- ---- what the definitions answer
 
--- sequence number, stamp, facility and type of a line that is read, and its free text
+-- a line's number; of one that is read sequence number, stamp, facility and type, and its free text
 abbrev ofLine : LineRead → List ℕ → Answer
-ofLine (line.Read m) r = Parts (textOf (m .sequence .0) ∷ textOf (m .stamp .0) ∷ facilityText (m .facility .0) ∷ typeText (typeIn (m .body)) ∷ r ∷ [])
-ofLine (line.Refused x) r = Refused (refusalNumber x)
+ofLine (line.Read m) r = Numbered (lineNumber (line.Read m)) (textOf (m .sequence .0) ∷ textOf (m .stamp .0) ∷ facilityText (m .facility .0) ∷ typeText (typeIn (m .body)) ∷ r ∷ [])
+ofLine (line.Refused x) r = Numbered (lineNumber (line.Refused x)) []
 
 abbrev ofIdent : IdentRead → Answer
 ofIdent (ident.Read i) = Parts (textOf (i .key .0) ∷ textOf (i .number .0) ∷ [])
@@ -102,8 +103,8 @@ row q a = record { asked = q; told = a }
 
 abbrev pub table : List Row
 table =
-    row (Line "000006143655KZMAHB") (Parts (bytes "0000" ∷ bytes "06143655" ∷ bytes "KZMA" ∷ bytes "HB" ∷ [] ∷ []))
-    ∷ row (Line "000006143655KZMAH") (Refused 1)
+    row (Line "000006143655KZMAHB") (Numbered 0 (bytes "0000" ∷ bytes "06143655" ∷ bytes "KZMA" ∷ bytes "HB" ∷ [] ∷ []))
+    ∷ row (Line "000006143655KZMAH") (Numbered 1 [])
     ∷ row (Ident "N5") (Parts (bytes "N5" ∷ [] ∷ []))
     ∷ row (Ident "N") None
     ∷ row (Ident "ABCDEFG/12Z") (Parts (bytes "ABCDEFG" ∷ bytes "12Z" ∷ []))

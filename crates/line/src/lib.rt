@@ -23,7 +23,8 @@ ghost use Prim.Native.Nat.{_≤_};
 ghost use lib.ListN.{length};
 ghost use Rattle.rules.specs.Frame.{headLength};
 ghost use Rattle.line.specs.Cases.{Case};
-ghost use Rattle.line.specs.Read.{headOf, restOf, readOf, lineNumber, linePlace, freeOf};
+ghost use Rattle.line.specs.Read.{headOf, restOf, readOf, lineNumber, linePlace, freeOf, freeAt};
+ghost use Rattle.table.specs.Read.{startsAt};
 
 // Document 01's answers 1 to 7 and 11; and 8, 9, 10 and 18 as the body's fault.
 pub enum Refusal {
@@ -130,9 +131,10 @@ pub fn read(line: &[u8]) -> LineRead
 }
 
 // The body of an RT, TO or HB, the route of an FZ, a UZ and of an AF with number 10, as that part of the line; of any
-// other line an empty part.
+// other line an empty part. It is that part and no copy: where it lies in memory is told.
 pub fn free(line: &[u8]) -> &[u8]
     ensures { λ r. ⌜ now r ≡ freeOf (now (line .entry)) ⌝ }
+    ensures { λ r. ⌜ r .ptr ≡ startsAt (line .entry .ptr) (freeAt (now (line .entry))) ⌝ }
 {
     if line.len() < BODY_AT {
         return &line[..0];

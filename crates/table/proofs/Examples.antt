@@ -99,13 +99,13 @@ three-kinds-for-every-body κs x r s p e = p .0 ∙ ap (answerBy Az) e
 pub route-by-the-fz-table : (κs : _) (x : _) (r : _) (s : _) → route.Post κs (Af, (x, tt)) r s
     → now x ≡ bytes " N5AB GHI JKL 10 GHI..JKL" → now r ≡ bytes "GHI..JKL"
 unfolding routeBy routeOf routeIn fieldsOf ended pieces plain contentOf traceOf markOf
-route-by-the-fz-table κs x r s p e = p ∙ ap (routeBy Af) e
+route-by-the-fz-table κs x r s p e = p .0 ∙ ap (routeBy Af) e
 
 -- an FZ has a route, its last field
 pub route-by-the-rz-table : (κs : _) (x : _) (r : _) (s : _) → route.Post κs (Fz, (x, tt)) r s
     → now x ≡ bytes " N5AB C172 120 GHI D0810 050 GHI..JKL" → now r ≡ bytes "GHI..JKL"
 unfolding routeBy routeOf routeIn fieldsOf ended pieces plain traceOf
-route-by-the-rz-table κs x r s p e = p ∙ ap (routeBy Fz) e
+route-by-the-rz-table κs x r s p e = p .0 ∙ ap (routeBy Fz) e
 
 -- ---- counts
 

@@ -10,9 +10,12 @@ pub mod Spaces
 pub mod SpacingLaws
 pub mod WalkWays
 pub mod Theorems
+pub mod FieldForms
+pub mod FieldCases
 pub mod Refusals
 pub mod MarksKept
 pub mod Routes
+pub mod RoutePlaces
 pub mod Amends
 pub mod Unique
 pub mod Examples

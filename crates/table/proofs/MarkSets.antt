@@ -1,14 +1,14 @@
 -- The laws of a set of marks, with one more. Assumes nothing.
 use mathlib.Core.Path.{_≡_, refl, ap, _∙_}
 use mathlib.Core.Bool.{Bool, true, false, not, _||_}
-use Prim.Native.Nat.{ℕ, zero, suc, _+_, _/_, _%_, _≤_, _<_, suc-le-suc, max}
-use native.Mathlib.Nat.{le-of-suc-le-suc, mod-lt, max-le, max-add-min}
+use Prim.Native.Nat.{ℕ, zero, suc, _+_, _*_, _/_, _%_, _≤_, _<_, suc-le-suc, max, min}
+use native.Mathlib.Nat.{le-of-suc-le-suc, mod-lt, max-le, max-add-min, min-le-left, min-le-right}
 use native.Mathlib.Omega.{arith}
 use lib.Arith.{bin-ind}
-use lib.Bits.{bitAnd, bitOr, and-step, or-step, or-lt}
+use lib.Bits.{bitAnd, bitOr, and-step, or-step, or-lt, and-zero-l}
 use lib.Count.{ones, onesIn, ones-step, ones-cat, ones-le}
 use lib.Dec.{eqb, ltb, lit≤}
-use borrow.Author.Tests.{ltb-true, not-true}
+use borrow.Author.Tests.{ltb-true, not-true, eqb-true}
 use Rattle.text.proofs.Logic.{below, below-at}
 use Rattle.table.specs.Amends.{isMark}
 use Rattle.table.proofs.Eight.{each-mark}
@@ -69,5 +69,56 @@ set-other m b h e f g =
     let t = each-set (λ b m. eqb b 128 || (not (eqb (bitAnd m 128) 0) || eqb (bitAnd (bitOr m b) 128) 0)) refl refl refl refl refl refl refl refl m b h e in
     rw (f, g) at t
 
+-- two different marks have nothing in common
+pub marks-apart : (m b : ℕ) → isMark m ≡ true → isMark b ≡ true → eqb b m ≡ false → bitAnd m b ≡ 0
+unfolding isMark
+marks-apart m b h e f =
+    let t = each-set (λ b m. not (isMark m) || (eqb b m || eqb (bitAnd m b) 0)) refl refl refl refl refl refl refl refl m b (mark-small m h) e in
+    eqb-true (bitAnd m b) 0 (rw (h, f) at t)
+
 pub ones-few : (m : ℕ) → m < 256 → ones m ≤ 8
 ones-few m h = ones-le 8 m h
+
+-- ---- two sets have nothing in common with a third exactly if both together have not
+
+-- of one digit each, which antt computes
+abbrev evenly : ℕ → ℕ → ℕ → Bool
+evenly x y z = eqb (min (max x y) z) (max (min x z) (min y z))
+
+digit-either : (x y z : ℕ) → x < 2 → y < 2 → z < 2 → min (max x y) z ≡ max (min x z) (min y z)
+digit-either x y z h g l =
+    let t = below-at (λ x. below (λ y. below (λ z. evenly x y z) 2) 2) 2 refl x h in
+    eqb-true (min (max x y) z) (max (min x z) (min y z)) (below-at (λ z. evenly x y z) 2 (below-at (λ y. below (λ z. evenly x y z) 2) 2 t y g) z l)
+
+-- the digits above the last, and the last
+module _ (m a b : ℕ) where
+  both-step : bitAnd (bitOr m a) b ≡ bitAnd (bitOr (m / 2) (a / 2)) (b / 2) * 2 + max (min (m % 2) (b % 2)) (min (a % 2) (b % 2))
+  both-step =
+      let l : max (m % 2) (a % 2) < 2 = suc-le-suc (max-le (le-of-suc-le-suc (mod-lt m (lit≤ tt))) (le-of-suc-le-suc (mod-lt a (lit≤ tt)))) in
+      let high : bitOr m a / 2 ≡ bitOr (m / 2) (a / 2) = omega (arith, or-step m a) in
+      let low : bitOr m a % 2 ≡ max (m % 2) (a % 2) = omega (arith, or-step m a) in
+      and-step (bitOr m a) b ∙ rw (high, low, digit-either (m % 2) (a % 2) (b % 2) (mod-lt m (lit≤ tt)) (mod-lt a (lit≤ tt)) (mod-lt b (lit≤ tt)))
+
+abbrev Apart : ℕ → Type 0
+Apart m = (a b : ℕ) → (bitAnd (bitOr m a) b ≡ 0 → (bitAnd m b ≡ 0) × (bitAnd a b ≡ 0)) × (bitAnd m b ≡ 0 → bitAnd a b ≡ 0 → bitAnd (bitOr m a) b ≡ 0)
+
+pub both-apart : (m : ℕ) → Apart m
+both-apart = bin-ind Apart none step
+  where
+    none : Apart 0
+    none a b = (λ e. (and-zero-l b, e), λ e f. f)
+
+    step : (m : ℕ) → Apart (m / 2) → Apart m
+    step m ih a b =
+        let i = ih (a / 2) (b / 2) in
+        let x = min (m % 2) (b % 2) in
+        let y = min (a % 2) (b % 2) in
+        let s = both-step m a b in
+        let p = and-step m b in
+        let q = and-step a b in
+        let t = max-add-min x y in
+        let u = min-le-left x y in
+        let v = min-le-right x y in (
+          λ e. let j = i .0 (omega (arith, s)) in (omega (arith, s, p, t, u, v, j .0), omega (arith, s, q, t, u, v, j .1)),
+          λ e f. let j = i .1 (omega (arith, p)) (omega (arith, q)) in omega (arith, s, p, q, t, j),
+        )

@@ -1,25 +1,29 @@
--- THE THEOREMS of what is refused by any list of kinds: the spacing, and the first field that is not read. Assumes nothing.
-use mathlib.Core.Path.{_≡_, refl, sym, ap, _∙_}
+-- THE THEOREMS of what is refused by any list of kinds: the spacing, and the first field that is not right. Assumes nothing.
+use mathlib.Core.Path.{_≡_, refl, sym, ap, _∙_, subst}
 use mathlib.Core.Bool.{Bool, true, false}
 use mathlib.Core.List.{List, [], _∷_}
-use Prim.Native.Nat.{ℕ, zero, suc, _+_, _≤_}
-use native.Mathlib.Nat.{suc-inj}
+use mathlib.Core.Logic.{_⊎_, inl, inr}
+use Prim.Native.Nat.{ℕ, zero, suc, _+_, _≤_, _<_}
 use native.Mathlib.Omega.{arith}
-use lib.ListN.{length, take}
+use lib.Dec.{eqb}
+use lib.ListN.{length, drop, drop-of-length-le}
+use lib.Seq.{drop-cons}
+use borrow.Author.Tests.{eqb-true, eqb-false}
 use Rattle.text.proofs.Logic.{true-false}
 use Rattle.table.specs.Spacing.{bodyOf, allFields, Split, Fields, Wrong, fieldsOf}
 use Rattle.table.proofs.SpacingLaws.{fields-text, fields-body}
 use Rattle.table.specs.Field.{readIn, traceOf, marksOf}
 use Rattle.table.specs.declared.kinds.FieldRead.{FieldRead}
 use Rattle.table.specs.declared.kinds.FieldRead.the-variants as field
-use Rattle.table.specs.Fault.{traceAfter, marksAfter, First}
-use Rattle.table.specs.Read.{more, valuesFrom, faultAt, orElse, answerFrom, counted, answers, answerOf, fieldNumber, faultNumber, faultPlace, answerNumber, answerPlace}
+use Rattle.table.specs.Fault.{FieldCase, FirstFault}
+use Rattle.table.specs.Read.{faultAt, orElse, answerFrom, counted, answers, answerOf, fieldNumber, faultNumber, faultPlace, answerNumber, answerPlace}
 use Rattle.table.specs.declared.walk.Answer.{Answer}
-use Rattle.table.specs.declared.walk.Answer.the-variants.{Refused}
+use Rattle.table.specs.declared.walk.Answer.the-variants.{Taken, Refused}
 use Rattle.table.specs.declared.walk.Fault.the-variants.{Spacing, Field, Number, Two}
+use Rattle.table.proofs.FieldCases.{traceAt, marksAt, readAt, tied, field-own, field-one}
 use Rattle.table.proofs.Theorems.{counted-known, counted-is, parted, not-taken}
 
--- no list of fields is answered by its spacing
+-- no list of fields is fieldNumber by its spacing
 no-spacing : (i : ℕ) (t : Bool) (ks : List ℕ) (p m : ℕ) (fs : List (List ℕ)) → answerFrom i t ks p m fs ≡ Refused Spacing → ⊥
 unfolding answerFrom
 no-spacing i t [] p m fs e = not-taken t m Spacing (sym e)
@@ -94,90 +98,138 @@ or-fault n field.Nothing rest h = refl
 or-fault n field.Number rest h = refl
 or-fault n field.Two rest h = refl
 
--- 4. a fault is that of the first field that is not read
-fault-first : (n : ℕ) (t : Bool) (ks : List ℕ) (p m : ℕ) (fs : List (List ℕ)) (j : ℕ) (a : FieldRead) → isFault a ≡ true → answerFrom n t ks p m fs ≡ Refused (faultAt j a)
-    → let i = length (valuesFrom ks p m fs) in (j ≡ n + i) × First ks p m fs i a
-unfolding answerFrom valuesFrom traceAfter marksAfter
-fault-first n t [] p m fs j a h e = not-taken t m (faultAt j a) (sym e)
-fault-first n t (k ∷ ks) p m [] j a h e = not-taken t m (faultAt j a) (sym e)
-fault-first n t (k ∷ ks) p m (f ∷ fs) j a h e = go (readIn k p m f) refl (fault-first (suc n) t ks (traceOf k f) (marksOf k m f) fs j a h)
-  where
-    none : (b : FieldRead) → isFault b ≡ true → readIn k p m f ≡ b → length (valuesFrom (k ∷ ks) p m (f ∷ fs)) ≡ 0 → Refused (faultAt n b) ≡ Refused (faultAt j a)
-        → let i = length (valuesFrom (k ∷ ks) p m (f ∷ fs)) in (j ≡ n + i) × First (k ∷ ks) p m (f ∷ fs) i a
-    none b g q z d = let x = fault-same n j a b h g d in (omega (arith, x .0, z), rw z (record { inside = omega arith; earlier = refl; here = q ∙ x .1 }))
+-- a field is read, and fieldNumber 0, or it is at fault
+read-or-fault : (a : FieldRead) → (fieldNumber a ≡ 0) ⊎ (isFault a ≡ true)
+read-or-fault (field.Read v) = inl refl
+read-or-fault field.Nothing = inr refl
+read-or-fault field.Number = inr refl
+read-or-fault field.Two = inr refl
 
-    go : (b : FieldRead) → readIn k p m f ≡ b
-        → (answerFrom (suc n) t ks (traceOf k f) (marksOf k m f) fs ≡ Refused (faultAt j a) → let i = length (valuesFrom ks (traceOf k f) (marksOf k m f) fs) in (j ≡ suc n + i) × First ks (traceOf k f) (marksOf k m f) fs i a)
-        → let i = length (valuesFrom (k ∷ ks) p m (f ∷ fs)) in (j ≡ n + i) × First (k ∷ ks) p m (f ∷ fs) i a
-    go (field.Read v) q ih =
-        let x = ih (rw q at e) in
-        let g = x .1 in
-        rw q (omega (arith, x .0), record { inside = omega (arith, g .inside); earlier = rw q (ap suc (g .earlier)); here = g .here })
-    go field.Nothing q ih = none field.Nothing refl q (rw q) (rw q at e)
-    go field.Number q ih = none field.Number refl q (rw q) (rw q at e)
-    go field.Two q ih = none field.Two refl q (rw q) (rw q at e)
+or-read : (n : ℕ) (a : FieldRead) (rest : Answer) → fieldNumber a ≡ 0 → orElse n a rest ≡ rest
+or-read n (field.Read v) rest h = refl
+or-read n field.Nothing rest h = absurd (omega arith)
+or-read n field.Number rest h = absurd (omega arith)
+or-read n field.Two rest h = absurd (omega arith)
 
-first-fault : (n : ℕ) (t : Bool) (ks : List ℕ) (p m : ℕ) (fs : List (List ℕ)) (i : ℕ) (a : FieldRead) → isFault a ≡ true → length fs ≡ length ks → First ks p m fs i a → answerFrom n t ks p m fs ≡ Refused (faultAt (n + i) a)
-unfolding answerFrom valuesFrom traceAfter marksAfter
-first-fault n t [] p m fs i a h e g = absurd (omega (arith, g .inside))
-first-fault n t (k ∷ ks) p m [] i a h e g = absurd (omega arith)
-first-fault n t (k ∷ ks) p m (f ∷ fs) zero a h e g =
-    let q : readIn k p m f ≡ a = g .here in
-    let z : n + 0 ≡ n = omega arith in
-    rw (q, z) (or-fault n a (answerFrom (suc n) t ks (traceOf k f) (marksOf k m f) fs) h)
-first-fault n t (k ∷ ks) p m (f ∷ fs) (suc i) a h e g = go (readIn k p m f) refl (first-fault (suc n) t ks (traceOf k f) (marksOf k m f) fs i a h (suc-inj e))
-  where
-    l : length (more (readIn k p m f) (valuesFrom (take i ks) (traceOf k f) (marksOf k m f) (take i fs))) ≡ suc i
-    l = g .earlier
+-- faults have numbers of their own
+number-fault : (a b : FieldRead) → isFault a ≡ true → fieldNumber b ≡ fieldNumber a → b ≡ a
+number-fault (field.Read v) b h e = true-false h refl
+number-fault field.Nothing (field.Read v) h e = absurd (omega arith)
+number-fault field.Nothing field.Nothing h e = refl
+number-fault field.Nothing field.Number h e = absurd (omega arith)
+number-fault field.Nothing field.Two h e = absurd (omega arith)
+number-fault field.Number (field.Read v) h e = absurd (omega arith)
+number-fault field.Number field.Nothing h e = absurd (omega arith)
+number-fault field.Number field.Number h e = refl
+number-fault field.Number field.Two h e = absurd (omega arith)
+number-fault field.Two (field.Read v) h e = absurd (omega arith)
+number-fault field.Two field.Nothing h e = absurd (omega arith)
+number-fault field.Two field.Number h e = absurd (omega arith)
+number-fault field.Two field.Two h e = refl
 
-    go : (b : FieldRead) → readIn k p m f ≡ b → (First ks (traceOf k f) (marksOf k m f) fs i a → answerFrom (suc n) t ks (traceOf k f) (marksOf k m f) fs ≡ Refused (faultAt (suc n + i) a))
-        → answerFrom n t (k ∷ ks) p m (f ∷ fs) ≡ Refused (faultAt (n + suc i) a)
-    go (field.Read v) q ih =
-        let d : suc (length (valuesFrom (take i ks) (traceOf k f) (marksOf k m f) (take i fs))) ≡ suc i = rw q at l in
-        let z : n + suc i ≡ suc n + i = omega arith in
-        rw (q, z) (ih (record { inside = omega (arith, g .inside); earlier = suc-inj d; here = g .here }))
-    go field.Nothing q ih = let d : 0 ≡ suc i = rw q at l in absurd (omega arith)
-    go field.Number q ih = let d : 0 ≡ suc i = rw q at l in absurd (omega arith)
-    go field.Two q ih = let d : 0 ≡ suc i = rw q at l in absurd (omega arith)
+-- 4. a fault is that of the first field that is not right
+module _ (u : Bool) (ks : List ℕ) (fs : List (List ℕ)) (same : length fs ≡ length ks) where
+  -- what is fieldNumber from the field i on
+  abbrev from : ℕ → Answer
+  from i = answerFrom (suc i) u (drop i ks) (traceAt ks fs i) (marksAt ks fs i) (drop i fs)
 
-pub record Bad (ks body : List ℕ) (i : ℕ) (a : FieldRead) : Type 0 where
+  turn : (i : ℕ) → i < length ks → from i ≡ orElse (suc i) (readAt ks fs i) (from (suc i))
+  unfolding answerFrom
+  turn i h = rw (drop-cons ks i 0 h, drop-cons fs i [] (omega arith))
+
+  done : (i : ℕ) → length ks ≤ i → from i ≡ Taken u (marksAt ks fs i)
+  unfolding answerFrom
+  done i h = rw (drop-of-length-le ks h)
+
+  module _ (ties : tied 0 ks ≡ true) where
+    -- the fields that are right are those that are read
+    rights : (i : ℕ) → i ≤ length ks → ((j : ℕ) → j < i → fieldNumber (readAt ks fs j) ≡ 0) → (j : ℕ) → j < i → FieldCase ks fs j 0
+    rights i h r j l = subst (FieldCase ks fs j) (r j l) (field-own ks fs ties j (omega arith) (λ x g. r x (omega arith)))
+
+    reads : (i : ℕ) → i ≤ length ks → ((j : ℕ) → j < i → FieldCase ks fs j 0) → (j : ℕ) → j < i → fieldNumber (readAt ks fs j) ≡ 0
+    reads zero h c j l = absurd (omega arith)
+    reads (suc i) h c j l = go (eqb j i) refl (reads i (omega arith) (λ x g. c x (omega arith)))
+      where
+        go : (b : Bool) → eqb j i ≡ b → ((j : ℕ) → j < i → fieldNumber (readAt ks fs j) ≡ 0) → fieldNumber (readAt ks fs j) ≡ 0
+        go true q ih = let z = eqb-true j i q in field-one ks fs (field-own ks fs ties j (omega arith) (λ x g. ih x (omega arith))) (c j l)
+        go false q ih = ih j (let n = eqb-false j i q in omega arith)
+
+    -- what is refused from the field i on, the fields before it being read; n fields are left
+    first-from : (n i : ℕ) → n + i ≡ length ks → ((j : ℕ) → j < i → fieldNumber (readAt ks fs j) ≡ 0)
+        → (j : ℕ) (a : FieldRead) → isFault a ≡ true → from i ≡ Refused (faultAt j a)
+        → (x : ℕ) × (j ≡ suc x) × FirstFault ks fs x (fieldNumber a)
+    first-from zero i l r j a h e = not-taken u (marksAt ks fs i) (faultAt j a) (sym (sym (done i (omega arith)) ∙ e))
+    first-from (suc n) i l r j a h e = go (read-or-fault (readAt ks fs i)) (first-from n (suc i) (omega arith))
+      where
+        t : orElse (suc i) (readAt ks fs i) (from (suc i)) ≡ Refused (faultAt j a)
+        t = sym (turn i (omega arith)) ∙ e
+
+        more : fieldNumber (readAt ks fs i) ≡ 0 → (x : ℕ) → x < suc i → fieldNumber (readAt ks fs x) ≡ 0
+        more q x g = at (eqb x i) refl
+          where
+            at : (b : Bool) → eqb x i ≡ b → fieldNumber (readAt ks fs x) ≡ 0
+            at true z = ap (λ y. fieldNumber (readAt ks fs y)) (eqb-true x i z) ∙ q
+            at false z = r x (let n = eqb-false x i z in omega arith)
+
+        go : (fieldNumber (readAt ks fs i) ≡ 0) ⊎ (isFault (readAt ks fs i) ≡ true)
+            → (((j : ℕ) → j < suc i → fieldNumber (readAt ks fs j) ≡ 0) → (j : ℕ) (a : FieldRead) → isFault a ≡ true → from (suc i) ≡ Refused (faultAt j a)
+            → (x : ℕ) × (j ≡ suc x) × FirstFault ks fs x (fieldNumber a))
+            → (x : ℕ) × (j ≡ suc x) × FirstFault ks fs x (fieldNumber a)
+        go (inl q) ih = ih (more q) j a h (sym (or-read (suc i) (readAt ks fs i) (from (suc i)) q) ∙ t)
+        go (inr q) ih =
+            let x = fault-same (suc i) j a (readAt ks fs i) h q (sym (or-fault (suc i) (readAt ks fs i) (from (suc i)) q) ∙ t) in
+            let c = subst (λ b. FieldCase ks fs i (fieldNumber b)) (x .1) (field-own ks fs ties i (omega arith) r) in
+            (i, x .0, record { inside = omega arith; before = rights i (omega arith) r; here = c })
+
+    fault-first : (j : ℕ) (a : FieldRead) → isFault a ≡ true → answerFrom 1 u ks 0 0 fs ≡ Refused (faultAt j a) → (x : ℕ) × (j ≡ suc x) × FirstFault ks fs x (fieldNumber a)
+    fault-first = first-from (length ks) 0 (omega arith) (λ j l. absurd (omega arith))
+
+    -- and the other way round
+    to-first : (i : ℕ) → i ≤ length ks → ((j : ℕ) → j < i → fieldNumber (readAt ks fs j) ≡ 0) → from 0 ≡ from i
+    to-first zero h r = refl
+    to-first (suc i) h r = to-first i (omega arith) (λ j l. r j (omega arith)) ∙ turn i (omega arith) ∙ or-read (suc i) (readAt ks fs i) (from (suc i)) (r i (omega arith))
+
+    first-fault : (i : ℕ) (a : FieldRead) → isFault a ≡ true → FirstFault ks fs i (fieldNumber a) → answerFrom 1 u ks 0 0 fs ≡ Refused (faultAt (suc i) a)
+    first-fault i a h f =
+        let l : i < length ks = omega (arith, f .inside) in
+        let r = reads i (omega arith) (f .before) in
+        let z : readAt ks fs i ≡ a = number-fault a (readAt ks fs i) h (field-one ks fs (field-own ks fs ties i l r) (f .here)) in
+        to-first i (omega arith) r ∙ turn i l ∙ ap (λ b. orElse (suc i) b (from (suc i))) z ∙ or-fault (suc i) a (from (suc i)) h
+
+-- a body whose spacing and count are right, and whose field i is the first at fault, with the number n
+pub record Bad (ks body : List ℕ) (i n : ℕ) : Type 0 where
   pub fields : List (List ℕ)
   pub trailing : Bool
   pub split : fieldsOf body ≡ Fields fields trailing
   pub text : bodyOf fields trailing ≡ body
   pub count : length fields ≡ length ks
-  pub first : First ks 0 0 fields i a
+  pub first : FirstFault ks fields i n
 
-pub bad : (ks body : List ℕ) (i : ℕ) (a : FieldRead) → isFault a ≡ true → answerOf ks body ≡ Refused (faultAt (i + 1) a) → Bad ks body i a
-bad ks body i a h e =
-    let s = parted ks body (Refused (faultAt (i + 1) a)) e (fault-spacing (i + 1) a h) in
-    let x = fault-first 1 (s .trailing) ks 0 0 (s .fields) (i + 1) a h (s .answer) in
-    let z : length (valuesFrom ks 0 0 (s .fields)) ≡ i = omega (arith, x .0) in
-    record {
-      fields = s .fields;
-      trailing = s .trailing;
-      split = s .split;
-      text = fields-text body (s .fields) (s .trailing) (s .split) .0;
-      count = s .count;
-      first = rw z at (x .1);
-    }
-
-pub bad-only : (ks body : List ℕ) (i : ℕ) (a : FieldRead) → length ks ≤ 19 → isFault a ≡ true → Bad ks body i a → answerOf ks body ≡ Refused (faultAt (i + 1) a)
+pub bad-only : (ks body : List ℕ) (i : ℕ) (a : FieldRead) → length ks ≤ 19 → tied 0 ks ≡ true → isFault a ≡ true → Bad ks body i (fieldNumber a)
+    → answerOf ks body ≡ Refused (faultAt (suc i) a)
 unfolding answerOf answers
-bad-only ks body i a few h b =
-    let z : i + 1 ≡ 1 + i = omega arith in
-    rw (b .split, counted-is ks (b .fields) (b .count) few, z) (first-fault 1 (b .trailing) ks 0 0 (b .fields) i a h (b .count) (b .first))
+bad-only ks body i a few ties h b =
+    rw (b .split, counted-is ks (b .fields) (b .count) few) (first-fault (b .trailing) ks (b .fields) (b .count) ties i a h (b .first))
 
 -- so the number of the body is that of its first field that is not read, and the place is that field's
-pub bad-number : (ks body : List ℕ) (i : ℕ) (a : FieldRead) → length ks ≤ 19 → isFault a ≡ true → Bad ks body i a
-    → (answerNumber (answerOf ks body) ≡ fieldNumber a) × (answerPlace (answerOf ks body) ≡ i + 1)
-bad-number ks body i a few h b = rw (bad-only ks body i a few h b) (fault-number (i + 1) a h)
+pub bad-number : (ks body : List ℕ) (i : ℕ) (a : FieldRead) → length ks ≤ 19 → tied 0 ks ≡ true → isFault a ≡ true → Bad ks body i (fieldNumber a)
+    → (answerNumber (answerOf ks body) ≡ fieldNumber a) × (answerPlace (answerOf ks body) ≡ suc i)
+bad-number ks body i a few ties h b = rw (bad-only ks body i a few ties h b) (fault-number (suc i) a h)
 
 -- a place is one more than an index
-pub bad-at : (ks body : List ℕ) (j : ℕ) (a : FieldRead) → isFault a ≡ true → answerOf ks body ≡ Refused (faultAt j a) → (i : ℕ) × (j ≡ i + 1) × Bad ks body i a
-bad-at ks body j a h e =
+pub bad-at : (ks body : List ℕ) (j : ℕ) (a : FieldRead) → tied 0 ks ≡ true → isFault a ≡ true → answerOf ks body ≡ Refused (faultAt j a)
+    → (i : ℕ) × (j ≡ suc i) × Bad ks body i (fieldNumber a)
+bad-at ks body j a ties h e =
     let s = parted ks body (Refused (faultAt j a)) e (fault-spacing j a h) in
-    let i = length (valuesFrom ks 0 0 (s .fields)) in
-    let x = fault-first 1 (s .trailing) ks 0 0 (s .fields) j a h (s .answer) in
-    let z : j ≡ i + 1 = omega (arith, x .0) in
-    (i, z, bad ks body i a h (e ∙ ap (λ n. Refused (faultAt n a)) z))
+    let (i, z, f) = fault-first (s .trailing) ks (s .fields) (s .count) ties j a h (s .answer) in (
+      i,
+      z,
+      record {
+        fields = s .fields;
+        trailing = s .trailing;
+        split = s .split;
+        text = fields-text body (s .fields) (s .trailing) (s .split) .0;
+        count = s .count;
+        first = f;
+      },
+    )

@@ -3,7 +3,7 @@ use mathlib.Core.Path.{_≡_, refl, sym, _∙_}
 use mathlib.Core.Bool.{Bool, true, false}
 use mathlib.Core.List.{List, [], _∷_, _++_}
 use Prim.Native.Char.{code}
-use Prim.Native.Nat.{ℕ, zero, suc, _-_, _≤_}
+use Prim.Native.Nat.{ℕ, zero, suc, _+_, _-_, _≤_}
 use native.Mathlib.Omega.{arith}
 use lib.Dec.{lit≤}
 use lib.ListN.{length, take, replicate, length-append}
@@ -14,11 +14,11 @@ use Rattle.table.specs.Spacing.{fieldsOf, fieldsIn, countOf}
 use Rattle.table.specs.declared.spacing.Counted.the-variants as counted
 use Rattle.table.proofs.SpacingLaws.{count-known}
 use Rattle.table.specs.Field.{plain, traceOf}
-use Rattle.table.specs.Read.{Ready, padded, answerOf, valuesOf, routeIn, routeOf}
+use Rattle.table.specs.Read.{Ready, padded, answerOf, valuesOf, routeIn, routeOf, routeFrom, routeAt}
 use Rattle.table.specs.declared.walk.Answer.the-variants.{Refused}
 use Rattle.table.specs.declared.walk.Fault.the-variants.{Spacing}
-use Rattle.table.proofs.WalkWays.{read-wrong, ready, route-no-kinds, route-no-fields, route-later}
-use Rattle.table.specs.Table.{tableOf, isCount, dotted, kindsOf, countIn, answerBy, valuesBy, routeBy}
+use Rattle.table.proofs.WalkWays.{read-wrong, ready, route-no-kinds, route-no-fields, route-later, start-no-kinds, start-no-fields, start-later}
+use Rattle.table.specs.Table.{tableOf, isCount, dotted, kindsOf, countIn, answerBy, valuesBy, routeBy, routeAtBy}
 use Rattle.table.proofs.Tables.{each-table, table-few}
 
 -- ---- a body read by as many kinds as it has fields
@@ -85,3 +85,19 @@ route-dots (k ∷ ks) n p (f ∷ fs) = rw (route-dots ks n (traceOf k f) fs)
 pub route-dotted : (t : MessageType) (s : List ℕ) → routeOf (dotted t) s ≡ routeBy t s
 unfolding dotted routeOf routeBy
 route-dotted t s = route-dots (tableOf t) (19 - length (tableOf t)) 0 (fieldsIn (fieldsOf s))
+
+dots-start : (n j p : ℕ) (fs : List (List ℕ)) → routeFrom j (replicate n (code ".")) p fs ≡ 0
+unfolding plain
+dots-start zero j p fs = start-no-kinds j p fs
+dots-start (suc n) j p [] = start-no-fields j (replicate (suc n) (code ".")) p
+dots-start (suc n) j p (f ∷ fs) = start-later (code ".") (replicate n (code ".")) p f fs (λ e. omega arith) j ∙ dots-start n (j + 1 + length f) (traceOf (code ".") f) fs
+
+start-dots : (ks : List ℕ) (n j p : ℕ) (fs : List (List ℕ)) → routeFrom j (ks ++ replicate n (code ".")) p fs ≡ routeFrom j ks p fs
+unfolding routeFrom
+start-dots [] n j p fs = dots-start n j p fs ∙ sym (start-no-kinds j p fs)
+start-dots (k ∷ ks) n j p [] = refl
+start-dots (k ∷ ks) n j p (f ∷ fs) = rw (start-dots ks n (j + 1 + length f) (traceOf k f) fs)
+
+pub start-dotted : (t : MessageType) (s : List ℕ) → routeAt (dotted t) s ≡ routeAtBy t s
+unfolding dotted routeAt routeAtBy
+start-dotted t s = start-dots (tableOf t) (19 - length (tableOf t)) 0 0 (fieldsIn (fieldsOf s))

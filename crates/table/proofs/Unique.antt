@@ -22,9 +22,9 @@ kinds-of-one κs a r r′ s s′ p q = p ∙ sym q
 pub read-one : (κs : _) (a : _) (r r′ : _) (s s′ : _) → read.Post κs a r s → read.Post κs a r′ s′ → (r .answer ≡ r′ .answer) × (r .values ≡ r′ .values)
 read-one κs a r r′ s s′ p q = (p .0 ∙ sym (q .0), p .1 ∙ sym (q .1))
 
--- the route is a part of the body: its bytes are those of one list
-pub route-one : (κs : _) (a : _) (r r′ : _) (s s′ : _) → route.Post κs a r s → route.Post κs a r′ s′ → now r ≡ now r′
-route-one κs a r r′ s s′ p q = p ∙ sym q
+-- the route is a part of the body: where it lies, and its bytes
+pub route-one : (κs : _) (a : _) (r r′ : _) (s s′ : _) → route.Post κs a r s → route.Post κs a r′ s′ → (r .ptr ≡ r′ .ptr) × (now r ≡ now r′)
+route-one κs a r r′ s s′ p q = (p .1 ∙ sym (q .1), p .0 ∙ sym (q .0))
 
 -- ---- counts
 

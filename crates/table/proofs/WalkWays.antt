@@ -1,6 +1,6 @@
 -- The ways of the functions that read a body by its kinds: a walk from field to field, one field that is read or at fault, the
 -- values in their nineteen places, the refusals, and the route. Assumes nothing.
-use mathlib.Core.Path.{_≡_, refl, sym, _∙_}
+use mathlib.Core.Path.{_≡_, refl, sym, ap, _∙_}
 use mathlib.Core.Bool.{Bool, true}
 use mathlib.Core.List.{List, [], _∷_}
 use mathlib.Core.Logic.{⊎-elim}
@@ -22,7 +22,7 @@ use Rattle.table.specs.declared.kinds.Value.{Value}
 use Rattle.table.specs.declared.kinds.FieldRead.{FieldRead}
 use Rattle.table.specs.declared.kinds.FieldRead.the-variants as field
 use Rattle.table.proofs.kinds.FieldRead.{the-type}
-use Rattle.table.specs.Read.{none, padded, more, valuesFrom, faultAt, orElse, answerFrom, counted, answers, values, answerOf, valuesOf, Ready, routeIn, routeOf}
+use Rattle.table.specs.Read.{none, padded, more, valuesFrom, faultAt, orElse, answerFrom, counted, answers, values, answerOf, valuesOf, Ready, routeIn, routeOf, routeFrom, routeAt, startsAt}
 use Rattle.table.specs.declared.walk.Answer.{Answer}
 use Rattle.table.specs.declared.walk.Answer.the-variants.{Taken, Refused}
 use Rattle.table.specs.declared.walk.Fault.the-variants.{Spacing}
@@ -155,6 +155,15 @@ unfolding routeIn
 route-no-fields [] p = refl
 route-no-fields (k ∷ ks) p = refl
 
+pub start-no-kinds : (j p : ℕ) (fs : List (List ℕ)) → routeFrom j [] p fs ≡ 0
+unfolding routeFrom
+start-no-kinds j p fs = refl
+
+pub start-no-fields : (j : ℕ) (ks : List ℕ) (p : ℕ) → routeFrom j ks p [] ≡ 0
+unfolding routeFrom
+start-no-fields j [] p = refl
+start-no-fields j (k ∷ ks) p = refl
+
 module _ (k : ℕ) (ks : List ℕ) (p : ℕ) (f : List ℕ) (fs : List (List ℕ)) where
   pub route-here : plain k p ≡ ROUTE → routeIn (k ∷ ks) p (f ∷ fs) ≡ f
   unfolding routeIn
@@ -164,6 +173,22 @@ module _ (k : ℕ) (ks : List ℕ) (p : ℕ) (f : List ℕ) (fs : List (List ℕ
   unfolding routeIn
   route-later e = rw (ne-eqb (plain k p) ROUTE e)
 
+  pub start-here : plain k p ≡ ROUTE → (j : ℕ) → routeFrom j (k ∷ ks) p (f ∷ fs) ≡ j + 1
+  unfolding routeFrom
+  start-here e j = rw (eq-eqb (plain k p) ROUTE e)
+
+  pub start-later : (plain k p ≡ ROUTE → ⊥) → (j : ℕ) → routeFrom j (k ∷ ks) p (f ∷ fs) ≡ routeFrom (j + 1 + length f) ks (traceOf k f) fs
+  unfolding routeFrom
+  start-later e j = rw (ne-eqb (plain k p) ROUTE e)
+
 pub route-wrong : (ks body : List ℕ) → countOf body ≡ counting.Wrong → [] ≡ routeOf ks body
 unfolding routeOf
 route-wrong ks body e = rw (count-wrong body e, route-no-fields)
+
+pub start-wrong : (ks body : List ℕ) → countOf body ≡ counting.Wrong → 0 ≡ routeAt ks body
+unfolding routeAt
+start-wrong ks body e = rw (count-wrong body e, start-no-fields)
+
+-- an empty part at the front of a text lies where the text does
+pub at-front : (s : ℕ × ℕ) {i : ℕ} → 0 ≡ i → s ≡ startsAt s i
+at-front s {i} e = let z : s .1 ≡ i + s .1 = omega arith in ap (λ (n : ℕ). (s .0, n)) z

@@ -1,25 +1,81 @@
--- The first field that is not read. Assumes nothing.
-use Prim.Native.Nat.{ℕ, _<_}
+-- WHAT IS WRONG WITH A FIELD (document 01, "Fields", "Answer numbers"): the case of each field of a body, told of the kinds of its table and the
+-- bytes of its fields alone, and the first field that is at fault. No reader stands in it; `proofs/FieldCases` shows that the reader answers by
+-- these cases. Assumes nothing.
+use Prim.Native.Char.{code}
+use Prim.Native.Nat.{ℕ, suc, _<_}
 use mathlib.Core.Path.{_≡_}
-use mathlib.Core.List.{List, [], _∷_}
-use lib.ListN.{length, take, getD}
-use Rattle.table.specs.Field.{readIn, traceOf, marksOf}
-use Rattle.table.specs.declared.kinds.FieldRead.{FieldRead}
-use Rattle.table.specs.Read.{valuesFrom}
+use mathlib.Core.Bool.{Bool, true, false, cond}
+use mathlib.Core.List.{List, [], List·Memᴰ}
+use lib.Dec.{eqb}
+use lib.ListN.{length, getD}
+use Rattle.rules.specs.Form.{isIdent, isTzIdent, isPosition, isRoute}
+use Rattle.rules.specs.Kind.{FIX, TIME, isForm}
+use Rattle.fields.specs.Aircraft as aircraft
+use Rattle.table.specs.FieldKind.{IDENT, TZ-IDENT, AIRCRAFT, ROUTE, PLAN-TIME, AMENDMENT, CONTENT}
+use Rattle.table.specs.Amends.{Amends, theEight}
 
--- what the fields leave for the next one, and the marks that are set after them
-unfoldable pub traceAfter : List ℕ → ℕ → List (List ℕ) → ℕ
-traceAfter [] p fs = p
-traceAfter (k ∷ ks) p [] = p
-traceAfter (k ∷ ks) p (f ∷ fs) = traceAfter ks (traceOf k f) fs
+-- the kind of the field i, and its bytes; the ident is the field 0
+abbrev pub kindAt : List ℕ → ℕ → ℕ
+kindAt ks i = getD ks i 0
 
-unfoldable pub marksAfter : List ℕ → ℕ → List (List ℕ) → ℕ
-marksAfter [] m fs = m
-marksAfter (k ∷ ks) m [] = m
-marksAfter (k ∷ ks) m (f ∷ fs) = marksAfter ks (marksOf k m f) fs
+abbrev pub fieldAt : List (List ℕ) → ℕ → List ℕ
+fieldAt fs i = getD fs i []
 
--- the field i is answered a, and all before it are read
-pub record First (ks : List ℕ) (p m : ℕ) (fs : List (List ℕ)) (i : ℕ) (a : FieldRead) : Type 0 where
-  pub inside : i < length ks
-  pub earlier : length (valuesFrom (take i ks) p m (take i fs)) ≡ i
-  pub here : readIn (getD ks i 0) (traceAfter (take i ks) p (take i fs)) (marksAfter (take i ks) m (take i fs)) (getD fs i []) ≡ a
+-- ---- a field by its form
+
+-- "Fields", line by line (rules/specs/Form); an aircraft goes by its readings
+unfoldable pub hasForm : ℕ → List ℕ → Bool
+hasForm k s = cond (eqb k IDENT) (isIdent s) (cond (eqb k TZ-IDENT) (isTzIdent s) (cond (eqb k ROUTE) (isRoute s) (isForm k s)))
+
+-- 0: a reading; 9: "a field without a reading"; 18: "an aircraft field with two different readings"
+pub data FormCase (k : ℕ) (s : List ℕ) : ℕ → Type 0 where
+  Readings : {n : ℕ} → k ≡ AIRCRAFT → aircraft.Case s n → FormCase k s n
+  Formed : (k ≡ AIRCRAFT → ⊥) → hasForm k s ≡ true → FormCase k s 0
+  Unformed : (k ≡ AIRCRAFT → ⊥) → hasForm k s ≡ false → FormCase k s 9
+
+-- ---- the fields of a body: ks are the kinds of its table, fs its fields
+
+module _ (ks : List ℕ) (fs : List (List ℕ)) where
+  -- the kind whose form the field i is to have; an amendment's number has none
+  pub data Asked (i : ℕ) : ℕ → Type 0 where
+    -- "a number .. and its content": the content that the number before it asks for
+    Content : (j : ℕ) → i ≡ suc j → kindAt ks i ≡ CONTENT → (a : Amends) → List·Memᴰ a theEight → a .number ≡ fieldAt fs j → Asked i (a .content)
+    -- the time of FZ and UZ
+    Time : kindAt ks i ≡ PLAN-TIME → Asked i TIME
+    -- any other: what the table says
+    Plain : (kindAt ks i ≡ CONTENT → ⊥) → (kindAt ks i ≡ PLAN-TIME → ⊥) → (kindAt ks i ≡ AMENDMENT → ⊥) → Asked i (kindAt ks i)
+
+  -- the field i is the time of an FZ or UZ, "it has E", and the fix before it is no position
+  pub record NoPosition (i : ℕ) : Type 0 where
+    pub time : kindAt ks i ≡ PLAN-TIME
+    pub has-E : getD (fieldAt fs i) 0 0 ≡ code "E"
+    pub fix : ℕ
+    pub before : i ≡ suc fix
+    pub is-fix : kindAt ks fix ≡ FIX
+    pub no-position : isPosition (fieldAt fs fix) ≡ false
+
+  -- the number in the field i stands in a number's field before it
+  pub record Came (i : ℕ) : Type 0 where
+    pub at : ℕ
+    pub earlier : at < i
+    pub number : kindAt ks at ≡ AMENDMENT
+    pub same : fieldAt fs at ≡ fieldAt fs i
+
+  -- FieldCase i n: the field i is in the case of the number n, 0 where nothing is wrong with it
+  pub data FieldCase (i : ℕ) : ℕ → Type 0 where
+    -- 0, 9, 18: by its form
+    ByForm : {k n : ℕ} → Asked i k → FormCase k (fieldAt fs i) n → (n ≡ 0 → NoPosition i → ⊥) → FieldCase i n
+    -- 9: "Of the E rule, the time's own form comes first"; then "the fix must be a position, else the time field is at fault"
+    ERule : FormCase TIME (fieldAt fs i) 0 → NoPosition i → FieldCase i 9
+    -- 10: "an AF number field that is none of the eight (never 9)"
+    NoneOfEight : kindAt ks i ≡ AMENDMENT → ((a : Amends) → List·Memᴰ a theEight → a .number ≡ fieldAt fs i → ⊥) → FieldCase i 10
+    -- 10: "or come twice"
+    Twice : kindAt ks i ≡ AMENDMENT → Came i → FieldCase i 10
+    -- 0: one of the eight, come for the first time
+    Fresh : kindAt ks i ≡ AMENDMENT → (a : Amends) → List·Memᴰ a theEight → a .number ≡ fieldAt fs i → (Came i → ⊥) → FieldCase i 0
+
+  -- "then fields from the left": nothing is wrong before the field i, which is in the case of n
+  pub record FirstFault (i n : ℕ) : Type 0 where
+    pub inside : i < length fs
+    pub before : (j : ℕ) → j < i → FieldCase j 0
+    pub here : FieldCase i n

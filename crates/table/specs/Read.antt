@@ -1,5 +1,5 @@
 -- A body read by a list of kinds: its answer, the values of its fields, and the route among them. Assumes nothing.
-use Prim.Native.Nat.{ℕ, suc, _-_, _≤_}
+use Prim.Native.Nat.{ℕ, suc, _+_, _-_, _≤_}
 use mathlib.Core.Path.{_≡_}
 use mathlib.Core.Bool.{Bool, cond, _&&_}
 use mathlib.Core.List.{List, [], _∷_, _++_}
@@ -119,3 +119,17 @@ routeIn (k ∷ ks) p (f ∷ fs) = cond (eqb (plain k p) ROUTE) f (routeIn ks (tr
 
 unfoldable pub routeOf : List ℕ → List ℕ → List ℕ
 routeOf ks body = routeIn ks 0 (fieldsIn (fieldsOf body))
+
+-- the index of its first byte in the body, each field standing after a space; j is where the fields that are left begin. 0 where there is none
+unfoldable pub routeFrom : ℕ → List ℕ → ℕ → List (List ℕ) → ℕ
+routeFrom j [] p fs = 0
+routeFrom j (k ∷ ks) p [] = 0
+routeFrom j (k ∷ ks) p (f ∷ fs) = cond (eqb (plain k p) ROUTE) (j + 1) (routeFrom (j + 1 + length f) ks (traceOf k f) fs)
+
+unfoldable pub routeAt : List ℕ → List ℕ → ℕ
+routeAt ks body = routeFrom 0 ks 0 (fieldsIn (fieldsOf body))
+
+-- "that part of the line, not a copy": where the part of a text lies that begins at its index i. s is where the text lies, a block of memory and
+-- a place in it
+abbrev pub startsAt : ℕ × ℕ → ℕ → ℕ × ℕ
+startsAt s i = (s .0, i + s .1)

@@ -18,7 +18,7 @@ use Rattle.table.specs.declared.walk.Fault.the-variants.{Spacing}
 use Rattle.table.specs.Amends.{markFor}
 use Rattle.table.specs.Field.{AMENDMENT, IDENT, TZ-IDENT, AIRCRAFT, ROUTE, PLAN-TIME, CONTENT}
 use Rattle.table.specs.Spacing.{fieldsOf, fieldsIn}
-use Rattle.table.specs.Read.{answerOf, valuesOf, routeOf}
+use Rattle.table.specs.Read.{answerOf, valuesOf, routeOf, routeAt}
 
 -- "an amendment is two fields: a number .. and its content"
 abbrev pub amendments : ℕ → List ℕ
@@ -88,6 +88,13 @@ valuesBy t s = cond (isCount t (countIn s)) (valuesOf (kindsOf t (countIn s)) s)
 unfoldable pub routeBy : MessageType → List ℕ → List ℕ
 routeBy t s = routeOf (tableOf t) s
 
+unfoldable pub routeAtBy : MessageType → List ℕ → ℕ
+routeAtBy t s = routeAt (tableOf t) s
+
 -- its free text: "RT, TO and HB bodies are kept whole"; of the others the route
 abbrev pub freeIn : MessageType → List ℕ → List ℕ
 freeIn t s = cond (hasFields t) (routeBy t s) s
+
+-- and the index of its first byte
+abbrev pub freeAtIn : MessageType → List ℕ → ℕ
+freeAtIn t s = cond (hasFields t) (routeAtBy t s) 0

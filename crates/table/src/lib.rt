@@ -12,8 +12,8 @@ use fields::heads::MessageType;
 use rules::LONGEST_PLAN;
 use rules::TYPE_AT;
 ghost use mathlib.Core.Path.{_≡_};
-ghost use Rattle.table.specs.Read.{padded};
-ghost use Rattle.table.specs.Table.{dotted, answerBy, valuesBy, routeBy, countWith, hasFields, hasRouteWith, isCount};
+ghost use Rattle.table.specs.Read.{padded, startsAt};
+ghost use Rattle.table.specs.Table.{dotted, answerBy, valuesBy, routeBy, routeAtBy, countWith, hasFields, hasRouteWith, isCount};
 ghost use lib.Count.{ones};
 ghost use Rattle.fields.specs.declared.heads.MessageType.the-variants as type;
 ghost use Rattle.table.specs.Plan.{isLongPlan};
@@ -75,6 +75,7 @@ pub fn read(t: MessageType, body: &[u8]) -> TableRead
 // The route among the fields of a type's body, as a part of it; an empty part where there is none.
 pub fn route(t: MessageType, body: &[u8]) -> &[u8]
     ensures { λ r. ⌜ now r ≡ routeBy t (now (body .entry)) ⌝ }
+    ensures { λ r. ⌜ r .ptr ≡ startsAt (body .entry .ptr) (routeAtBy t (now (body .entry))) ⌝ }
 {
     let all = kinds_of(t);
     walk::route(&all, body)

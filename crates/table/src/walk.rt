@@ -8,7 +8,7 @@ use crate::spacing;
 use crate::spacing::Counted;
 ghost use mathlib.Core.Path.{_≡_};
 ghost use mathlib.Core.List.{[]};
-ghost use Rattle.table.specs.Read.{Ready, padded, faultAt, answerOf, valuesOf, routeOf};
+ghost use Rattle.table.specs.Read.{Ready, padded, faultAt, answerOf, valuesOf, routeOf, routeAt, startsAt};
 ghost use Rattle.table.specs.declared.walk.Answer.the-variants.{Refused};
 ghost use Rattle.table.specs.declared.walk.Fault.the-variants.{Spacing};
 
@@ -93,6 +93,7 @@ pub(crate) fn read(kinds: &[u8], body: &[u8], trailing: bool) -> TableRead
 // The route among the fields, as a part of the body; an empty part where there is none.
 pub(crate) fn route<'a>(kinds: &[u8], body: &'a [u8]) -> &'a [u8]
     ensures { λ r. ⌜ now r ≡ routeOf (now (kinds .entry)) (now (body .entry)) ⌝ }
+    ensures { λ r. ⌜ r .ptr ≡ startsAt (body .entry .ptr) (routeAt (now (kinds .entry)) (now (body .entry))) ⌝ }
 {
     let Counted::Fields(n, _) = spacing::count(body) else {
         return &body[..0];

@@ -36,8 +36,8 @@ pub write-after-read : (κr : _) (ar : _) (r : _) (sr : _) → read.Post κr ar 
     now (af .0) ≡ line → r ≡ Read (aw .0) → now f ≡ now (aw .1 .0) → at + length line ≤ length out
     → (w ≡ Next (at + length line)) × (now (sw .1 .1 .0) ≡ spliced out at line)
 write-after-read κr ar r sr p κf af f sf q κw aw w sw v same is given fits =
-    let t = back (now (ar .0)) (now (aw .1 .0)) (now (aw .1 .1 .0)) (aw .1 .1 .1 .0) (aw .0) (sym (p .0) ∙ is) (sym given ∙ q ∙ ap freeOf same) fits in
-    (v .0 ∙ t .0, v .1 ∙ t .1)
+    let t = back (now (ar .0)) (now (aw .1 .0)) (now (aw .1 .1 .0)) (aw .1 .1 .1 .0) (aw .0) (sym (p .0) ∙ is) (sym given ∙ q .0 ∙ ap freeOf same) fits in
+    (v .0 ∙ t .0, v .1 .0 ∙ t .1)
 
 -- what was written, into any buffer and at any place, is read from the bytes that were written: the answer is exactly
 -- that message, and its free text is handed back
@@ -50,8 +50,8 @@ pub read-after-write : (κw : _) (aw : _) (w : _) (sw : _) → write.Post κw aw
 read-after-write κw aw w sw v κr ar r sr p κf af f sf q n took these those =
     let at = aw .1 .1 .1 .0 in
     let t = read-same (aw .0) (now (aw .1 .0)) (now (aw .1 .1 .0)) at n (sym (v .0) ∙ took) in
-    let e = ap (part at (n - at)) (v .1) in
-    (p .0 ∙ ap readOf (these ∙ e) ∙ t .0, q ∙ ap freeOf (those ∙ e) ∙ t .1)
+    let e = ap (part at (n - at)) (v .1 .0) in
+    (p .0 ∙ ap readOf (these ∙ e) ∙ t .0, q .0 ∙ ap freeOf (those ∙ e) ∙ t .1)
 
 -- a line is refused exactly if no allowed message has it as its text
 pub refused-call : (κs : _) (a : _) (r : _) (s : _) → read.Post κs a r s → let line = now (a .0) in

@@ -3,7 +3,7 @@
 use Prim.Native.Nat.{ℕ}
 use mathlib.Core.Bool.{true, false}
 use mathlib.Core.List.{[], _∷_}
-use mathlib.Core.Path.{_≡_, refl, _∙_}
+use mathlib.Core.Path.{_≡_, refl, ap, _∙_}
 use denote.Ref.{now}
 use lib.Count.{ones}
 use lib.ListN.{replicate}
@@ -13,11 +13,12 @@ use Rattle.text.specs.Code.{codeOf, byteOf}
 use Rattle.text.specs.Number.{isDigitTo, digitOf, isNumeral, numberOf}
 use Rattle.text.specs.Place.{value, places, digits, tight, allIn}
 use Rattle.text.specs.Text.{packed, textOf, isPacked, spliced, hasRoom, writtenNext, writtenBytes}
-use Rattle.text.specs.declared.Written.the-variants.{NoText}
+use Rattle.text.specs.declared.Written.the-variants.{Next, NoRoom, NoText}
 use Rattle.shapes.specs.Picture.{isOf, fits, fitsAny, oneOf, run, within}
 use Rattle.shapes.specs.Pieces.{pieces}
 use Rattle.rules.specs.Form.{isStamp}
 use Rattle.rules.specs.Kind.{isForm}
+use Rattle.fields.specs.Answer.{writeAnswer}
 use Rattle.fields.specs.Facility.{facilityText, isFacilityValue}
 use Rattle.fields.specs.Word.{isWord}
 use Rattle.fields.specs.Pair.{isPair, pairText}
@@ -32,6 +33,7 @@ use Rattle.messages.specs.declared.Amendment.{Amendment}
 use Rattle.messages.specs.declared.Body.the-variants as body
 use Rattle.messages.specs.declared.Message.{Message}
 use Rattle.line.specs.Line.{lineOf, isHead, hasSize, isAllowed}
+use Rattle.writer.specs.Cases.{placeAfter}
 use Rattle.writer.proofs.write.Reads as write
 
 -- document 01's starred heartbeat
@@ -50,13 +52,33 @@ pub a-byte-after-the-text : (κs : _) (a : _) (r : _) (s : _) → write.Post κs
     → a .0 ≡ heartbeat → now (a .1 .0) ≡ bytes " UP" → now (a .1 .1 .0) ≡ replicate 23 46 → a .1 .1 .1 .0 ≡ 1
     → now (s .1 .1 .0) ≡ bytes ".000006143655KZMAHB UP."
 unfolding writtenBytes hasRoom spliced isAllowed isHead hasSize lineOf isBody bodyText facilityText isFacilityValue isWhole isWord isForm isStamp isOf fits fitsAny oneOf pieces run within isPacked tight textOf packed value digits places codeOf byteOf all isDigit isLetter isAlnum isNumeral isDigitTo numberOf digitOf allIn
-a-byte-after-the-text κs a r s p e f g h = p .1 ∙ rw (e, f, g, h)
+a-byte-after-the-text κs a r s p e f g h = p .1 .0 ∙ rw (e, f, g, h)
 
 -- no line has a line feed in it: 16, and nothing is written, whatever the buffer and the place
 pub writes-before-it-refuses : (κs : _) (a : _) (r : _) (s : _) → write.Post κs a r s → a .0 ≡ heartbeat → now (a .1 .0) ≡ 10 ∷ []
     → (r ≡ NoText) × (now (s .1 .1 .0) ≡ now (a .1 .1 .0))
 unfolding writtenNext writtenBytes isAllowed isHead isBody facilityText isFacilityValue isWhole isWord isForm isStamp isOf fits fitsAny oneOf pieces run within isPacked tight textOf packed value digits places codeOf byteOf all isDigit isLetter isAlnum isNumeral isDigitTo numberOf digitOf allIn
-writes-before-it-refuses κs a r s p e f = (p .0 ∙ rw (e, f), p .1 ∙ rw (e, f))
+writes-before-it-refuses κs a r s p e f = (p .0 ∙ rw (e, f), p .1 .0 ∙ rw (e, f))
+
+-- "16, then 15": where no line has the values, that the buffer has no room is not told
+pub room-before-values : (κs : _) (a : _) (r : _) (s : _) → write.Post κs a r s → a .0 ≡ heartbeat → now (a .1 .0) ≡ 10 ∷ [] → now (a .1 .1 .0) ≡ [] → writeAnswer r ≡ 16
+room-before-values κs a r s p e f g = ap writeAnswer (writes-before-it-refuses κs a r s p e f .0)
+
+-- what the writer tells of the heartbeat, at a place and into a buffer; antt computes it
+told : (writtenNext (isAllowed heartbeat []) (lineOf heartbeat []) (replicate 18 46) 1 ≡ NoRoom) × (writtenBytes (isAllowed heartbeat []) (lineOf heartbeat []) (replicate 18 46) 1 ≡ replicate 18 46)
+    × (writtenNext (isAllowed heartbeat []) (lineOf heartbeat []) (replicate 19 46) 1 ≡ Next 19)
+unfolding writtenNext writtenBytes hasRoom isAllowed isHead hasSize lineOf isBody bodyText facilityText isFacilityValue isWhole isWord isForm isStamp isOf fits fitsAny oneOf pieces run within isPacked tight textOf packed value digits places codeOf byteOf all isDigit isLetter isAlnum isNumeral isDigitTo numberOf digitOf allIn
+told = (refl, refl, refl)
+
+-- 18 bytes from place 1 do not fit a buffer of 18: 15, and not a byte of them is written
+pub room-from-0 : (κs : _) (a : _) (r : _) (s : _) → write.Post κs a r s → a .0 ≡ heartbeat → now (a .1 .0) ≡ [] → now (a .1 .1 .0) ≡ replicate 18 46 → a .1 .1 .1 .0 ≡ 1
+    → (writeAnswer r ≡ 15) × (now (s .1 .1 .0) ≡ replicate 18 46)
+room-from-0 κs a r s p e f g h = let z : r ≡ NoRoom = p .0 ∙ rw (e, f, g, h) (told .0) in (ap writeAnswer z, p .1 .0 ∙ rw (e, f, g, h) (told .1))
+
+-- one of 19 they fit to its end: 0, and the place after them is 19
+pub next-is-the-length : (κs : _) (a : _) (r : _) (s : _) → write.Post κs a r s → a .0 ≡ heartbeat → now (a .1 .0) ≡ [] → now (a .1 .1 .0) ≡ replicate 19 46 → a .1 .1 .1 .0 ≡ 1
+    → (writeAnswer r ≡ 0) × (placeAfter r ≡ 19)
+next-is-the-length κs a r s p e f g h = let z : r ≡ Next 19 = p .0 ∙ rw (e, f, g, h) (told .2) in (ap writeAnswer z, ap placeAfter z)
 
 -- an AF that amends 08, with the set of marks m
 abbrev held : ℕ → ℕ → Amendment

@@ -6,4 +6,4 @@ use Rattle.writer.proofs.write.Reads as write
 
 -- the answer, and every byte of the buffer
 pub write-one : (κs : _) (a : _) (r r′ : _) (s s′ : _) → write.Post κs a r s → write.Post κs a r′ s′ → (r ≡ r′) × (now (s .1 .1 .0) ≡ now (s′ .1 .1 .0))
-write-one κs a r r′ s s′ p q = (p .0 ∙ sym (q .0), p .1 ∙ sym (q .1))
+write-one κs a r r′ s s′ p q = (p .0 ∙ sym (q .0), p .1 .0 ∙ sym (q .1 .0))

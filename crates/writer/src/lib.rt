@@ -28,8 +28,10 @@ ghost use Rattle.text.specs.Text.{spliced, writtenNext, writtenBytes};
 ghost use Rattle.table.specs.Field.{traceOf, shown};
 ghost use Rattle.messages.specs.Allowed.{bodyText};
 ghost use Rattle.line.specs.Line.{lineOf, isAllowed};
+ghost use Rattle.fields.specs.Answer.{writeAnswer};
 ghost use Rattle.writer.specs.Size.{fieldsText};
 ghost use Rattle.writer.specs.Asks.{FieldAsks, PutAsks, BodyAsks, LineAsks};
+ghost use Rattle.writer.specs.Cases.{placeAfter, WriteCase};
 
 // Where a field's text ends, and its trace for the next one.
 pub struct Put {
@@ -115,6 +117,7 @@ fn put_line(m: Message, free: &[u8], out: &mut [u8])
 pub fn write(m: Message, free: &[u8], out: &mut [u8], at: usize) -> Written
     ensures { λ r. ⌜ r ≡ writtenNext (isAllowed m (now (free .entry))) (lineOf m (now (free .entry))) (now (out .entry)) at ⌝ }
     ensures { λ _. ⌜ now (out .exit) ≡ writtenBytes (isAllowed m (now (free .entry))) (lineOf m (now (free .entry))) (now (out .entry)) at ⌝ }
+    ensures { λ r. ⌜ WriteCase m (now (free .entry)) (now (out .entry)) at (writeAnswer r) (placeAfter r) (now (out .exit)) ⌝ }
 {
     let Sized::Bytes(n) = size_line(m, free) else {
         return Written::NoText;

@@ -18,6 +18,7 @@ use Rattle.messages.specs.declared.Message.{Message}
 use Rattle.line.specs.Line.{lineOf, isAllowed}
 use Rattle.writer.proofs.LineSizes.{line-known, line-unknown}
 use Rattle.writer.specs.Asks.{LineAsks}
+use Rattle.writer.proofs.Cases.{in-write-case}
 use Rattle.writer.proofs.Puts.{restFrom, given}
 use borrow.Author.Needs.{needs}
 use Rattle.writer.proofs.write.Statement.{statement}
@@ -44,10 +45,10 @@ roomy : (c : tie.Else1) → let k = c .before .before in
 roomy c = leb-true _ _ (so (c .before .has-room .ensures) (c .if1 .left))
 
 returns : tie.Need-returns
-returns c = no-text _ _ _ (line-unknown _ _ (sym (c .before .before .size-line .ensures) ∙ c .enum-told .given .1))
+returns c = in-write-case _ _ _ _ (no-text _ _ _ (line-unknown _ _ (sym (c .before .before .size-line .ensures) ∙ c .enum-told .given .1)))
 
 returns-2 : tie.Need-returns-2
-returns-2 c = let k = known (c .before .before) in no-room-told _ _ _ (k .1) (c .before .has-room .ensures) (k .0) (c .if1 .taken)
+returns-2 c = let k = known (c .before .before) in in-write-case _ _ _ _ (no-room-told _ _ _ (k .1) (c .before .has-room .ensures) (k .0) (c .if1 .taken))
 
 sub-put-line : tie.Need-sub-put-line
 sub-put-line c = omega (arith, roomy c)
@@ -69,7 +70,7 @@ returns-3 c =
     let p = c .before .before in
     let e = p .before .before in
     let k = known (e .before .before) in
-    puts _ _ _ _ _ (k .0) (k .1) (roomy e) (p .put-line .ensures)
+    in-write-case _ _ _ _ (puts _ _ _ _ _ (k .0) (k .1) (roomy e) (p .put-line .ensures))
 
 pub write-spec : {M : Type 1} → statement M
 write-spec =
