@@ -9,7 +9,7 @@ fn print_case(name: &[u8]) {
         os::fail(name);
         return;
     }
-    desks::run(fd, name);
+    intake::run(fd, name);
     libc::close(fd);
 }
 
@@ -20,4 +20,5 @@ fn main() {
     print_case(b"4-full");
     print_case(b"5-damaged");
     print_case(b"6-order");
+    print_case(b"7-blocks");
 }

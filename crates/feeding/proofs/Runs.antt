@@ -19,8 +19,8 @@ use Rattle.planner.proofs.Theorems as planned
 use Rattle.cutter.specs.Feed.{Line, Whole, TooLong}
 use Rattle.cutter.specs.State.{isAllowed}
 use Rattle.cutter.specs.declared.Begun.{Begun}
-use Rattle.feeding.specs.Tally.{eventOf, rowsBy}
-use Rattle.feeding.specs.Fed.{linesFed, readIn, fedOf, boardFed, heldAfter, feedNumber}
+use Rattle.feeding.specs.Tally.{eventOf, rowsBy, takenBy}
+use Rattle.feeding.specs.Fed.{linesFed, readIn, fedWith, fedOf, boardFed, heldAfter, feedNumber}
 use Rattle.feeding.specs.declared.FeedAnswer.{FeedAnswer}
 use Rattle.feeding.specs.declared.FeedAnswer.the-variants.{Fed, NotAllowed}
 use Rattle.feeding.specs.Run.{historyFrom, Run, fresh, applied, struck, refused, fed}
@@ -54,15 +54,23 @@ unfolding historyFrom rowsBy
 lines-run h l [] p = rw (words-rows l (planned.run-rows p .0)) p
 lines-run h l (x ∷ ls) p = rw (← (next-rows h l p x)) (lines-run (h then eventOf x) (next h l p x) ls (one-more h l p x))
 
--- a call that is answered 0 has done so with the board
-fed-words : (l held : List ℕ) (begun : Begun) (most : ℕ) (part : List ℕ) → feedNumber (fedOf l held begun most part .answer) ≡ 0
-    → boardFed l held begun most part ≡ wordsOf (rowsBy (rowsOf l) (linesFed held begun (readIn most part)))
-unfolding fedOf boardFed
-fed-words l held begun most part e = go (isBoard l && isAllowed held begun) refl
-  where
-    go : (b : Bool) → (isBoard l && isAllowed held begun) ≡ b → boardFed l held begun most part ≡ wordsOf (rowsBy (rowsOf l) (linesFed held begun (readIn most part)))
-    go true q = rw q
-    go false q = let z : _≡_ {A = ℕ} 13 0 = rw q at e in absurd (omega arith)
+-- a call that is answered 0 found board and state allowed
+module _ (l held : List ℕ) (begun : Begun) (most : ℕ) (part : List ℕ) (e : feedNumber (fedOf l held begun most part .answer) ≡ 0) where
+  was-ready : (isBoard l && isAllowed held begun) ≡ true
+  unfolding fedOf
+  was-ready = go (isBoard l && isAllowed held begun) refl
+    where
+      go : (b : Bool) → (isBoard l && isAllowed held begun) ≡ b → (isBoard l && isAllowed held begun) ≡ true
+      go true q = q
+      go false q = let z : _≡_ {A = ℕ} 13 0 = rw q at e in absurd (omega arith)
+
+  fed-words : boardFed l held begun most part ≡ wordsOf (rowsBy (rowsOf l) (linesFed held begun (readIn most part)))
+  unfolding boardFed
+  fed-words = rw was-ready
+
+  pub fed-taken : fedOf l held begun most part .taken ≡ takenBy (rowsOf l) (linesFed held begun (readIn most part))
+  unfolding fedOf fedWith
+  fed-taken = rw was-ready
 
 -- ANY SUCH CALLS lead where calls of `apply` and `strike` alone do, with the same history
 pub as-applied : {h : History} {l : List ℕ} → Run h l → planner.Run h l

@@ -11,8 +11,8 @@ use Rattle.rules.specs.Kind.{SEQUENCE, STAMP}
 use Rattle.fields.specs.declared.words.Pair.{Pair}
 use Rattle.fields.specs.declared.words.Pair.the-variants as pair
 
--- a text without a reading: 4 a sequence number, 5 a stamp, 9 any other field of the kinds of rules/specs/Kind. (An AF's number is none of
--- these: a wrong one is answered 10, "never 9", and read by table/specs/Field.)
+-- a text without a reading: 4 a sequence number, 5 a stamp, 9 any other of the kinds of rules/specs/Kind (an AF's number, "never 9", is none
+-- of these)
 unfoldable pub refusal : ℕ → ℕ
 refusal k = cond (eqb k SEQUENCE) 4 (cond (eqb k STAMP) 5 9)
 

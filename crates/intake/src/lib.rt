@@ -1,6 +1,7 @@
 // The board printer's work: a feed read to its end in large blocks, and its report. Memory is fixed, whatever the feed.
 
 pub mod input;
+pub mod words;
 
 use crate::input::Input;
 use cutter::Begun;

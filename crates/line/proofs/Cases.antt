@@ -20,7 +20,7 @@ use Rattle.fields.specs.declared.heads.TypeRead.{TypeRead}
 use Rattle.fields.specs.declared.heads.TypeRead.the-variants as type
 use Rattle.fields.proofs.TypeLaws.{type-sound, type-complete}
 use Rattle.table.specs.declared.kinds.FieldRead.the-variants as field
-use Rattle.table.specs.Read.{padded}
+use Rattle.table.specs.Read.{padded, faultNumber, faultPlace}
 use Rattle.table.specs.declared.walk.Answer.{Answer}
 use Rattle.table.specs.declared.walk.Answer.the-variants as answer
 use Rattle.table.specs.declared.walk.Fault.{Fault}
@@ -29,11 +29,12 @@ use Rattle.table.specs.Table.{hasFields, answerBy, valuesBy}
 use Rattle.table.specs.Plan.{isLongPlan}
 use Rattle.table.proofs.CountWays.{each-type}
 use Rattle.messages.specs.declared.Message.{Message}
-use Rattle.messages.specs.Read.{typedOf, bodyRead}
+use Rattle.messages.specs.Read.{typedOf, bodyRead, bodyNumber}
 use Rattle.messages.specs.declared.typed.BodyRead.{BodyRead}
+use Rattle.messages.specs.declared.typed.BodyRead.the-variants as body
 use Rattle.messages.proofs.ReadWays.{by-table, kept-whole}
 use Rattle.line.specs.Cases.{Framed, Headed, Case, Taken, Short, Long, Unprintable, NoSequence, NoStamp, NoFacility, NoType, Spacing, Field, Number, LongPlan, Two}
-use Rattle.line.specs.Read.{headOf, withBody, restOf, byHead, readOf, faultNumber, faultPlace, refusalNumber, refusalPlace, lineNumber, linePlace, freeOf}
+use Rattle.line.specs.Read.{headOf, withBody, restOf, byHead, readOf, headNumber, refusalNumber, refusalPlace, lineNumber, linePlace, freeOf}
 use Rattle.line.specs.declared.Head.{Head}
 use Rattle.line.specs.declared.HeadRead.{HeadRead}
 use Rattle.line.specs.declared.HeadRead.the-variants as head
@@ -57,6 +58,15 @@ plan-type t n =
     (λ e. (refl, ltb-true longestPlan (n - typeAt) e)) (λ e. true-false e refl) (λ e. true-false e refl) (λ e. true-false e refl) (λ e. true-false e refl)
     (λ e. true-false e refl) (λ e. true-false e refl) t
 
+-- THE NUMBER of a line is that of its head where this is refused, else that of its body
+with-number : (h : Head) (b : BodyRead) → lineNumber (withBody h b) ≡ bodyNumber b
+with-number h (body.Read b t) = refl
+with-number h (body.Refused x) = refl
+
+head-number : (s : List ℕ) (h : HeadRead) → (headNumber h ≡ 0 → ⊥) → lineNumber (byHead s h) ≡ headNumber h
+head-number s (head.Read h) n = absurd (n refl)
+head-number s (head.Refused x) n = refl
+
 -- the head that a line with the type t reads as
 abbrev headFor : List ℕ → MessageType → Head
 headFor s t = record { sequence = record { 0 = packed (sequencePart s) }; stamp = record { 0 = packed (stampPart s) }; facility = record { 0 = value 256 4 (facilityPart s) }; kind = t }
@@ -66,6 +76,9 @@ headFor s t = record { sequence = record { 0 = packed (sequencePart s) }; stamp 
 module _ (s : List ℕ) where
   framed-reads : Framed s → {h : HeadRead} → headOf s ≡ h → byHead s h ≡ readOf s
   framed-reads f e = line-head s (f .enough) (f .few) (f .printable) e
+
+  pub framed-number : Framed s → (headNumber (headOf s) ≡ 0 → ⊥) → lineNumber (readOf s) ≡ headNumber (headOf s)
+  framed-number f n = ap lineNumber (sym (framed-reads f refl)) ∙ head-number s (headOf s) n
 
   no-sequence-reads : Framed s → isSequence (sequencePart s) ≡ false → read.Refused refusal.NoSequence ≡ readOf s
   unfolding headOf
@@ -94,6 +107,9 @@ module _ (s : List ℕ) where
     body-reads : isLongPlan t (length s) ≡ false → {r : BodyRead} → bodyRead t (bodyPart s) ≡ r → withBody (headFor s t) r ≡ readOf s
     unfolding restOf
     body-reads e {r} q = let z : withBody (headFor s t) r ≡ restOf (headFor s t) s = rw (e, q) in z ∙ headed-reads
+
+    pub headed-number : isLongPlan t (length s) ≡ false → lineNumber (readOf s) ≡ bodyNumber (bodyRead t (bodyPart s))
+    headed-number e = ap lineNumber (sym (body-reads e refl)) ∙ with-number (headFor s t) (bodyRead t (bodyPart s))
 
     table-reads : isLongPlan t (length s) ≡ false → hasFields t ≡ true → {a : Answer} → answerBy t (bodyPart s) ≡ a → withBody (headFor s t) (typedOf t (padded (valuesBy t (bodyPart s))) a) ≡ readOf s
     table-reads e h q = body-reads e (by-table t (bodyPart s) h ∙ ap (typedOf t (padded (valuesBy t (bodyPart s)))) q)

@@ -13,9 +13,8 @@ use Rattle.fields.specs.MessageType.{typeOf}
 use Rattle.fields.specs.declared.heads.TypeRead.{TypeRead}
 use Rattle.fields.specs.declared.heads.TypeRead.the-variants as type
 use Rattle.table.specs.Plan.{isLongPlan}
+use Rattle.table.specs.Read.{faultNumber, faultPlace}
 use Rattle.table.specs.Table.{freeIn}
-use Rattle.table.specs.declared.walk.Fault.{Fault}
-use Rattle.table.specs.declared.walk.Fault.the-variants.{Spacing, Field, Number, Two}
 use Rattle.messages.specs.Read.{bodyRead}
 use Rattle.messages.specs.declared.typed.BodyRead.{BodyRead}
 use Rattle.messages.specs.declared.typed.BodyRead.the-variants as body
@@ -57,18 +56,6 @@ unfoldable pub readOf : List ℕ → LineRead
 readOf s = cond (ltb (length s) headLength) (Refused Short) (cond (ltb longestLine (length s)) (Refused Long) (cond (allIn 32 126 s) (byHead s (headOf s)) (Refused Unprintable)))
 
 -- document 01's answer number, and the place that it gives; 0 where it gives none
-abbrev pub faultNumber : Fault → ℕ
-faultNumber Spacing = 8
-faultNumber (Field i) = 9
-faultNumber (Number i) = 10
-faultNumber (Two i) = 18
-
-abbrev pub faultPlace : Fault → ℕ
-faultPlace Spacing = 0
-faultPlace (Field i) = i
-faultPlace (Number i) = i
-faultPlace (Two i) = i
-
 abbrev pub refusalNumber : Refusal → ℕ
 refusalNumber Short = 1
 refusalNumber Long = 2
@@ -90,6 +77,11 @@ refusalPlace NoFacility = 0
 refusalPlace NoType = 0
 refusalPlace LongPlan = 0
 refusalPlace (Body x) = faultPlace x
+
+-- of a head alone
+abbrev pub headNumber : HeadRead → ℕ
+headNumber (head.Read h) = 0
+headNumber (head.Refused x) = refusalNumber x
 
 abbrev pub lineNumber : LineRead → ℕ
 lineNumber (Read m) = 0

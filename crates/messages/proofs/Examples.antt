@@ -62,7 +62,11 @@ numbered n v = record { mark = markOf (bytes n); content = v }
 
 -- "its content (ident, aircraft, filed speed, fix, time, level, level, route)", each number's by its own type: of the levels 08 is the assigned one
 -- and 09 the requested one (000)
-pub content-by-number : (κs : _) (a : _) (r : _) (s : _) → content.Post κs a r s → (v : Value) → (a .0 ≡ numbered "02" v → r ≡ amended.Ident (identIn v)) × (a .0 ≡ numbered "03" v → r ≡ amended.Aircraft (aircraftIn v)) × (a .0 ≡ numbered "05" v → r ≡ amended.Speed (record { 0 = v .a })) × (a .0 ≡ numbered "06" v → r ≡ amended.Fix (record { 0 = v .a })) × (a .0 ≡ numbered "07" v → r ≡ amended.Time (record { 0 = v .a })) × (a .0 ≡ numbered "08" v → r ≡ amended.Assigned (record { 0 = v .a })) × (a .0 ≡ numbered "09" v → r ≡ amended.Requested (record { 0 = v .a })) × (a .0 ≡ numbered "10" v → r ≡ amended.Route)
+pub content-by-number : (κs : _) (a : _) (r : _) (s : _) → content.Post κs a r s → (v : Value)
+    → (a .0 ≡ numbered "02" v → r ≡ amended.Ident (identIn v)) × (a .0 ≡ numbered "03" v → r ≡ amended.Aircraft (aircraftIn v))
+    × (a .0 ≡ numbered "05" v → r ≡ amended.Speed (record { 0 = v .a })) × (a .0 ≡ numbered "06" v → r ≡ amended.Fix (record { 0 = v .a }))
+    × (a .0 ≡ numbered "07" v → r ≡ amended.Time (record { 0 = v .a })) × (a .0 ≡ numbered "08" v → r ≡ amended.Assigned (record { 0 = v .a }))
+    × (a .0 ≡ numbered "09" v → r ≡ amended.Requested (record { 0 = v .a })) × (a .0 ≡ numbered "10" v → r ≡ amended.Route)
 unfolding amendedIn markOf
 content-by-number κs a r s p v = (on, on, on, on, on, on, on, on)
   where
@@ -158,7 +162,9 @@ refuses t s [] e = tt
 refuses t s (x ∷ l) e = ((λ p q. rw (p, q) (ap (λ bs. getD bs 0 (read.Refused fault.Spacing)) e)), refuses t s l (ap (drop 1) e))
 
 pub speeds-and-levels : (κs : _) (a : _) (r : _) (s : _) → read-body.Post κs a r s → Refuses (a .0) (now (a .1 .0)) r notHandedOn
-unfolding bodyRead answerBy valuesBy countIn kindsOf isCount answerOf answers answerFrom counted fieldsOf ended readIn readKind readMark barred plain traceOf marksOf contentOf follows markOf identOf tzIdentOf wordOf aircraftOf plainOf prefixedOf pairOf isPairForm isForm isKey isIdent isTzIdent isFix isTime isClock isPosition joins has before after upTo oneOf fitsAny fits pieces run isOf isAlnum isDigit isLetter all within isNumeral isDigitTo digitOf numberOf value codeOf
+unfolding bodyRead answerBy valuesBy countIn kindsOf isCount answerOf answers answerFrom counted fieldsOf ended readIn readKind readMark barred plain traceOf marksOf
+    contentOf follows markOf identOf tzIdentOf wordOf aircraftOf plainOf prefixedOf pairOf isPairForm isForm isKey isIdent isTzIdent isFix isTime isClock isPosition
+    joins has before after upTo oneOf fitsAny fits pieces run isOf isAlnum isDigit isLetter all within isNumeral isDigitTo digitOf numberOf value codeOf
 speeds-and-levels κs a r s p = rw p (refuses (a .0) (now (a .1 .0)) notHandedOn refl)
 
 -- ---- values

@@ -9,14 +9,16 @@ use lib.Count.{ones}
 use lib.ListN.{length, getD, take, drop, length-take}
 use lib.Seq.{drop-drop, getD-drop}
 use Rattle.text.proofs.Logic.{true-false}
-use Rattle.rules.specs.Kind.{POINT, AMENDMENT}
+use Rattle.rules.specs.Kind.{POINT}
 use Rattle.fields.specs.declared.heads.MessageType.{MessageType}
 use Rattle.table.specs.Spacing.{Fields, fieldsOf, fieldsIn}
-use Rattle.table.specs.Field.{IDENT, CONTENT, markText, isMark, contentOf, plain, traceOf, shownKind, shown}
+use Rattle.table.specs.Amends.{markText, isMark, contentOf}
+use Rattle.table.specs.FieldKind.{IDENT, AMENDMENT, CONTENT}
+use Rattle.table.specs.Field.{plain, traceOf, shownKind, shown}
 use Rattle.table.specs.declared.kinds.Value.{Value}
 use Rattle.table.specs.Show.{textsFrom, allowedFrom}
 use Rattle.table.specs.Table.{amendments, isCount, countWith, hasFields, kindsOf, countIn, routeBy, freeIn}
-use Rattle.table.proofs.MarkSets.{each-mark}
+use Rattle.table.proofs.Eight.{each-mark}
 use Rattle.messages.specs.Body.{amendedIn, heldFrom, typeIn, valueOfWord, valueOfIdent, slotsOf, pairsOf, slots, fieldCount, valuesIn}
 use Rattle.messages.specs.Allowed.{kindsIn}
 use Rattle.messages.specs.Named.{Part, numberText, contentText, amendmentParts, named, Stand, placesFrom, AreFields}
@@ -54,7 +56,8 @@ shown-content : (p : ℕ) (r : List ℕ) (v : Value) → shown CONTENT p r v ≡
 unfolding shown plain
 shown-content p r v = refl
 
-amendments-texts : (j n p m : ℕ) (r : List ℕ) (xs : List Amendment) → allowedFrom (amendments j) p m r (pairsOf xs) ≡ true → textsFrom (amendments j) p r (pairsOf xs) ≡ texts (amendmentParts n r xs)
+amendments-texts : (j n p m : ℕ) (r : List ℕ) (xs : List Amendment) → allowedFrom (amendments j) p m r (pairsOf xs) ≡ true
+    → textsFrom (amendments j) p r (pairsOf xs) ≡ texts (amendmentParts n r xs)
 unfolding textsFrom allowedFrom
 amendments-texts zero n p m r [] e = refl
 amendments-texts zero n p m r (x ∷ xs) e = true-false e refl
@@ -84,9 +87,13 @@ af-texts a o r xs e =
     let w = amendments-texts o 1 _ _ r xs (allowed-rest POINT (amendments o) _ _ r t (pairsOf xs) u) in
     λ z. shownKind IDENT r i ∷ shownKind POINT r f ∷ shownKind POINT r t ∷ w z
 
-named-texts : (b : Body) (r : List ℕ) → isCount (typeIn b) (fieldCount b) ≡ true → allowedFrom (kindsIn b) 0 0 r (valuesIn b) ≡ true → textsFrom (kindsIn b) 0 r (valuesIn b) ≡ texts (named b r)
+-- the texts of values by their kinds are those of the parts ps, where the values are allowed
+abbrev Texts : List Part → List ℕ → List ℕ → List Value → Type 0
+Texts ps r ks vs = allowedFrom ks 0 0 r vs ≡ true → textsFrom ks 0 r vs ≡ texts ps
+
+named-texts : (b : Body) (r : List ℕ) → isCount (typeIn b) (fieldCount b) ≡ true → Texts (named b r) r (kindsIn b) (valuesIn b)
 unfolding named textsFrom shown shownKind plain kindsIn kindsOf valuesIn fieldCount countWith slots
-named-texts (body.Af a) r c e =
+named-texts (body.Af a) r c =
     let o = ones (a .marks) in
     let n : 3 + 2 * o ≡ suc (suc (suc (double o))) = omega (arith, double-is o) in
     let l : o ≤ 8 = omega (arith, count-pairs (3 + 2 * o) c .1) in
@@ -94,21 +101,19 @@ named-texts (body.Af a) r c e =
     let f = valueOfWord (a .from .0) in
     let t = valueOfWord (a .to .0) in
     let w = named (body.Af a) r in
-    let x = subst (λ (vs : List Value). allowedFrom (IDENT ∷ POINT ∷ POINT ∷ amendments o) 0 0 r (i ∷ f ∷ t ∷ vs) ≡ true → textsFrom (IDENT ∷ POINT ∷ POINT ∷ amendments o) 0 r (i ∷ f ∷ t ∷ vs) ≡ texts w)
-    (sym (take-pairs o (slotsOf a))) (af-texts a o r (take o (slotsOf a))) in
-    let y = subst (λ (ks : List ℕ). allowedFrom (IDENT ∷ POINT ∷ POINT ∷ ks) 0 0 r (i ∷ f ∷ t ∷ take (double o) (pairsOf (slotsOf a))) ≡ true → textsFrom (IDENT ∷ POINT ∷ POINT ∷ ks) 0 r (i ∷ f ∷ t ∷ take (double o) (pairsOf (slotsOf a))) ≡ texts w)
-    (sym (take-amendments o 8 l)) x in
-    subst (λ (k : ℕ). allowedFrom (take k (IDENT ∷ POINT ∷ POINT ∷ amendments 8)) 0 0 r (take k (i ∷ f ∷ t ∷ pairsOf (slotsOf a))) ≡ true → textsFrom (take k (IDENT ∷ POINT ∷ POINT ∷ amendments 8)) 0 r (take k (i ∷ f ∷ t ∷ pairsOf (slotsOf a))) ≡ texts w)
-    (sym n) y e
-named-texts (body.Az m) r c e = refl
-named-texts (body.Dz m) r c e = refl
-named-texts (body.Fz p) r c e = refl
-named-texts (body.Rz m) r c e = refl
-named-texts (body.Tz m) r c e = refl
-named-texts (body.Uz p) r c e = refl
-named-texts body.Rt r c e = refl
-named-texts body.To r c e = refl
-named-texts body.Hb r c e = refl
+    let ps = pairsOf (slotsOf a) in
+    let x = subst (λ (vs : List Value). Texts w r (IDENT ∷ POINT ∷ POINT ∷ amendments o) (i ∷ f ∷ t ∷ vs)) (sym (take-pairs o (slotsOf a))) (af-texts a o r (take o (slotsOf a))) in
+    let y = subst (λ (ks : List ℕ). Texts w r (IDENT ∷ POINT ∷ POINT ∷ ks) (i ∷ f ∷ t ∷ take (double o) ps)) (sym (take-amendments o 8 l)) x in
+    subst (λ (k : ℕ). Texts w r (take k (IDENT ∷ POINT ∷ POINT ∷ amendments 8)) (take k (i ∷ f ∷ t ∷ ps))) (sym n) y
+named-texts (body.Az m) r c = λ e. refl
+named-texts (body.Dz m) r c = λ e. refl
+named-texts (body.Fz p) r c = λ e. refl
+named-texts (body.Rz m) r c = λ e. refl
+named-texts (body.Tz m) r c = λ e. refl
+named-texts (body.Uz p) r c = λ e. refl
+named-texts body.Rt r c = λ e. refl
+named-texts body.To r c = λ e. refl
+named-texts body.Hb r c = λ e. refl
 
 -- ---- the places are 1, 2 and so on
 
@@ -161,6 +166,7 @@ body-named t s b u f e =
     let r = routeBy t s in
     let h = fields-held t s b u (sym (by-table t s f) ∙ e) in
     let c = counted b r u (h .good) in
-    let x : fieldsOf s ≡ Fields (texts (named b r)) u = sym (ap fieldsOf (h .text)) ∙ parts b r u (h .good) .2 ∙ ap (λ (fs : List (List ℕ)). Fields fs u) (named-texts b r c (allowed b r u (h .good))) in
+    let w = named-texts b r c (allowed b r u (h .good)) in
+    let x : fieldsOf s ≡ Fields (texts (named b r)) u = sym (ap fieldsOf (h .text)) ∙ parts b r u (h .good) .2 ∙ ap (λ (fs : List (List ℕ)). Fields fs u) w in
     let p : places (named b r) ≡ placesFrom 1 (countIn s) = named-places b r c ∙ ap (placesFrom 1) (h .fields) in
     (h .type, rw f (record { stand = stand-from s 0 (countIn s) (named b r) (ap fieldsIn x) p; every = p }))

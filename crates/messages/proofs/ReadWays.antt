@@ -1,14 +1,21 @@
--- The ways of `read_body`: a body by the table, or kept whole. Assumes nothing.
-use mathlib.Core.Path.{_≡_}
+-- The ways of `read_body`: a body by the table, or kept whole; document 01's number of each. Assumes nothing.
+use mathlib.Core.Path.{_≡_, refl}
 use mathlib.Core.Bool.{true, false}
 use mathlib.Core.List.{List, []}
 use Prim.Native.Nat.{ℕ}
 use Rattle.fields.specs.declared.heads.MessageType.{MessageType}
-use Rattle.table.specs.Read.{padded}
+use Rattle.table.specs.declared.kinds.Value.{Value}
+use Rattle.table.specs.declared.walk.Answer.{Answer}
+use Rattle.table.specs.declared.walk.Answer.the-variants as answer
+use Rattle.table.specs.Read.{padded, answerNumber}
 use Rattle.table.specs.Table.{hasFields, answerBy, valuesBy}
 use Rattle.messages.specs.Body.{bodyFrom}
-use Rattle.messages.specs.Read.{typedOf, bodyRead}
+use Rattle.messages.specs.Read.{typedOf, bodyRead, bodyNumber}
 use Rattle.messages.specs.declared.typed.BodyRead.the-variants as read
+
+typed-number : (t : MessageType) (w : List Value) (a : Answer) → bodyNumber (typedOf t w a) ≡ answerNumber a
+typed-number t w (answer.Taken u m) = refl
+typed-number t w (answer.Refused x) = refl
 
 module _ (t : MessageType) (s : List ℕ) where
   pub by-table : hasFields t ≡ true → bodyRead t s ≡ typedOf t (padded (valuesBy t s)) (answerBy t s)
@@ -18,3 +25,10 @@ module _ (t : MessageType) (s : List ℕ) where
   pub kept-whole : hasFields t ≡ false → bodyRead t s ≡ read.Read (bodyFrom t 0 (padded [])) false
   unfolding bodyRead
   kept-whole e = rw e
+
+  -- THE NUMBER of a body is the table's answer to it, and 0 where it is kept whole
+  pub table-number : hasFields t ≡ true → bodyNumber (bodyRead t s) ≡ answerNumber (answerBy t s)
+  table-number e = rw (by-table e) (typed-number t (padded (valuesBy t s)) (answerBy t s))
+
+  pub whole-number : hasFields t ≡ false → bodyNumber (bodyRead t s) ≡ 0
+  whole-number e = rw (kept-whole e)

@@ -57,12 +57,16 @@ amendmentParts n r (x ∷ xs) = at (2 * n + 2) (numberText (amendedIn x)) ∷ at
 
 -- "FZ, UZ: ident, aircraft, filed speed, fix, time, level, route"
 abbrev pub planParts : Plan → List ℕ → List Part
-planParts p r = at 1 (identText (p .ident)) ∷ at 2 (aircraftText (p .aircraft)) ∷ at 3 (textOf (p .speed .0)) ∷ at 4 (textOf (p .fix .0)) ∷ at 5 (textOf (p .time .0)) ∷ at 6 (textOf (p .level .0)) ∷ at 7 r ∷ []
+planParts p r =
+    at 1 (identText (p .ident)) ∷ at 2 (aircraftText (p .aircraft)) ∷ at 3 (textOf (p .speed .0)) ∷
+    at 4 (textOf (p .fix .0)) ∷ at 5 (textOf (p .time .0)) ∷ at 6 (textOf (p .level .0)) ∷ at 7 r ∷ []
 
 -- the table; of an AF as many amendments as marks are set. RT, TO and HB have no fields
 unfoldable pub named : Body → List ℕ → List Part
 named (body.Az m) r = at 1 (identText (m .ident)) ∷ at 2 (textOf (m .from .0)) ∷ at 3 (textOf (m .to .0)) ∷ at 4 (textOf (m .clock .0)) ∷ []
-named (body.Dz m) r = at 1 (identText (m .ident)) ∷ at 2 (aircraftText (m .aircraft)) ∷ at 3 (textOf (m .from .0)) ∷ at 4 (textOf (m .time .0)) ∷ at 5 (textOf (m .to .0)) ∷ at 6 (textOf (m .clock .0)) ∷ []
+named (body.Dz m) r =
+    at 1 (identText (m .ident)) ∷ at 2 (aircraftText (m .aircraft)) ∷ at 3 (textOf (m .from .0)) ∷
+    at 4 (textOf (m .time .0)) ∷ at 5 (textOf (m .to .0)) ∷ at 6 (textOf (m .clock .0)) ∷ []
 named (body.Rz m) r = at 1 (identText (m .ident)) ∷ at 2 (textOf (m .from .0)) ∷ at 3 (textOf (m .to .0)) ∷ []
 named (body.Tz m) r = at 1 (identText (m .ident)) ∷ at 2 (textOf (m .speed .0)) ∷ at 3 (textOf (m .level .0)) ∷ at 4 (textOf (m .position .0)) ∷ []
 named (body.Fz p) r = planParts p r

@@ -14,7 +14,7 @@ use Rattle.line.specs.declared.LineRead.{LineRead}
 use Rattle.line.specs.declared.LineRead.the-variants as read
 use Rattle.line.specs.declared.Refusal.{Refusal}
 use Rattle.line.proofs.Cases.{case-of, case-only}
-use Rattle.planner.specs.Asked.{askedIn, askedBy, askedFrom, askedOf}
+use Rattle.planner.specs.Asked.{askedIn, askedBy, askedFrom, askedOf, askedNumber, askedPlace}
 use Rattle.planner.specs.declared.asks.Asked.{Asked}
 use Rattle.planner.specs.declared.asks.Asked.the-variants.{Dz, Az, Tz, Other, Refused}
 
@@ -54,6 +54,17 @@ module _ (s : List ℕ) where
   -- a refusal has the number and the place of the line's own answer
   pub asks-number : (x : Refusal) → askedOf s ≡ Refused x → (refusalNumber x ≡ lineNumber (readOf s)) × (refusalPlace x ≡ linePlace (readOf s))
   asks-number x e = let p = asks-read (Refused x) e in (ap lineNumber p, ap linePlace p)
+
+  -- THE NUMBER AND THE PLACE of what is asked are the line's own
+  pub asked-number : (askedNumber (askedOf s) ≡ lineNumber (readOf s)) × (askedPlace (askedOf s) ≡ linePlace (readOf s))
+  asked-number = go (askedOf s) (asks-read (askedOf s) refl)
+    where
+      go : (a : Asked) → By (readOf s) a → (askedNumber a ≡ lineNumber (readOf s)) × (askedPlace a ≡ linePlace (readOf s))
+      go (Refused x) p = (ap lineNumber p, ap linePlace p)
+      go (Dz k a) (m, e) = (rw e, rw e)
+      go (Az k a) (m, e) = (rw e, rw e)
+      go (Tz k t) (m, e) = (rw e, rw e)
+      go Other (m, e) = (rw e, rw e)
 
   -- what is refused is not read
   pub refused-unread : (x : Refusal) → askedOf s ≡ Refused x → (m : Message) → readOf s ≡ read.Read m → ⊥

@@ -96,15 +96,17 @@ word-short k t e = text-short t (word-packed k t e)
 abbrev azBody : ℕ → Arrival → Body
 azBody k a = body.Az (record { ident = record { key = record { 0 = k }; number = record { 0 = 0 } }; from = a .departure; to = a .destination; clock = a .clock })
 
-az-body : (k : ℕ) (a : Arrival) → isPair KEY NUMBER k 0 ≡ true → isWord POINT (a .departure .0) ≡ true → isWord POINT (a .destination .0) ≡ true → isWord ARRIVAL (a .clock .0) ≡ true → isBody (azBody k a) [] false ≡ true
-unfolding isBody isFielded isWhole hasRoute kindsIn kindsOf valuesIn spare fieldCount countWith slots isCount allowedFrom marksFrom isValue isKindValue plain follows marksOf isOne isTwo
-az-body k a i f t c = rw (i, f, t, c)
+module _ (k : ℕ) (a : Arrival) (i : isPair KEY NUMBER k 0 ≡ true) (f : isWord POINT (a .departure .0) ≡ true) (t : isWord POINT (a .destination .0) ≡ true)
+    (c : isWord ARRIVAL (a .clock .0) ≡ true) where
+  az-body : isBody (azBody k a) [] false ≡ true
+  unfolding isBody isFielded isWhole hasRoute kindsIn kindsOf valuesIn spare fieldCount countWith slots isCount allowedFrom marksFrom isValue isKindValue plain follows marksOf isOne isTwo
+  az-body = rw (i, f, t, c)
 
-az-short : (k : ℕ) (a : Arrival) → isPair KEY NUMBER k 0 ≡ true → isWord POINT (a .departure .0) ≡ true → isWord POINT (a .destination .0) ≡ true → isWord ARRIVAL (a .clock .0) ≡ true → length (bodyText (azBody k a) [] false) ≤ 1000
-unfolding bodyText isWhole kindsIn kindsOf valuesIn fieldCount countWith slots textsFrom shown shownKind plain bodyOf
-az-short k a i f t c =
-    simp length-append
-    (omega (arith, ident-short k 0 i, word-short POINT (a .departure .0) f, word-short POINT (a .destination .0) t, word-short ARRIVAL (a .clock .0) c))
+  az-short : length (bodyText (azBody k a) [] false) ≤ 1000
+  unfolding bodyText isWhole kindsIn kindsOf valuesIn fieldCount countWith slots textsFrom shown shownKind plain bodyOf
+  az-short =
+      simp length-append
+      (omega (arith, ident-short k 0 i, word-short POINT (a .departure .0) f, word-short POINT (a .destination .0) t, word-short ARRIVAL (a .clock .0) c))
 
 -- ---- the TZ of a key and a track: "in TZ the number is required"
 
@@ -121,7 +123,8 @@ number-some = let h = form-held NUMBER (bytes "101") number-made in ne-eqb some-
 abbrev tzBody : ℕ → Track → Body
 tzBody k t = body.Tz (record { ident = record { key = record { 0 = k }; number = record { 0 = some-number } }; speed = t .speed; level = t .level; position = t .position })
 
-module _ (k : ℕ) (t : Track) (i : isPair KEY NUMBER k some-number ≡ true) (g : isWord GROUND-SPEED (t .speed .0) ≡ true) (l : isWord TRACK-LEVEL (t .level .0) ≡ true) (p : isWord POSITION (t .position .0) ≡ true) where
+module _ (k : ℕ) (t : Track) (i : isPair KEY NUMBER k some-number ≡ true) (g : isWord GROUND-SPEED (t .speed .0) ≡ true)
+    (l : isWord TRACK-LEVEL (t .level .0) ≡ true) (p : isWord POSITION (t .position .0) ≡ true) where
   tz-body : isBody (tzBody k t) [] false ≡ true
   unfolding isBody isFielded isWhole hasRoute kindsIn kindsOf valuesIn spare fieldCount countWith slots isCount allowedFrom marksFrom isValue isKindValue plain follows marksOf isOne isTwo
   tz-body = rw (i, number-some, g, l, p)
@@ -187,7 +190,12 @@ unfolding isForm isKey isOf run all isAlnum isDigit isLetter
 some-key = form-word KEY (bytes "AA") refl
 
 abbrev some-arrival : Arrival
-some-arrival = record { departure = record { 0 = packed (bytes "AA") }; destination = record { 0 = packed (bytes "AA") }; clock = record { 0 = packed (bytes "0000") }; stamp = record { 0 = packed (bytes "01000000") } }
+some-arrival = record {
+  departure = record { 0 = packed (bytes "AA") };
+  destination = record { 0 = packed (bytes "AA") };
+  clock = record { 0 = packed (bytes "0000") };
+  stamp = record { 0 = packed (bytes "01000000") };
+}
 
 some-allowed : isArrival (arrival.Entry some-arrival) ≡ true
 unfolding isArrival isForm isArrivalText isClock isStamp isOf fits run within isNumeral isDigitTo digitOf numberOf value codeOf all isAlnum isDigit isLetter

@@ -9,7 +9,7 @@ use Rattle.messages.specs.declared.Dz.{Dz as Message-Dz}
 use Rattle.messages.specs.declared.Tz.{Tz as Message-Tz}
 use Rattle.messages.specs.declared.Body.{Body}
 use Rattle.messages.specs.declared.Body.the-variants as body
-use Rattle.line.specs.Read.{readOf}
+use Rattle.line.specs.Read.{readOf, refusalNumber, refusalPlace}
 use Rattle.line.specs.declared.LineRead.{LineRead}
 use Rattle.line.specs.declared.LineRead.the-variants as read
 use Rattle.planner.specs.declared.asks.Asked.{Asked}
@@ -44,6 +44,21 @@ askedBy m = askedIn (m .stamp) (m .body)
 abbrev pub askedFrom : LineRead → Asked
 askedFrom (read.Read m) = askedBy m
 askedFrom (read.Refused x) = Refused x
+
+-- document 01's number and place of what is asked: the line's own, 0 for a line that is read
+abbrev pub askedNumber : Asked → ℕ
+askedNumber (Dz k a) = 0
+askedNumber (Az k a) = 0
+askedNumber (Tz k t) = 0
+askedNumber Other = 0
+askedNumber (Refused x) = refusalNumber x
+
+abbrev pub askedPlace : Asked → ℕ
+askedPlace (Dz k a) = 0
+askedPlace (Az k a) = 0
+askedPlace (Tz k t) = 0
+askedPlace Other = 0
+askedPlace (Refused x) = refusalPlace x
 
 unfoldable pub askedOf : List ℕ → Asked
 askedOf s = askedFrom (readOf s)

@@ -1,19 +1,24 @@
 -- DEMAND 3 OF THE BOARD THAT IS PRINTED: the calls that read a feed in its parts are a run of calls, and its history is that of the feed's lines. Assumes nothing.
 use mathlib.Core.Path.{_≡_, refl, sym, ap, _∙_, subst}
 use mathlib.Core.List.{List, [], _∷_, _++_}
-use Prim.Native.Nat.{ℕ, _-_}
+use Prim.Native.Nat.{ℕ, _+_, _-_}
+use Rattle.board.specs.Board.{rowsOf}
 use Rattle.history.specs.Events.{History, start, _then_}
+use Rattle.history.specs.Promise.{Taken}
 use Rattle.planner.specs.Run.{OfCalls}
+use Rattle.planner.proofs.Theorems.{run-rows}
 use Rattle.cutter.specs.Feed.{Line, allButLast, textsOf, linesOf}
 use Rattle.cutter.specs.declared.Begun.{Begun}
 use Rattle.shapes.specs.Pieces.{pieces}
-use Rattle.feeding.specs.Tally.{eventOf}
-use Rattle.feeding.specs.Fed.{readIn, linesFed, fedWith, feedNumber}
+use Rattle.feeding.specs.Tally.{eventOf, takenBy}
+use Rattle.feeding.specs.Fed.{readIn, linesFed, fedWith, feedNumber, Feeds}
+use Rattle.feeding.specs.declared.AfterFeed.{AfterFeed}
 use Rattle.feeding.specs.Run.{historyFrom, Run, fresh, fed}
 use Rattle.feeding.proofs.Turns.{fed-ready}
-use Rattle.feeding.proofs.Runs.{all-calls}
+use Rattle.feeding.proofs.Runs.{as-applied, all-calls, fed-taken}
 use Rattle.reports.specs.Run.{Read, begin, go-on}
-use Rattle.reports.specs.Taken.{historyOf}
+use Rattle.reports.specs.Taken.{historyOf, CountTaken}
+use Rattle.reports.proofs.Taken.{counted-from}
 use Rattle.reports.proofs.Joins.{read-empty, read-then}
 use Rattle.reports.proofs.Theorems.{read-stands, lines-both}
 
@@ -42,3 +47,11 @@ read-run limit (go-on {feed} {board} {held} {begun} {lines} {taken} {r} {board�
 pub read-calls : (limit : ℕ) {feed board held : List ℕ} {begun : Begun} {lines taken : ℕ} → Read limit feed board held begun lines taken
     → OfCalls (historyOf (linesOf (readIn limit feed))) board
 read-calls limit {feed} {board} p = all-calls (historyOf (linesOf (readIn limit feed))) board (read-run limit p)
+
+-- AND THE LINES THAT A CALL OF `feed` COUNTS AS TAKEN, after any calls, are those that demand 3 calls taken
+pub fed-counted : {h : History} {l : List ℕ} → Run h l → (held held′ : List ℕ) (begun : Begun) (most : ℕ) (part : List ℕ) (r : AfterFeed) (l′ : List ℕ)
+    → Feeds l held begun most part r l′ held′ → feedNumber (r .answer) ≡ 0
+    → (n : ℕ) → CountTaken Taken h n → CountTaken Taken (historyFrom h (linesFed held begun (readIn most part))) (n + r .taken)
+fed-counted {h} {l} p held held′ begun most part r l′ c e n k =
+    let t : r .taken ≡ takenBy (rowsOf l) (linesFed held begun (readIn most part)) = ap (λ (x : AfterFeed). x .taken) (c .result) ∙ fed-taken l held begun most part (rw (← (c .result)) e) in
+    rw (t, run-rows (as-applied p) .1) (counted-from h n (linesFed held begun (readIn most part)) k)

@@ -27,7 +27,7 @@ not-took Refused z e = let y : _≡_ {A = ℕ} 0 1 = cc in omega arith
 not-took NoRoom z e = let y : _≡_ {A = ℕ} 0 1 = cc in omega arith
 not-took NotListed z e = let y : _≡_ {A = ℕ} 0 1 = cc in omega arith
 
-counted-from : (h : History) (n : ℕ) (ls : List Line) → CountTaken Taken h n → CountTaken Taken (historyFrom h ls) (n + takenBy (after h) ls)
+pub counted-from : (h : History) (n : ℕ) (ls : List Line) → CountTaken Taken h n → CountTaken Taken (historyFrom h ls) (n + takenBy (after h) ls)
 unfolding takenBy after historyFrom
 counted-from h n [] c = let z : n + 0 ≡ n = omega arith in rw z c
 counted-from h n (l ∷ ls) c = go (answer (after h) (eventOf l)) refl (counted-from (h then eventOf l) (suc n) ls) (counted-from (h then eventOf l) n ls)

@@ -75,7 +75,8 @@ abbrev at : ℕ → Amends
 at i = getD theEight i noAmends
 
 -- what is so of each is so of all
-pub each-eight : (X : Amends → Type 0) → X (at 0) → X (at 1) → X (at 2) → X (at 3) → X (at 4) → X (at 5) → X (at 6) → X (at 7) → (a : Amends) → List·Memᴰ a theEight → X a
+pub each-eight : (X : Amends → Type 0) → X (at 0) → X (at 1) → X (at 2) → X (at 3) → X (at 4) → X (at 5) → X (at 6) → X (at 7)
+    → (a : Amends) → List·Memᴰ a theEight → X a
 each-eight X x₀ x₁ x₂ x₃ x₄ x₅ x₆ x₇ a m =
     one x₀ (one x₁ (one x₂ (one x₃ (one x₄ (one x₅ (one x₆ (one x₇ (λ n. absurd (List·Memᴰ·not-nil n))))))))) m
   where
@@ -137,12 +138,15 @@ pub mark-some : (m : ℕ) → isMark m ≡ true → eqb m 0 ≡ false
 mark-some = each-mark (λ m. eqb m 0 ≡ false) refl refl refl refl refl refl refl refl
 
 -- a test that holds of the eight numbers holds of the number of every mark
-pub each-text : (f : List ℕ → Bool) → f (bytes "02") ≡ true → f (bytes "03") ≡ true → f (bytes "05") ≡ true → f (bytes "06") ≡ true → f (bytes "07") ≡ true → f (bytes "08") ≡ true → f (bytes "09") ≡ true → f (bytes "10") ≡ true → (m : ℕ) → isMark m ≡ true → f (markText m) ≡ true
+pub each-text : (f : List ℕ → Bool) → f (bytes "02") ≡ true → f (bytes "03") ≡ true → f (bytes "05") ≡ true
+    → f (bytes "06") ≡ true → f (bytes "07") ≡ true → f (bytes "08") ≡ true → f (bytes "09") ≡ true → f (bytes "10") ≡ true
+    → (m : ℕ) → isMark m ≡ true → f (markText m) ≡ true
 unfolding markText
 each-text f = each-mark (λ m. f (markText m) ≡ true)
 
 -- what is none of the eight marks is no mark
-pub not-mark : (m : ℕ) → (m ≡ 1 → ⊥) → (m ≡ 2 → ⊥) → (m ≡ 4 → ⊥) → (m ≡ 8 → ⊥) → (m ≡ 16 → ⊥) → (m ≡ 32 → ⊥) → (m ≡ 64 → ⊥) → (m ≡ 128 → ⊥) → isMark m ≡ false
+pub not-mark : (m : ℕ) → (m ≡ 1 → ⊥) → (m ≡ 2 → ⊥) → (m ≡ 4 → ⊥) → (m ≡ 8 → ⊥)
+    → (m ≡ 16 → ⊥) → (m ≡ 32 → ⊥) → (m ≡ 64 → ⊥) → (m ≡ 128 → ⊥) → isMark m ≡ false
 not-mark m n₁ n₂ n₄ n₈ n₁₆ n₃₂ n₆₄ n₁₂₈ =
     not-holds (isMark m) (λ e. each-mark (λ k. m ≡ k → ⊥) n₁ n₂ n₄ n₈ n₁₆ n₃₂ n₆₄ n₁₂₈ m e refl)
 

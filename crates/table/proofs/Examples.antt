@@ -220,7 +220,8 @@ Asks t k (n ∷ ns) [] = Unit {0}
 Asks t k (n ∷ ns) (c ∷ cs) = (t ≡ bytes n → k ≡ c) × Asks t k ns cs
 
 -- what a number leaves, and what is read after it: 06 asks for a fix and 07 for a time, not the other way round
-pub number-asks : (κs : _) (x : _) (m : _) (s : _) → trace-read.Post κs (AMENDMENT, (x, tt)) m s → (κs′ : _) (k : _) (s′ : _) → plain-read.Post κs′ (CONTENT, (m, tt)) k s′ → Asks (now x) k numbers contents
+pub number-asks : (κs : _) (x : _) (m : _) (s : _) → trace-read.Post κs (AMENDMENT, (x, tt)) m s
+    → (κs′ : _) (k : _) (s′ : _) → plain-read.Post κs′ (CONTENT, (m, tt)) k s′ → Asks (now x) k numbers contents
 unfolding plain contentOf traceOf markOf
 number-asks κs x m s p κs′ k s′ q = (on, (on, (on, (on, (on, (on, (on, (on, tt))))))))
   where

@@ -7,6 +7,7 @@ use Prim.Native.Nat.{ℕ}
 use native.Mathlib.Omega.{arith}
 use lib.ListN.{length, getD}
 use borrow.Author.Tests.{ne-eqb}
+use Rattle.text.specs.Bytes.{bytes}
 use Rattle.table.specs.Amends.{Amends, markOf}
 use Rattle.table.proofs.Eight.{zero-mark, each-eight}
 
@@ -26,37 +27,11 @@ two-bytes (a ∷ []) t e p q = absurd (omega arith)
 two-bytes (a ∷ b ∷ []) t e p q = rw (p, q) t
 two-bytes (a ∷ b ∷ c ∷ s) t e p q = absurd (omega arith)
 
-pub is-02 : 1 ≡ markOf (code "0" ∷ code "2" ∷ [])
+-- the marks of the eight, as the code has them
+pub marks : (1 ≡ markOf (bytes "02")) × (2 ≡ markOf (bytes "03")) × (4 ≡ markOf (bytes "05")) × (8 ≡ markOf (bytes "06"))
+    × (16 ≡ markOf (bytes "07")) × (32 ≡ markOf (bytes "08")) × (64 ≡ markOf (bytes "09")) × (128 ≡ markOf (bytes "10"))
 unfolding markOf
-is-02 = refl
-
-pub is-03 : 2 ≡ markOf (code "0" ∷ code "3" ∷ [])
-unfolding markOf
-is-03 = refl
-
-pub is-05 : 4 ≡ markOf (code "0" ∷ code "5" ∷ [])
-unfolding markOf
-is-05 = refl
-
-pub is-06 : 8 ≡ markOf (code "0" ∷ code "6" ∷ [])
-unfolding markOf
-is-06 = refl
-
-pub is-07 : 16 ≡ markOf (code "0" ∷ code "7" ∷ [])
-unfolding markOf
-is-07 = refl
-
-pub is-08 : 32 ≡ markOf (code "0" ∷ code "8" ∷ [])
-unfolding markOf
-is-08 = refl
-
-pub is-09 : 64 ≡ markOf (code "0" ∷ code "9" ∷ [])
-unfolding markOf
-is-09 = refl
-
-pub is-10 : 128 ≡ markOf (code "1" ∷ code "0" ∷ [])
-unfolding markOf
-is-10 = refl
+marks = (refl, refl, refl, refl, refl, refl, refl, refl)
 
 -- after a 1 no byte but 0 makes a number, after a 0 none but seven, and after any other byte none
 pub is-no-10 : {b : ℕ} → (b ≡ code "0" → ⊥) → 0 ≡ markOf (code "1" ∷ b ∷ [])

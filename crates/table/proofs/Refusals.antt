@@ -13,7 +13,7 @@ use Rattle.table.specs.Field.{readIn, traceOf, marksOf}
 use Rattle.table.specs.declared.kinds.FieldRead.{FieldRead}
 use Rattle.table.specs.declared.kinds.FieldRead.the-variants as field
 use Rattle.table.specs.Fault.{traceAfter, marksAfter, First}
-use Rattle.table.specs.Read.{more, valuesFrom, faultAt, orElse, answerFrom, counted, answers, answerOf}
+use Rattle.table.specs.Read.{more, valuesFrom, faultAt, orElse, answerFrom, counted, answers, answerOf, fieldNumber, faultNumber, faultPlace, answerNumber, answerPlace}
 use Rattle.table.specs.declared.walk.Answer.{Answer}
 use Rattle.table.specs.declared.walk.Answer.the-variants.{Refused}
 use Rattle.table.specs.declared.walk.Fault.the-variants.{Spacing, Field, Number, Two}
@@ -57,6 +57,13 @@ isFault (field.Read v) = false
 isFault field.Nothing = true
 isFault field.Number = true
 isFault field.Two = true
+
+-- A FAULT AT A FIELD has the number of the field's answer, and its place
+pub fault-number : (i : ℕ) (a : FieldRead) → isFault a ≡ true → (faultNumber (faultAt i a) ≡ fieldNumber a) × (faultPlace (faultAt i a) ≡ i)
+fault-number i field.Nothing h = (refl, refl)
+fault-number i field.Number h = (refl, refl)
+fault-number i field.Two h = (refl, refl)
+fault-number i (field.Read v) h = true-false h refl
 
 -- two faults are one only with one place
 fault-same : (n j : ℕ) (a b : FieldRead) → isFault a ≡ true → isFault b ≡ true → Refused (faultAt n b) ≡ Refused (faultAt j a) → (j ≡ n) × (b ≡ a)
@@ -160,6 +167,11 @@ unfolding answerOf answers
 bad-only ks body i a few h b =
     let z : i + 1 ≡ 1 + i = omega arith in
     rw (b .split, counted-is ks (b .fields) (b .count) few, z) (first-fault 1 (b .trailing) ks 0 0 (b .fields) i a h (b .count) (b .first))
+
+-- so the number of the body is that of its first field that is not read, and the place is that field's
+pub bad-number : (ks body : List ℕ) (i : ℕ) (a : FieldRead) → length ks ≤ 19 → isFault a ≡ true → Bad ks body i a
+    → (answerNumber (answerOf ks body) ≡ fieldNumber a) × (answerPlace (answerOf ks body) ≡ i + 1)
+bad-number ks body i a few h b = rw (bad-only ks body i a few h b) (fault-number (i + 1) a h)
 
 -- a place is one more than an index
 pub bad-at : (ks body : List ℕ) (j : ℕ) (a : FieldRead) → isFault a ≡ true → answerOf ks body ≡ Refused (faultAt j a) → (i : ℕ) × (j ≡ i + 1) × Bad ks body i a

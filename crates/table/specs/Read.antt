@@ -81,6 +81,35 @@ pub record Ready (ks body : List ℕ) (trailing : Bool) : Type 0 where
   pub count : length (fieldsIn (fieldsOf body)) ≡ length ks
   pub few : length ks ≤ 19
 
+-- ---- document 01's numbers, and the place that it gives; 0 where it gives none
+
+-- of one field: 9, 10, 18
+abbrev pub fieldNumber : FieldRead → ℕ
+fieldNumber (field.Read v) = 0
+fieldNumber field.Nothing = 9
+fieldNumber field.Number = 10
+fieldNumber field.Two = 18
+
+abbrev pub faultNumber : Fault → ℕ
+faultNumber Spacing = 8
+faultNumber (Field i) = 9
+faultNumber (Number i) = 10
+faultNumber (Two i) = 18
+
+abbrev pub faultPlace : Fault → ℕ
+faultPlace Spacing = 0
+faultPlace (Field i) = i
+faultPlace (Number i) = i
+faultPlace (Two i) = i
+
+abbrev pub answerNumber : Answer → ℕ
+answerNumber (Taken t m) = 0
+answerNumber (Refused x) = faultNumber x
+
+abbrev pub answerPlace : Answer → ℕ
+answerPlace (Taken t m) = 0
+answerPlace (Refused x) = faultPlace x
+
 -- ---- the route: the first field that is read as one
 
 unfoldable pub routeIn : List ℕ → ℕ → List (List ℕ) → List ℕ
