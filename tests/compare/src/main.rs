@@ -247,3 +247,16 @@ fn lessen(pair: &Pair, feed: &[u8]) -> io::Result<Vec<u8>> {
     }
     Ok(lines.concat())
 }
+
+#[cfg(test)]
+mod tests {
+    use super::*;
+
+    /// What stands beside `readings` as its expected output is what the reference lists for its input.
+    #[test]
+    fn the_recorded_readings() {
+        let folder = Path::new(env!("CARGO_MANIFEST_DIR")).join("../../crates/readings");
+        let feed = fs::read(folder.join("stdin")).unwrap();
+        assert!(fs::read(folder.join("stdout")).unwrap() == list(&feed));
+    }
+}
