@@ -38,7 +38,10 @@ fn take(word: &[u8]) {
         return print_standard_input();
     }
     if is_option(word) {
-        return say(word, b"no such option; 'flights --help' names what there is");
+        return say(
+            word,
+            b"no such option; 'flights --help' names what there is",
+        );
     }
     print_file(word);
 }
