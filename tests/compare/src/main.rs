@@ -18,6 +18,8 @@ mod fields;
 mod lines;
 mod once;
 mod program;
+#[cfg(test)]
+mod recorded;
 mod states;
 mod tally;
 mod values;
@@ -246,17 +248,4 @@ fn lessen(pair: &Pair, feed: &[u8]) -> io::Result<Vec<u8>> {
         }
     }
     Ok(lines.concat())
-}
-
-#[cfg(test)]
-mod tests {
-    use super::*;
-
-    /// What stands beside `readings` as its expected output is what the reference lists for its input.
-    #[test]
-    fn the_recorded_readings() {
-        let folder = Path::new(env!("CARGO_MANIFEST_DIR")).join("../../crates/readings");
-        let feed = fs::read(folder.join("stdin")).unwrap();
-        assert!(fs::read(folder.join("stdout")).unwrap() == list(&feed));
-    }
 }
