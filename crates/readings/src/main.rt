@@ -1,5 +1,5 @@
 // The known readings of document 01 and the sample lines of sources 003 and 000: of each line its answer number and place, and of one
-// that reads its type, its flight's key if it has one, and whether writing what was read gives the same bytes.
+// that reads its type, its flight's key if it has one, whether writing what was read gives the same bytes, and the values of its fields.
 use libc::STDIN_FILENO;
 use libc::STDOUT_FILENO;
 use line::LineRead;
@@ -7,9 +7,14 @@ use line::Refusal;
 use line::free;
 use line::read;
 use messages::Message;
+use messages::marks_in;
 use messages::type_in;
 use messages::values::values_in;
 use rules::LONGEST_LINE;
+use table::field_count;
+use table::kinds::AMENDMENT;
+use table::kinds::Value;
+use table::kinds_of;
 use table::walk::Fault;
 use text::Written;
 use text::writing;
@@ -45,18 +50,51 @@ fn refuse(number: u64, place: usize) {
     answer(number, place, b"\n");
 }
 
-// The key of the flight, after a space, where there is one.
-fn say_key(key: u64) {
-    if key == 0 {
+// A part of a value after a space or a comma: its text, or a hyphen where there is none.
+fn say_part(before: u8, part: u64) {
+    let mut room = [0u8; 13];
+    room[0] = before;
+    if part == 0 {
+        room[1] = b'-';
+        say(&room[..2]);
         return;
     }
-    let mut room = [0u8; 13];
-    room[0] = b' ';
-    let written = writing::put(key, &mut room, 1);
+    let written = writing::put(part, &mut room, 1);
     let Written::Next(n) = written else {
         return;
     };
     say(&room[..n]);
+}
+
+// The key of the flight, after a space, where there is one.
+fn say_key(key: u64) {
+    if key != 0 {
+        say_part(b' ', key);
+    }
+}
+
+// The value of a field of this kind, as its three parts; an amendment's number is kept as its mark, and shown as that.
+fn say_value(kind: u8, v: Value) {
+    if kind == AMENDMENT {
+        say(b" #");
+        io::print_decimal(STDOUT_FILENO, v.a);
+    } else {
+        say_part(b' ', v.a);
+    }
+    say_part(b',', v.b);
+    say_part(b',', v.c);
+}
+
+// The values of the first `count` fields.
+fn say_values(kinds: [u8; 19], values: [Value; 19], count: usize) {
+    let mut k: usize = 0;
+    while k < 19 {
+        if k >= count {
+            return;
+        }
+        say_value(kinds[k], values[k]);
+        k += 1;
+    }
 }
 
 fn writes_same(m: Message, line: &[u8]) -> bool {
@@ -79,10 +117,12 @@ fn show(m: Message, line: &[u8]) {
     let values = values_in(body);
     say_key(values[0].a);
     if writes_same(m, line) {
-        say(b" same\n");
+        say(b" same");
     } else {
-        say(b" differs\n");
+        say(b" differs");
     }
+    say_values(kinds_of(kind), values, field_count(kind, marks_in(body)));
+    say(b"\n");
 }
 
 fn show_fault(fault: Fault) {

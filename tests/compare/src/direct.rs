@@ -4,7 +4,7 @@
 use crate::calls::{Answer, Case, CALLS};
 use crate::cases::case;
 use crate::chance::Chance;
-use crate::program::run;
+use crate::program::{run, Program};
 use std::collections::BTreeMap;
 use std::fs;
 use std::io;
@@ -18,6 +18,11 @@ type Tally = BTreeMap<(usize, u8), u64>;
 
 /// Compares case after case. Whether there was no difference.
 pub fn compare(proved: &Path, folder: &Path, seed: u64, cases: u64) -> io::Result<bool> {
+    let program = Program {
+        proved,
+        name: "damage",
+        words: &[],
+    };
     let mut seeds = Chance::of_seed(seed);
     let mut tally = Tally::new();
     let mut done = 0;
@@ -28,12 +33,12 @@ pub fn compare(proved: &Path, folder: &Path, seed: u64, cases: u64) -> io::Resul
             .collect();
         let answers: Vec<Answer> = made.iter().map(Case::answer).collect();
         let input: Vec<u8> = made.iter().flat_map(Case::bytes).collect();
-        let printed = run(proved, "damage", &input, &[input.len()])?;
+        let printed = run(&program, &input, &[input.len()])?;
         let mut rest = &printed.text[..];
         for (index, (case, answer)) in made.iter().zip(&answers).enumerate() {
             let Some(after) = rest.strip_prefix(&answer.bytes[..]) else {
                 println!("case {} differs", done + index as u64 + 1);
-                show(proved, folder, case, answer)?;
+                show(&program, folder, case, answer)?;
                 return Ok(false);
             };
             rest = after;
@@ -58,9 +63,9 @@ pub fn compare(proved: &Path, folder: &Path, seed: u64, cases: u64) -> io::Resul
 }
 
 /// Keeps a case that differs and what is expected, and shows the first byte that differs.
-fn show(proved: &Path, folder: &Path, case: &Case, answer: &Answer) -> io::Result<()> {
+fn show(program: &Program, folder: &Path, case: &Case, answer: &Answer) -> io::Result<()> {
     let bytes = case.bytes();
-    let got = run(proved, "damage", &bytes, &[bytes.len()])?;
+    let got = run(program, &bytes, &[bytes.len()])?;
     if let Some(status) = got.bad_end {
         println!("the program ended badly: {status}");
     }

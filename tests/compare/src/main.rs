@@ -2,7 +2,8 @@
 //! programs and to the reference until so many lines were compared, then so many calls on random
 //! boards, states and values, and shows the first difference. It is started by the script `run`
 //! beside this folder. `compare record FOLDER` writes the cases that stand beside `damage`, and
-//! `compare once NAME SEED BYTES FOLDER` one feed, or cases, for a program, with the expected output.
+//! `compare once NAME SEED BYTES FOLDER [WORD..]` one feed, or cases, for a program that is given these
+//! words, with the expected output.
 
 #![forbid(unsafe_code)]
 
@@ -17,13 +18,15 @@ mod fields;
 mod lines;
 mod once;
 mod program;
+#[cfg(test)]
+mod recorded;
 mod states;
 mod tally;
 mod values;
 
 use chance::Chance;
-use program::{parts, run, Printed};
-use reference::print::{list, report, MOST_LINES};
+use program::{parts, run, Printed, Program};
+use reference::print::{check, list, report, MOST_LINES};
 use std::env;
 use std::fs;
 use std::io;
@@ -38,36 +41,49 @@ const CASES: u64 = 20_000;
 const RECORDED: u64 = 1;
 const RECORDED_OF_EACH: usize = 2;
 
-/// What is compared: a program, by the script that runs it and its name, and what the reference
-/// prints for the same feed.
+/// What is compared: a program, and what the reference prints for the same feed.
 struct Pair<'a> {
-    proved: &'a Path,
-    name: &'static str,
+    program: Program<'a>,
     reference: fn(&[u8]) -> Vec<u8>,
     /// The longest feed that the program takes.
     most: usize,
 }
 
-/// The board printer, and the program that lists the answer and the place of each line.
-fn pairs(proved: &Path) -> [Pair<'_>; 2] {
+/// The board printer; the program that lists of each line the answer, the place and the values; and the
+/// desk's check, of all lines and of those that are refused.
+fn pairs(proved: &Path) -> [Pair<'_>; 4] {
+    let program = |name, words| Program {
+        proved,
+        name,
+        words,
+    };
     [
         Pair {
-            proved,
-            name: "flights",
+            program: program("flights", &[]),
             reference: |feed| report(feed, MOST_LINES),
             most: usize::MAX,
         },
         Pair {
-            proved,
-            name: "readings",
+            program: program("readings", &[]),
             reference: list,
             most: 131_072,
+        },
+        Pair {
+            program: program("desk", &["check"]),
+            reference: |feed| check(feed, false),
+            most: usize::MAX,
+        },
+        Pair {
+            program: program("desk", &["check", "--refused"]),
+            reference: |feed| check(feed, true),
+            most: usize::MAX,
         },
     ]
 }
 
-fn pair_of<'a>(proved: &'a Path, name: &str) -> Option<Pair<'a>> {
-    pairs(proved).into_iter().find(|pair| pair.name == name)
+fn pair_of<'a>(proved: &'a Path, name: &str, words: &[&str]) -> Option<Pair<'a>> {
+    let same = |pair: &Pair| pair.program.name == name && pair.program.words == words;
+    pairs(proved).into_iter().find(same)
 }
 
 fn main() -> ExitCode {
@@ -92,10 +108,12 @@ fn asked(arguments: &[String]) -> io::Result<bool> {
             fs::write(Path::new(folder).join("stdout"), written)?;
             Ok(true)
         }
-        [what, name, seed, bytes, folder] if what == "once" => {
+        [what, name, seed, bytes, folder, words @ ..] if what == "once" => {
             let number = |text: &String| text.parse::<u64>().map_err(|_| usage());
+            let words: Vec<&str> = words.iter().map(String::as_str).collect();
             once::write(
                 name,
+                &words,
                 number(seed)?,
                 number(bytes)? as usize,
                 Path::new(folder),
@@ -130,22 +148,22 @@ fn compare(proved: &Path, folder: &Path, seed: u64, lines: u64) -> io::Result<bo
         let parts = parts(&mut chance, &feed);
         tally.count(&feed);
         for pair in pairs.iter().filter(|pair| feed.len() <= pair.most) {
-            let printed = run(pair.proved, pair.name, &feed, &parts)?;
+            let printed = run(&pair.program, &feed, &parts)?;
             let expected = (pair.reference)(&feed);
             if differs(&printed, &expected) {
-                println!("feed {} differs in {}", tally.feeds, pair.name);
+                println!("feed {} differs in {}", tally.feeds, pair.program);
                 show(&printed, &expected);
                 keep(pair, folder, &feed)?;
                 return Ok(false);
             }
-            if pair.name == "readings" {
+            if pair.program.name == "readings" {
                 listed += expected.iter().filter(|&&byte| byte == b'\n').count() as u64;
             }
         }
     }
     tally.print();
     println!(
-        "compared {} feeds, {} lines, {} taken, {listed} with number and place: no difference",
+        "compared {} feeds, {} lines, {} taken, {listed} with their values: no difference",
         tally.feeds,
         tally.lines,
         tally.taken()
@@ -208,7 +226,7 @@ fn keep(pair: &Pair, folder: &Path, feed: &[u8]) -> io::Result<()> {
 
 /// Whether a feed differs when it is given in one part.
 fn differs_whole(pair: &Pair, feed: &[u8]) -> io::Result<bool> {
-    let printed = run(pair.proved, pair.name, feed, &[feed.len()])?;
+    let printed = run(&pair.program, feed, &[feed.len()])?;
     Ok(differs(&printed, &(pair.reference)(feed)))
 }
 

@@ -20,13 +20,14 @@ fn feed(seed: u64, bytes: usize) -> Vec<u8> {
     feed
 }
 
-/// Writes `stdin` and `stdout` of a program into a folder. `damage` gets a case of each call and number.
-pub fn write(name: &str, seed: u64, bytes: usize, folder: &Path) -> io::Result<()> {
+/// Writes `stdin` and `stdout` of a program with these words into a folder, and the words, a line each, as
+/// its `args`. `damage` gets a case of each call and number.
+pub fn write(name: &str, words: &[&str], seed: u64, bytes: usize, folder: &Path) -> io::Result<()> {
     let (read, written) = if name == "damage" {
         direct::record(seed, 1)
     } else {
-        let pair = pair_of(Path::new(""), name)
-            .ok_or_else(|| io::Error::other(format!("no program {name}")))?;
+        let pair = pair_of(Path::new(""), name, words)
+            .ok_or_else(|| io::Error::other(format!("no program {name} {}", words.join(" "))))?;
         let feed = feed(seed, bytes.min(pair.most));
         let report = (pair.reference)(&feed);
         (feed, report)
@@ -36,6 +37,33 @@ pub fn write(name: &str, seed: u64, bytes: usize, folder: &Path) -> io::Result<(
         read.len(),
         written.len()
     );
+    if !words.is_empty() {
+        fs::write(folder.join("args"), words.join("\n") + "\n")?;
+    }
     fs::write(folder.join("stdin"), read)?;
     fs::write(folder.join("stdout"), written)
+}
+
+#[cfg(test)]
+mod tests {
+    use super::*;
+    use reference::print::check;
+
+    /// A program with words gets these, a line each, and what the reference answers to them.
+    #[test]
+    fn a_program_with_words() {
+        let folder = std::env::temp_dir().join(format!("compare-once-{}", std::process::id()));
+        fs::create_dir_all(&folder).unwrap();
+        let part = |name: &str| fs::read(folder.join(name)).unwrap();
+        write("readings", &[], 3, 5_000, &folder).unwrap();
+        assert!(!folder.join("args").exists());
+        for (words, refused_only) in [(&["check"][..], false), (&["check", "--refused"], true)] {
+            write("desk", words, 3, 20_000, &folder).unwrap();
+            assert_eq!(part("args"), (words.join("\n") + "\n").as_bytes());
+            assert_eq!(part("stdin").len(), 20_000);
+            assert_eq!(part("stdout"), check(&part("stdin"), refused_only));
+        }
+        assert!(write("desk", &[], 3, 20_000, &folder).is_err());
+        fs::remove_dir_all(&folder).unwrap();
+    }
 }

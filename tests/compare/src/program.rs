@@ -1,6 +1,7 @@
 //! The program under test: started anew for each feed, which it gets through a pipe in parts.
 
 use crate::chance::Chance;
+use std::fmt;
 use std::io::{self, Read, Write};
 use std::path::Path;
 use std::process::{Command, Stdio};
@@ -65,19 +66,34 @@ fn limits(feed: &[u8]) -> Vec<usize> {
     places
 }
 
+/// A program: the script that runs those that are built, its name, and the words that it is given.
+pub struct Program<'a> {
+    pub proved: &'a Path,
+    pub name: &'static str,
+    pub words: &'static [&'static str],
+}
+
+impl fmt::Display for Program<'_> {
+    fn fmt(&self, out: &mut fmt::Formatter) -> fmt::Result {
+        out.write_str(&[&[self.name], self.words].concat().join(" "))
+    }
+}
+
 /// What the program printed for a feed, and, if it ended badly, how.
 pub struct Printed {
     pub text: Vec<u8>,
     pub bad_end: Option<String>,
 }
 
-/// Runs the program of that name on a feed. The feed is written here and the report read in a second thread,
-/// so that neither waits for the other.
-pub fn run(proved: &Path, name: &str, feed: &[u8], parts: &[usize]) -> io::Result<Printed> {
-    let mut child = Command::new(proved)
-        .arg(name)
+/// Runs a program on a feed. The feed is written here and the report read in a second thread, so that
+/// neither waits for the other. What it says on standard error is not looked at.
+pub fn run(program: &Program, feed: &[u8], parts: &[usize]) -> io::Result<Printed> {
+    let mut child = Command::new(program.proved)
+        .arg(program.name)
+        .args(program.words)
         .stdin(Stdio::piped())
         .stdout(Stdio::piped())
+        .stderr(Stdio::null())
         .spawn()?;
     let (Some(mut to_program), Some(mut from_program)) = (child.stdin.take(), child.stdout.take())
     else {

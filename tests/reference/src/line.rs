@@ -60,7 +60,7 @@ impl Type {
 
     /// The table "fields in order"; nothing for the three types whose bodies are kept whole.
     /// Of AF these are the fields before the amendments.
-    fn fields(self) -> Option<&'static [Form]> {
+    pub(crate) fn fields(self) -> Option<&'static [Form]> {
         use Form::*;
         match self {
             Type::AZ => Some(&[Ident, Point, Point, ArrivalClock]),
@@ -76,7 +76,7 @@ impl Type {
 
 /// The forms of the fields.
 #[derive(Clone, Copy, Debug, PartialEq, Eq)]
-enum Form {
+pub(crate) enum Form {
     Ident,
     TrackIdent,
     Aircraft,
@@ -93,6 +93,32 @@ enum Form {
     Route,
 }
 
+impl Form {
+    /// What a field of this form says, in at most three parts: an ident its key and its computer
+    /// number, an aircraft its prefix, type and letter, any other its text. A route says nothing
+    /// here: it stays a part of the line.
+    pub(crate) fn parts(self, text: &[u8]) -> [Option<&[u8]>; 3] {
+        match self {
+            Form::Ident | Form::TrackIdent => {
+                let key = field::key_of_ident(text);
+                // What stands after the key and a slash, if anything does.
+                [Some(key), text.get(key.len() + 1..), None]
+            }
+            Form::Aircraft => match field::aircraft_readings(text).first() {
+                Some(reading) => [
+                    reading.prefix,
+                    Some(reading.aircraft_type),
+                    // The letter is the field's last byte.
+                    reading.letter.map(|_| &text[text.len() - 1..]),
+                ],
+                None => [None; 3],
+            },
+            Form::Route => [None; 3],
+            _ => [Some(text), None, None],
+        }
+    }
+}
+
 /// Of the eight amendment numbers: the number's field, and the form of its content.
 const AMENDMENTS: [(&[u8], Form); 8] = [
     (b"02", Form::Ident),
@@ -104,6 +130,13 @@ const AMENDMENTS: [(&[u8], Form); 8] = [
     (b"09", Form::Level),
     (b"10", Form::Route),
 ];
+
+/// Of an amendment's number its mark, "one per number", and the form of its content; nothing for
+/// what is none of the eight. The mark of 02 is the lowest bit, that of 10 the highest.
+pub(crate) fn amends(number: &[u8]) -> Option<(u8, Form)> {
+    let which = AMENDMENTS.iter().position(|(known, _)| *known == number)?;
+    Some((1 << which, AMENDMENTS[which].1))
+}
 
 /// "An amendment is two fields": its number and its content.
 #[derive(Clone, Copy, Debug, PartialEq, Eq)]
@@ -264,14 +297,14 @@ pub fn read(line: &[u8]) -> Result<Message<'_>, Refusal> {
     // Only AF has fields beyond those of the table; strictly by place (docs/DECISIONS.md).
     for index in (forms.len()..count).step_by(2) {
         let (number, content) = (texts[index], texts[index + 1]);
-        let Some(which) = AMENDMENTS.iter().position(|(known, _)| *known == number) else {
+        let Some((mark, form)) = amends(number) else {
             return refused(10, index + 1);
         };
-        if message.marks & (1 << which) != 0 {
+        if message.marks & mark != 0 {
             return refused(10, index + 1);
         }
-        message.marks |= 1 << which;
-        read_field(AMENDMENTS[which].1, content, index + 2)?;
+        message.marks |= mark;
+        read_field(form, content, index + 2)?;
         message.amendments.push(Amendment { number, content });
     }
     texts.truncate(forms.len());

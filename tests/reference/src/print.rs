@@ -1,9 +1,10 @@
-//! The printer (document 01, "The printer"): the board as text, the report of a whole feed,
-//! and, for comparing, the list of a feed's lines with their answers.
+//! The printer (document 01, "The printer"): the board as text, the report of a whole feed, the
+//! check that tells a desk why each line was refused, and, for comparing, the list of a feed's
+//! lines with their answers and the values of their fields.
 
 use crate::board::{Board, Row};
-use crate::cutter::{cut, State};
-use crate::line::read;
+use crate::cutter::{cut, end, State};
+use crate::line::{amends, read, Message};
 use crate::write::{put, write};
 
 /// "It stops reading after 4,294,967,295 lines."
@@ -84,8 +85,8 @@ pub fn counts(lines: u64, taken: u64) -> Vec<u8> {
 }
 
 /// For each line of a feed one line: the reader's number and place, and for a line that reads
-/// its type, its key if it has one, and whether writing what was read gives the same bytes.
-/// An unended last line is no line.
+/// its type, its key if it has one, whether writing what was read gives the same bytes, and the
+/// values of its fields. An unended last line is no line.
 pub fn list(feed: &[u8]) -> Vec<u8> {
     let mut text = Vec::new();
     each_line(feed, u64::MAX, |line| {
@@ -108,16 +109,91 @@ pub fn list(feed: &[u8]) -> Vec<u8> {
                     text.extend_from_slice(key);
                 }
                 let same = write(&message).as_deref() == Ok(line);
-                text.extend_from_slice(if same { b" same\n" } else { b" differs\n" });
+                text.extend_from_slice(if same { b" same" } else { b" differs" });
+                print_values(&message, &mut text);
+                text.push(b'\n');
             }
         }
     });
     text
 }
 
-/// Cuts a feed and hands on its lines, at most `limit`; nothing for an overlong one. What is
-/// left at the end answers 17, which no output shows.
-fn each_line(feed: &[u8], limit: u64, mut hand_on: impl FnMut(Option<&[u8]>)) {
+/// For each field in order, of an AF its amendments' numbers and contents too, a space and the
+/// three parts of its value. A number's value is its mark, written after a `#`.
+fn print_values(message: &Message, text: &mut Vec<u8>) {
+    let forms = message.message_type.fields().unwrap_or_default();
+    for (form, field) in forms.iter().zip(&message.fields) {
+        print_parts(form.parts(field), text);
+    }
+    for amendment in &message.amendments {
+        // A message that was read has none but the eight numbers.
+        if let Some((mark, form)) = amends(amendment.number) {
+            let mark = format!("#{mark}");
+            print_parts([Some(mark.as_bytes()), None, None], text);
+            print_parts(form.parts(amendment.content), text);
+        }
+    }
+}
+
+/// A space, and three parts with commas between them, a hyphen for each that is not there.
+fn print_parts(parts: [Option<&[u8]>; 3], text: &mut Vec<u8>) {
+    text.push(b' ');
+    text.extend(parts.map(|part| part.unwrap_or(b"-")).join(&b','));
+}
+
+/// For each line of a feed one line, by which a desk sees why a line was refused: its number from
+/// 1, the answer number, the place, the type of a line that reads, and its flight's key if it has
+/// one; a hyphen for each that is not there. An overlong line answers 2. An unended last line
+/// answers 17, and comes after the others. With `refused_only` those that answer 0 are left out.
+/// No board is asked, so no line answers 12 or 13.
+pub fn check(feed: &[u8], refused_only: bool) -> Vec<u8> {
+    let mut text = Vec::new();
+    let mut line_number: u64 = 0;
+    let at_end = each_line(feed, u64::MAX, |line| {
+        line_number += 1;
+        match answer(line) {
+            Ok(_) if refused_only => {}
+            Ok(message) => {
+                let message_type = message.message_type.text();
+                text.extend_from_slice(format!("{line_number} 0 0 {message_type} ").as_bytes());
+                text.extend_from_slice(message.key().unwrap_or(b"-"));
+                text.push(b'\n');
+            }
+            Err((number, place)) => {
+                text.extend_from_slice(format!("{line_number} {number} {place} - -\n").as_bytes());
+            }
+        }
+    });
+    if at_end != 0 {
+        text.extend_from_slice(format!("{} {at_end} 0 - -\n", line_number + 1).as_bytes());
+    }
+    text
+}
+
+/// The sums of a check: how many lines ended, how many of them read, and how many were refused.
+/// LINES counts line feeds, so an unended last line is in none of the three.
+pub fn check_counts(feed: &[u8]) -> Vec<u8> {
+    let mut read: u64 = 0;
+    let mut refused: u64 = 0;
+    each_line(feed, u64::MAX, |line| match answer(line) {
+        Ok(_) => read += 1,
+        Err(_) => refused += 1,
+    });
+    format!("LINES {} READ {read} REFUSED {refused}\n", read + refused).into_bytes()
+}
+
+/// What a line that the cutter told of is answered: its message, or number and place. Nothing is
+/// handed over of an overlong one, which answers 2.
+fn answer(line: Option<&[u8]>) -> Result<Message<'_>, (u8, usize)> {
+    match line {
+        Some(line) => read(line).map_err(|refusal| (refusal.number, refusal.place)),
+        None => Err((2, 0)),
+    }
+}
+
+/// Cuts a feed and hands on its lines, at most `limit`; nothing for an overlong one. Gives what
+/// the end of the feed answers, 17 inside a line; which no report shows.
+fn each_line(feed: &[u8], limit: u64, mut hand_on: impl FnMut(Option<&[u8]>)) -> u8 {
     let mut state = State::at_start();
     let mut rest = feed;
     let mut count: u64 = 0;
@@ -129,6 +205,7 @@ fn each_line(feed: &[u8], limit: u64, mut hand_on: impl FnMut(Option<&[u8]>)) {
             hand_on(told.line.as_deref());
         }
     }
+    end(&mut state)
 }
 
 #[cfg(test)]
@@ -163,7 +240,11 @@ mod tests {
         );
         assert_eq!(
             listed(CASE),
-            "0 0 TZ QQX12 same\n0 0 DZ QQX12 same\n0 0 TZ QQX12 same\n0 0 AZ N5AB same\n9 1\n"
+            "0 0 TZ QQX12 same QQX12,101,- 310,-,- 240,-,- 3015N/08430W,-,-\n\
+             0 0 DZ QQX12 same QQX12,101,- -,C172,A ABC,-,- D0816,-,- DEF,-,- 0930,-,-\n\
+             0 0 TZ QQX12 same QQX12,101,- 315,-,- 250C,-,- 3020N/08430W,-,-\n\
+             0 0 AZ N5AB same N5AB,-,- GHI,-,- JKL,-,- A0810,-,-\n\
+             9 1\n"
         );
     }
 
@@ -246,8 +327,158 @@ mod tests {
                     000106143655KZMAAF N5 AB CD 08 050 08 050\n000106143655KZMATZ \n";
         assert_eq!(
             listed(feed),
-            "1 0\n0 0 HB same\n0 0 AF N5 same\n10 6\n8 0\n"
+            "1 0\n0 0 HB same\n0 0 AF N5 same N5,123,- AB,-,- CD,-,- #32,-,- 050,-,-\n10 6\n8 0\n"
         );
+    }
+
+    /// The values that the list ends with, for a type and body after a good front.
+    fn values(body: &str) -> String {
+        let listed = listed(&format!("000106081500KZAA{body}\n"));
+        let (_, values) = listed.split_once(" same").unwrap();
+        values.trim_end_matches('\n').to_string()
+    }
+
+    /// "`C172/A` is type C172, letter A; `T/AB` is prefix T, type AB; .. `T/B73S/F` has all three";
+    /// a prefix of two, and a type alone.
+    #[test]
+    fn the_values_of_an_aircraft() {
+        for (aircraft, parts) in [
+            ("C172/A", "-,C172,A"),
+            ("T/AB", "T,AB,-"),
+            ("T/B73S/F", "T,B73S,F"),
+            ("2H/C172/A", "2H,C172,A"),
+            ("2H/C172", "2H,C172,-"),
+            ("C172", "-,C172,-"),
+            ("1/12/B", "1,12,B"),
+            ("12/B", "-,12,B"),
+        ] {
+            assert_eq!(
+                values(&format!("DZ QQX12/101 {aircraft} ABC D0816 DEF 0930")),
+                format!(" QQX12,101,- {parts} ABC,-,- D0816,-,- DEF,-,- 0930,-,-")
+            );
+            assert_eq!(
+                values(&format!("UZ N5 {aircraft} SC AB/1 P0816 05B100 AB..CD,-")),
+                format!(" N5,-,- {parts} SC,-,- AB/1,-,- P0816,-,- 05B100,-,- -,-,-")
+            );
+        }
+    }
+
+    #[test]
+    fn the_values_of_each_type() {
+        assert_eq!(values("RZ N5 ABC DEF"), " N5,-,- ABC,-,- DEF,-,-");
+        assert_eq!(
+            values("RZ ABCDEFG/12Z AB CD "),
+            " ABCDEFG,12Z,- AB,-,- CD,-,-"
+        );
+        assert_eq!(
+            values("AZ N5/000 AB CD 0810"),
+            " N5,000,- AB,-,- CD,-,- 0810,-,-"
+        );
+        assert_eq!(
+            values("TZ N5/12Z 005 000C 0000S/00000W "),
+            " N5,12Z,- 005,-,- 000C,-,- 0000S/00000W,-,-"
+        );
+        assert_eq!(
+            values("FZ N5 C172 0120 3015N/08430W E0816 05 ,,-"),
+            " N5,-,- -,C172,- 0120,-,- 3015N/08430W,-,- E0816,-,- 05,-,- -,-,-"
+        );
+        for kept in ["RT a,b,c", "TO N5 AB CD", "HB", "HB "] {
+            assert_eq!(values(kept), "");
+        }
+    }
+
+    /// "a set of eight marks, one per number": in the order in which the numbers came, and each
+    /// before its content.
+    #[test]
+    fn the_values_of_amendments() {
+        assert_eq!(
+            values("AF N5 AB CD 02 N6/123 03 T/B73S/F 05 SC 06 AB/C 07 P0816 08 05 09 60B70 10 A"),
+            " N5,-,- AB,-,- CD,-,- #1,-,- N6,123,- #2,-,- T,B73S,F #4,-,- SC,-,- #8,-,- AB/C,-,- \
+             #16,-,- P0816,-,- #32,-,- 05,-,- #64,-,- 60B70,-,- #128,-,- -,-,-"
+        );
+        assert_eq!(
+            values("AF N5/12A AB CD 10 AB..CD 03 C172 02 N6 "),
+            " N5,12A,- AB,-,- CD,-,- #128,-,- -,-,- #2,-,- -,C172,- #1,-,- N6,-,-"
+        );
+    }
+
+    fn checked(feed: &str, refused_only: bool) -> String {
+        String::from_utf8(check(feed.as_bytes(), refused_only)).unwrap()
+    }
+
+    fn sums(feed: &str) -> String {
+        String::from_utf8(check_counts(feed.as_bytes())).unwrap()
+    }
+
+    #[test]
+    fn the_printed_case_checked() {
+        assert_eq!(
+            checked(CASE, false),
+            "1 0 0 TZ QQX12\n2 0 0 DZ QQX12\n3 0 0 TZ QQX12\n4 0 0 AZ N5AB\n5 9 1 - -\n"
+        );
+        assert_eq!(checked(CASE, true), "5 9 1 - -\n");
+        assert_eq!(sums(CASE), "LINES 5 READ 4 REFUSED 1\n");
+        // A heartbeat reads and has no flight.
+        let more = format!("{CASE}000006143655KZMAHB\n");
+        assert!(checked(&more, false).ends_with("\n5 9 1 - -\n6 0 0 HB -\n"));
+        assert_eq!(checked(&more, true), "5 9 1 - -\n");
+        assert_eq!(sums(&more), "LINES 6 READ 5 REFUSED 1\n");
+    }
+
+    /// Lines keep the numbers that they have in the feed, the empty and the overlong ones too.
+    #[test]
+    fn each_line_has_its_number() {
+        let overlong = "x".repeat(2049);
+        let feed = format!(
+            "\n{overlong}\n000006143655KZMAH\u{7f}\n000106143655KZMAAF N5/123 AB CD 08 050 08 050\n\
+             000106143655KZMAAF N5/123 AB CD 08 050\n\n"
+        );
+        let refused = [
+            "1 1 0 - -",
+            "2 2 0 - -",
+            "3 3 0 - -",
+            "4 10 6 - -",
+            "6 1 0 - -",
+        ];
+        assert_eq!(checked(&feed, true), refused.join("\n") + "\n");
+        assert_eq!(
+            checked(&feed, false),
+            "1 1 0 - -\n2 2 0 - -\n3 3 0 - -\n4 10 6 - -\n5 0 0 AF N5\n6 1 0 - -\n"
+        );
+        assert_eq!(sums(&feed), "LINES 6 READ 1 REFUSED 5\n");
+    }
+
+    /// "At the end a begun line, overlong or not, answers 17, and is no line."
+    #[test]
+    fn an_unended_last_line_is_checked() {
+        for only in [false, true] {
+            assert_eq!(checked("", only), "");
+            assert_eq!(checked("x", only), "1 17 0 - -\n");
+            assert_eq!(checked("000006143655KZMAHB", only), "1 17 0 - -\n");
+            assert_eq!(checked(&"x".repeat(3000), only), "1 17 0 - -\n");
+            assert_eq!(checked("\n\n ", only), "1 1 0 - -\n2 1 0 - -\n3 17 0 - -\n");
+        }
+        assert_eq!(
+            checked("000006143655KZMAHB\n000006143655KZMAHB", false),
+            "1 0 0 HB -\n2 17 0 - -\n"
+        );
+        assert_eq!(
+            sums("000006143655KZMAHB\n000006143655KZMAHB"),
+            "LINES 1 READ 1 REFUSED 0\n"
+        );
+        assert_eq!(sums(""), "LINES 0 READ 0 REFUSED 0\n");
+        assert_eq!(sums("x"), "LINES 0 READ 0 REFUSED 0\n");
+    }
+
+    /// No board is asked: a flight that would find no room reads all the same.
+    #[test]
+    fn a_check_has_no_board() {
+        let track =
+            |flight: usize| format!("000106081500KZAATZ N{flight:03}/123 310 240 3015N/08430W\n");
+        let feed: String = (0..300).map(track).collect();
+        assert!(checked(&feed, false).ends_with("\n300 0 0 TZ N299\n"));
+        assert_eq!(checked(&feed, true), "");
+        assert_eq!(sums(&feed), "LINES 300 READ 300 REFUSED 0\n");
     }
 
     /// The error of the trade "counting a TZ that found no room as taken".
