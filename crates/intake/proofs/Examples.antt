@@ -1,7 +1,7 @@
 -- Wrong answers, ruled out by the promises. Assumes nothing.
-use mathlib.Core.Path.{_≡_, refl, _∙_}
-use mathlib.Core.Bool.{Bool, true, false}
-use mathlib.Core.Logic.{⊎-elim}
+use mathlib.Core.Path.{_≡_, refl, sym, ap, _∙_}
+use mathlib.Core.Bool.{true, false}
+use mathlib.Core.Logic.{inl, ⊎-elim}
 use mathlib.Core.List.{List, [], _∷_, _++_}
 use Prim.Native.Nat.{ℕ}
 use native.Mathlib.Omega.{arith}
@@ -9,6 +9,17 @@ use lib.ListN.{length, take}
 use denote.Ref.{now}
 use Rattle.text.specs.Bytes.{bytes}
 use Rattle.text.proofs.Logic.{not-holds}
+use Rattle.text.specs.Decimal.{widthBy, decimal}
+use Rattle.text.specs.Number.{padded}
+use Rattle.text.specs.Place.{places}
+use Rattle.text.specs.Code.{byteOf}
+use Rattle.shapes.specs.Pieces.{pieces}
+use Rattle.cutter.specs.Feed.{allButLast, last, textsOf, restOf, linesOf}
+use Rattle.printer.specs.RowText.{lineText, rowsText}
+use Rattle.printer.specs.Text.{boardText, countsText}
+use Rattle.feeding.specs.Tally.{rowsBy, takenBy, lineFeeds}
+use Rattle.reports.specs.Report.{mostLines, reportOf}
+use Rattle.reports.proofs.Joins.{read-empty}
 use Rattle.intake.proofs.report.Reads as report
 use Rattle.intake.proofs.words.is_help.Reads as is-help
 use Rattle.intake.proofs.words.is_option.Reads as is-option
@@ -23,17 +34,24 @@ module _ (κs : _) (a : _) (r : _) (s : _) (p : report.Post κs a r s) (none : r
   nothing = no-bytes (p .1 .feed) (p .1 .handed ∙ none)
 
   pub seven-lines-of-nothing : take (r .size) (now (s .1 .1 .0)) ≡ bytes "FLIGHTS 0" ++ 10 ∷ (bytes "LINES 0 TAKEN 0" ++ 10 ∷ [])
-  seven-lines-of-nothing = p .1 .report ∙ rw nothing ?
+  unfolding reportOf linesOf textsOf allButLast pieces rowsBy takenBy lineFeeds boardText countsText rowsText lineText decimal widthBy padded places byteOf
+  seven-lines-of-nothing = p .1 .report ∙ rw (nothing, read-empty mostLines)
 
   pub nothing-is-torn : r .torn ≡ false
-  nothing-is-torn = p .1 .torn ∙ rw nothing ?
+  unfolding restOf last pieces
+  nothing-is-torn = p .1 .torn ∙ rw (nothing, read-empty mostLines)
 
 module _ (κs : _) (a : _) (r : _) (s : _) where
   pub short-help-refused : is-help.Post κs a r s → now (a .0) ≡ bytes "-h" → r ≡ true
-  short-help-refused p e = p .1 ?
+  short-help-refused p e = p .1 (inl e)
 
   pub a-file-is-help : is-help.Post κs a r s → now (a .0) ≡ bytes "help" → r ≡ false
-  a-file-is-help p e = not-holds r (λ q. ⊎-elim ? ? (p .0 q))
+  a-file-is-help p e =
+      not-holds r
+      (λ q. ⊎-elim
+      (λ w. let z : _≡_ {A = ℕ} 4 2 = ap length (sym e ∙ w) in omega arith)
+      (λ w. let z : _≡_ {A = ℕ} 4 6 = ap length (sym e ∙ w) in omega arith)
+      (p .0 q))
 
   pub empty-is-an-option : is-option.Post κs a r s → now (a .0) ≡ [] → r ≡ false
   empty-is-an-option p e = p ∙ rw e

@@ -1,14 +1,9 @@
 -- Two answers that a promise allows are equal. What the reads hand over is not the caller's to say, so two reports are equal where the same
 -- bytes came. Assumes nothing.
-use mathlib.Core.Path.{_≡_, sym, _∙_}
-use mathlib.Core.Bool.{Bool, true}
-use mathlib.Core.Logic.{_↔_}
-use mathlib.Core.List.{List}
-use Prim.Native.Nat.{ℕ}
-use lib.ListN.{take}
+use mathlib.Core.Path.{_≡_, sym, ap, _∙_}
+use lib.ListN.{length, take}
 use denote.Ref.{now}
 use Rattle.text.proofs.Logic.{same-test}
-use Rattle.intake.specs.Day.{Reports}
 use Rattle.intake.proofs.report.Reads as report
 use Rattle.intake.proofs.words.is_help.Reads as is-help
 use Rattle.intake.proofs.words.is_option.Reads as is-option
@@ -16,8 +11,8 @@ use Rattle.intake.proofs.words.is_option.Reads as is-option
 pub report-one : (κs : _) (a : _) (r r′ : _) (s s′ : _) (p : report.Post κs a r s) (q : report.Post κs a r′ s′) → p .1 .feed ≡ q .1 .feed
     → (take (r .size) (now (s .1 .1 .0)) ≡ take (r′ .size) (now (s′ .1 .1 .0))) × (r .size ≡ r′ .size) × (r .torn ≡ r′ .torn)
 report-one κs a r r′ s s′ p q e =
-    let t = p .1 .report ∙ rw e (sym (q .1 .report)) in
-    (t, ?, p .1 .torn ∙ rw e (sym (q .1 .torn)))
+    let t : take (r .size) (now (s .1 .1 .0)) ≡ take (r′ .size) (now (s′ .1 .1 .0)) = p .1 .report ∙ rw e (sym (q .1 .report)) in
+    (t, p .0 .1 ∙ ap length t ∙ sym (q .0 .1), p .1 .torn ∙ rw e (sym (q .1 .torn)))
 
 pub is-help-one : (κs : _) (a : _) (r r′ : _) (s s′ : _) → is-help.Post κs a r s → is-help.Post κs a r′ s′ → r ≡ r′
 is-help-one κs a r r′ s s′ p q = same-test r r′ (λ e. q .1 (p .0 e)) (λ e. p .1 (q .0 e))
