@@ -1,4 +1,4 @@
--- The lines of a feed: the only ones that have that feed, and the same from whatever state its first bytes are stateAfter in. Assumes nothing.
+-- The lines of a feed: the only ones that have that feed, and the same from whatever state its first bytes are read in. Assumes nothing.
 use mathlib.Core.Path.{_≡_, refl, sym, ap, _∙_}
 use mathlib.Core.Bool.{Bool, true, false, cond, not}
 use mathlib.Core.List.{List, [], _∷_, _++_, map, append-nil}
@@ -65,7 +65,7 @@ pub feed-only : (ls : List (List ℕ)) (rest : List ℕ) → noneHas lineFeed ls
 unfolding textsOf restOf
 feed-only ls rest e h = let r = split-last ls rest in rw (only-pieces ls rest e h) (r .0, r .1)
 
--- ---- the lines that come from a state, and the state that is stateAfter
+-- ---- the lines that come from a state, and the state that is left
 
 -- after bytes with no line feed, the same from what they make of the state
 prefix-same : (h : State) (s q : List ℕ) (ps : List (List ℕ))

@@ -47,7 +47,7 @@ end-still held begun a = rw a (start-allowed held (allowed-size held begun a))
 
 -- ---- the calls, and the lines of the whole
 
--- what the calls told from a state, and the state that they stateAfter
+-- what the calls told from a state, and the state that they left
 pub record Same (held : List ℕ) (begun : Begun) (feed : List ℕ) (ls : List Line) (held′ : List ℕ) (begun′ : Begun) : Type 0 where
   pub lines : ls ≡ told (stateIn held begun) (pieces lineFeed feed)
   pub state : stateIn held′ begun′ ≡ stateAfter (stateIn held begun) (pieces lineFeed feed)

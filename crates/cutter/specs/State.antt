@@ -1,4 +1,4 @@
--- The cutter's state (document 01, "Cutting"): "the bytes of a begun line, at longestLine 2,048 and no line feed among them, or the mark
+-- The cutter's state (document 01, "Cutting"): "the bytes of a begun line, at most 2,048 and no line feed among them, or the mark
 -- that it is overlong; no other is allowed". Assumes nothing.
 use Prim.Native.Nat.{ℕ, _+_}
 use mathlib.Core.Bool.{Bool, true, cond, _&&_, not}
@@ -30,7 +30,7 @@ isAllowed held begun = eqb (length held) longestLine && isBegun held begun
 
 -- ---- the begun line with the bytes s more
 
--- "at longestLine 2,048 .. or the mark"
+-- "at most 2,048 .. or the mark"
 abbrev pub stateOf : List ℕ → State
 stateOf s = cond (leb (length s) longestLine) (Bytes s) Mark
 

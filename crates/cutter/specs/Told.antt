@@ -1,4 +1,4 @@
--- The lines that come from a state, and the state that is stateAfter, where the pieces of the bytes to come are given: each piece but the last
+-- The lines that come from a state, and the state that is left, where the pieces of the bytes to come are given: each piece but the last
 -- ends a line. Assumes nothing.
 use Prim.Native.Nat.{ℕ}
 use mathlib.Core.List.{List, [], _∷_}
