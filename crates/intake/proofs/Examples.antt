@@ -29,32 +29,31 @@ no-bytes [] e = refl
 no-bytes (x ∷ s) e = absurd (omega arith)
 
 -- where no byte came, the board is empty, no line is counted, and no line is torn
-module _ (κs : _) (a : _) (r : _) (s : _) (p : report.Post κs a r s) (none : r .day .input .total ≡ 0) where
-  nothing : p .1 .feed ≡ []
-  nothing = no-bytes (p .1 .feed) (p .1 .handed ∙ none)
+nothing : (κs : _) (a : _) (r : _) (s : _) (p : report.Post κs a r s) → r .day .input .total ≡ 0 → p .1 .feed ≡ []
+nothing κs a r s p none = no-bytes (p .1 .feed) (p .1 .handed ∙ none)
 
-  pub seven-lines-of-nothing : take (r .size) (now (s .1 .1 .0)) ≡ bytes "FLIGHTS 0" ++ 10 ∷ (bytes "LINES 0 TAKEN 0" ++ 10 ∷ [])
-  unfolding reportOf linesOf textsOf allButLast pieces rowsBy takenBy lineFeeds boardText countsText rowsText lineText decimal widthBy padded places byteOf
-  seven-lines-of-nothing = p .1 .report ∙ rw (nothing, read-empty mostLines)
+pub seven-lines-of-nothing : (κs : _) (a : _) (r : _) (s : _) → report.Post κs a r s → r .day .input .total ≡ 0
+    → take (r .size) (now (s .1 .1 .0)) ≡ bytes "FLIGHTS 0" ++ 10 ∷ (bytes "LINES 0 TAKEN 0" ++ 10 ∷ [])
+unfolding reportOf linesOf textsOf allButLast pieces rowsBy takenBy lineFeeds boardText countsText rowsText lineText decimal widthBy padded places byteOf
+seven-lines-of-nothing κs a r s p none = p .1 .report ∙ rw (nothing κs a r s p none, read-empty mostLines)
 
-  pub nothing-is-torn : r .torn ≡ false
-  unfolding restOf last pieces
-  nothing-is-torn = p .1 .torn ∙ rw (nothing, read-empty mostLines)
+pub nothing-is-torn : (κs : _) (a : _) (r : _) (s : _) → report.Post κs a r s → r .day .input .total ≡ 0 → r .torn ≡ false
+unfolding restOf last pieces
+nothing-is-torn κs a r s p none = p .1 .torn ∙ rw (nothing κs a r s p none, read-empty mostLines)
 
-module _ (κs : _) (a : _) (r : _) (s : _) where
-  pub short-help-refused : is-help.Post κs a r s → now (a .0) ≡ bytes "-h" → r ≡ true
-  short-help-refused p e = p .1 (inl e)
+pub short-help-refused : (κs : _) (a : _) (r : _) (s : _) → is-help.Post κs a r s → now (a .0) ≡ bytes "-h" → r ≡ true
+short-help-refused κs a r s p e = p .1 (inl e)
 
-  pub a-file-is-help : is-help.Post κs a r s → now (a .0) ≡ bytes "help" → r ≡ false
-  a-file-is-help p e =
-      not-holds r
-      (λ q. ⊎-elim
-      (λ w. let z : _≡_ {A = ℕ} 4 2 = ap length (sym e ∙ w) in omega arith)
-      (λ w. let z : _≡_ {A = ℕ} 4 6 = ap length (sym e ∙ w) in omega arith)
-      (p .0 q))
+pub a-file-is-help : (κs : _) (a : _) (r : _) (s : _) → is-help.Post κs a r s → now (a .0) ≡ bytes "help" → r ≡ false
+a-file-is-help κs a r s p e =
+    not-holds r
+    (λ q. ⊎-elim
+    (λ w. let z : _≡_ {A = ℕ} 4 2 = ap length (sym e ∙ w) in omega arith)
+    (λ w. let z : _≡_ {A = ℕ} 4 6 = ap length (sym e ∙ w) in omega arith)
+    (p .0 q))
 
-  pub empty-is-an-option : is-option.Post κs a r s → now (a .0) ≡ [] → r ≡ false
-  empty-is-an-option p e = p ∙ rw e
+pub empty-is-an-option : (κs : _) (a : _) (r : _) (s : _) → is-option.Post κs a r s → now (a .0) ≡ [] → r ≡ false
+empty-is-an-option κs a r s p e = p ∙ rw e
 
-  pub hyphen-inside-is-an-option : is-option.Post κs a r s → now (a .0) ≡ bytes "a-h" → r ≡ false
-  hyphen-inside-is-an-option p e = p ∙ rw e
+pub hyphen-inside-is-an-option : (κs : _) (a : _) (r : _) (s : _) → is-option.Post κs a r s → now (a .0) ≡ bytes "a-h" → r ≡ false
+hyphen-inside-is-an-option κs a r s p e = p ∙ rw e
