@@ -1,5 +1,6 @@
 -- What the promises of `line` require on inputs written out, and so wrong answers that they do not allow: of each, `Post` is the function's
 -- `ensures` as it stands in the source, r any result that meets it, s the state at exit. Assumes nothing.
+use Prim.Native.Nat.{ℕ}
 use mathlib.Core.Path.{_≡_, ap, _∙_}
 use denote.Ref.{now}
 use Rattle.text.specs.Bytes.{bytes}
@@ -18,9 +19,13 @@ use Rattle.fields.specs.Pair.{isPairForm, pairOf}
 use Rattle.table.specs.Field.{plain, readKind, readIn, follows}
 use Rattle.table.specs.Read.{answerFrom, counted, answers, answerOf, routeIn, routeOf}
 use Rattle.table.specs.Spacing.{ended, fieldsOf}
+use Rattle.table.specs.declared.walk.Fault.the-variants as fault
 use Rattle.table.specs.Table.{countWith, isCount, kindsOf, countIn, answerBy, routeBy}
 use Rattle.messages.specs.Read.{bodyRead}
-use Rattle.line.specs.Read.{headOf, restOf, readOf, lineNumber, linePlace, freeOf}
+use Rattle.line.specs.Read.{headOf, restOf, readOf, refusalNumber, refusalPlace, lineNumber, linePlace, freeOf}
+use Rattle.line.specs.declared.Refusal.the-variants as refusal
+use Rattle.line.proofs.Refusal.number.Reads as number
+use Rattle.line.proofs.Refusal.place.Reads as place
 use Rattle.line.proofs.free.Reads as free
 use Rattle.line.proofs.read.Reads as read
 
@@ -50,3 +55,21 @@ pub route-with-its-space : (κs : _) (a : _) (r : _) (s : _) → free.Post κs a
     → now (a .0) ≡ bytes "000106081500KZAAFZ QQX12 C172/A 0120 ABC P0816 050 ABC..DEF" → now r ≡ bytes "ABC..DEF"
 unfolding freeOf typeOf fits isOf routeBy routeOf routeIn fieldsOf ended pieces plain
 route-with-its-space κs a r s p e = p ∙ ap freeOf e
+
+-- ---- the number and the place of a refusal
+
+-- "an AF number field .. (never 9)"
+pub number-field-answers-9 : (κs : _) (a : _) (r : _) (s : _) → number.Post κs a r s → (i : ℕ) → a .0 ≡ refusal.Body (fault.Number i) → r ≡ 10
+number-field-answers-9 κs a r s p i e = p ∙ ap refusalNumber e
+
+-- an FZ over 439 bytes is 11, and not a line over 2,048 bytes
+pub long-plan-answers-2 : (κs : _) (a : _) (r : _) (s : _) → number.Post κs a r s → a .0 ≡ refusal.LongPlan → r ≡ 11
+long-plan-answers-2 κs a r s p e = p ∙ ap refusalNumber e
+
+-- "its place is given, 1 for the ident"
+pub place-from-0 : (κs : _) (a : _) (r : _) (s : _) → place.Post κs a r s → a .0 ≡ refusal.Body (fault.Field 1) → r ≡ 1
+place-from-0 κs a r s p e = p ∙ ap refusalPlace e
+
+-- spacing has none
+pub place-of-the-spacing : (κs : _) (a : _) (r : _) (s : _) → place.Post κs a r s → a .0 ≡ refusal.Body fault.Spacing → r ≡ 0
+place-of-the-spacing κs a r s p e = p ∙ ap refusalPlace e
