@@ -11,7 +11,7 @@ use denote.Enum.Declared.{tagOf}
 use types.Run.{OneOf, miss}
 use Rattle.text.specs.Text.{spliced}
 use Rattle.text.proofs.Logic.{true-false}
-use Rattle.text.proofs.Splice.{take-spliced, spliced-none}
+use Rattle.text.proofs.Splice.{length-spliced, take-spliced, spliced-none}
 use Rattle.rules.specs.Frame.{longestLine}
 use Rattle.cutter.specs.Feed.{restOf}
 use Rattle.cutter.specs.State.{State, Bytes, Mark, stateIn, stateOf, isAllowed}
@@ -26,10 +26,10 @@ use Rattle.printer.specs.RowText.{hyphen}
 use Rattle.printer.specs.Parts.{partText}
 use Rattle.checks.specs.Check.{saying, tornOf}
 use Rattle.checks.specs.Feed.{Checked}
-use Rattle.checks.specs.Part.{verdictText, isVerdict, tornIn, EndsFeed}
+use Rattle.checks.specs.Part.{verdictText, isVerdict, longestSaying, tornIn, EndsFeed}
 use Rattle.checks.specs.declared.Sums.{Sums}
 use Rattle.checks.specs.declared.Verdict.{Verdict}
-use Rattle.checks.proofs.Lines.{zero-part, zero-packed}
+use Rattle.checks.proofs.Lines.{zero-part, zero-packed, text-few}
 
 -- what is said of a rest is said of the state that holds it
 torn-state : (n : ℕ) (rest : List ℕ) → tornIn n (stateOf rest) ≡ tornOf n rest
@@ -48,6 +48,14 @@ module _ (held : List ℕ) (s : Sums) (out : List ℕ) {r : ℕ} {out′ : List 
   pub ends-feed : EndsFeed held s (take r out′)
   ends-feed only feed said c = rw f (take-spliced out (tornIn (suc (s .lines)) (stateIn held (s .begun))) r e) ∙ torn-feed c
 
+-- a feed that did not end at a line's start has a rest
+pub inside-rest : {only : Bool} {feed held : List ℕ} {s : Sums} {said : List ℕ} → Checked only feed held s said → (stateIn held (s .begun) ≡ Bytes [] → ⊥) → 1 ≤ length (restOf feed)
+inside-rest {only} {feed} c q = go (restOf feed) refl
+  where
+    go : (l : List ℕ) → restOf feed ≡ l → 1 ≤ length l
+    go [] e = absurd (q (c .state ∙ start-rest feed ∙ rw e))
+    go (x ∷ l) e = omega arith
+
 -- ---- what `end` answered
 
 abbrev pub torn : Verdict
@@ -60,6 +68,18 @@ torn-verdict = rw zero-packed
 torn-text : (n : ℕ) → verdictText n torn ≡ saying n 17 0 hyphen hyphen
 unfolding verdictText
 torn-text n = rw zero-part
+
+torn-few : (n : ℕ) (h : State) → length (tornIn n h) ≤ longestSaying
+unfolding tornIn tornOf
+torn-few n (Bytes []) = omega arith
+torn-few n (Bytes (x ∷ s)) = rw (← (torn-text n)) (text-few n torn torn-verdict)
+torn-few n Mark = rw (← (torn-text n)) (text-few n torn torn-verdict)
+
+-- what is written for it stands inside the buffer
+pub torn-inside : (n : ℕ) (h : State) (out : List ℕ) {r : ℕ} {out′ : List ℕ} → longestSaying ≤ length out → r ≡ length (tornIn n h) → out′ ≡ spliced out 0 (tornIn n h) → r ≤ length out′
+torn-inside n h out k e f =
+    let t = torn-few n h in
+    omega (arith, e, ap length f, length-spliced out (tornIn n h) 0 (omega (arith, t)), t)
 
 inside-text : (n : ℕ) (h : State) → (h ≡ Bytes [] → ⊥) → verdictText n torn ≡ tornIn n h
 unfolding tornIn tornOf

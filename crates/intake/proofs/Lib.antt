@@ -3,3 +3,4 @@ pub mod Days
 pub mod Fills
 pub mod Torn
 pub mod Whole
+pub mod Desks
