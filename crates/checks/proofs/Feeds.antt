@@ -33,7 +33,7 @@ first-checked only held e = record { allowed = start-allowed held e; state = ref
 -- ---- a part more
 
 module _ {only : Bool} {held : List ℕ} {s : Sums} {part out held′ : List ℕ} {s′ : Sums} {out′ : List ℕ} {size : ℕ} (x : Adds only held s part out 0 held′ s′ out′ size) where
-  the-text : take size out′ ≡ textIn only held s part
+  pub the-text : take size out′ ≡ textIn only held s part
   the-text = rw (x .bytes) (take-spliced out (textIn only held s part) size (omega (arith, x .place)))
 
   pub continues : Continues only held s part held′ s′ (take size out′)

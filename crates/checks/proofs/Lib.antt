@@ -5,5 +5,7 @@ pub mod Joins
 pub mod Steps
 pub mod Feeds
 pub mod Torn
+pub mod EachLine
 pub mod Theorems
 pub mod Unique
+pub mod Examples
