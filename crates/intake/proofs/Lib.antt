@@ -3,5 +3,6 @@ pub mod Days
 pub mod Fills
 pub mod Torn
 pub mod Whole
+pub mod Desks
 pub mod Unique
 pub mod Examples

@@ -1,6 +1,8 @@
 // The board printer's work: a feed read to its end in large blocks, and its report. Memory is fixed, whatever the feed.
 
+pub mod checking;
 pub mod input;
+pub mod output;
 pub mod words;
 
 use crate::input::Input;

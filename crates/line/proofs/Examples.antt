@@ -22,9 +22,13 @@ use Rattle.fields.specs.Pair.{isPairForm, pairOf}
 use Rattle.table.specs.Field.{markOf, contentOf, traceOf, marksOf, plain, readKind, readMark, barred, readIn, follows}
 use Rattle.table.specs.Read.{answerFrom, counted, answers, answerOf, routeIn, routeOf, routeFrom, routeAt, startsAt}
 use Rattle.table.specs.Spacing.{ended, fieldsOf}
+use Rattle.table.specs.declared.walk.Fault.the-variants as fault
 use Rattle.table.specs.Table.{countWith, isCount, kindsOf, countIn, answerBy, routeBy, routeAtBy}
 use Rattle.messages.specs.Read.{bodyRead}
-use Rattle.line.specs.Read.{headOf, restOf, readOf, lineNumber, linePlace, freeOf, freeAt}
+use Rattle.line.specs.Read.{headOf, restOf, readOf, refusalNumber, refusalPlace, lineNumber, linePlace, freeOf, freeAt}
+use Rattle.line.specs.declared.Refusal.the-variants as refusal
+use Rattle.line.proofs.Refusal.number.Reads as number
+use Rattle.line.proofs.Refusal.place.Reads as place
 use Rattle.line.proofs.free.Reads as free
 use Rattle.line.proofs.read.Reads as read
 
@@ -95,3 +99,21 @@ pub the-fix-is-at-fault : (κs : _) (a : _) (r : _) (s : _) → read.Post κs a 
 the-fix-is-at-fault κs a r s p e =
     let z = p .0 ∙ ap readOf e in
     (ap lineNumber z ∙ ap (λ x. x .0) (told .2), ap linePlace z ∙ ap (λ x. x .1) (told .2))
+
+-- ---- the number and the place of a refusal
+
+-- "an AF number field .. (never 9)"
+pub number-field-answers-9 : (κs : _) (a : _) (r : _) (s : _) → number.Post κs a r s → (i : ℕ) → a .0 ≡ refusal.Body (fault.Number i) → r ≡ 10
+number-field-answers-9 κs a r s p i e = p ∙ ap refusalNumber e
+
+-- an FZ over 439 bytes is 11, and not a line over 2,048 bytes
+pub long-plan-answers-2 : (κs : _) (a : _) (r : _) (s : _) → number.Post κs a r s → a .0 ≡ refusal.LongPlan → r ≡ 11
+long-plan-answers-2 κs a r s p e = p ∙ ap refusalNumber e
+
+-- "its place is given, 1 for the ident"
+pub place-from-0 : (κs : _) (a : _) (r : _) (s : _) → place.Post κs a r s → a .0 ≡ refusal.Body (fault.Field 1) → r ≡ 1
+place-from-0 κs a r s p e = p ∙ ap refusalPlace e
+
+-- spacing has none
+pub place-of-the-spacing : (κs : _) (a : _) (r : _) (s : _) → place.Post κs a r s → a .0 ≡ refusal.Body fault.Spacing → r ≡ 0
+place-of-the-spacing κs a r s p e = p ∙ ap refusalPlace e

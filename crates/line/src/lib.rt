@@ -22,9 +22,9 @@ ghost use mathlib.Core.Path.{_≡_};
 ghost use Prim.Native.Nat.{_≤_};
 ghost use lib.ListN.{length};
 ghost use Rattle.rules.specs.Frame.{headLength};
+ghost use Rattle.table.specs.Read.{faultNumber, faultPlace, startsAt};
 ghost use Rattle.line.specs.Cases.{Case};
-ghost use Rattle.line.specs.Read.{headOf, restOf, readOf, lineNumber, linePlace, freeOf, freeAt};
-ghost use Rattle.table.specs.Read.{startsAt};
+ghost use Rattle.line.specs.Read.{headOf, restOf, readOf, refusalNumber, refusalPlace, lineNumber, linePlace, freeOf, freeAt};
 
 // Document 01's answers 1 to 7 and 11; and 8, 9, 10 and 18 as the body's fault.
 pub enum Refusal {
@@ -37,6 +37,66 @@ pub enum Refusal {
     NoType,
     LongPlan,
     Body(Fault),
+}
+
+// The answer number of a body's fault.
+fn fault_number(fault: Fault) -> u8
+    ensures { λ r. ⌜ r ≡ faultNumber fault ⌝ }
+{
+    match fault {
+        Fault::Spacing => 8,
+        Fault::Field(_) => 9,
+        Fault::Number(_) => 10,
+        Fault::Two(_) => 18,
+    }
+}
+
+// The place of the field at fault; 0 where it is the spacing or the count.
+fn fault_place(fault: Fault) -> usize
+    ensures { λ r. ⌜ r ≡ faultPlace fault ⌝ }
+{
+    match fault {
+        Fault::Spacing => 0,
+        Fault::Field(i) => i,
+        Fault::Number(i) => i,
+        Fault::Two(i) => i,
+    }
+}
+
+impl Refusal {
+    // Document 01's answer number.
+    pub fn number(self) -> u8
+        ensures { λ r. ⌜ r ≡ refusalNumber self ⌝ }
+    {
+        match self {
+            Refusal::Short => 1,
+            Refusal::Long => 2,
+            Refusal::Unprintable => 3,
+            Refusal::NoSequence => 4,
+            Refusal::NoStamp => 5,
+            Refusal::NoFacility => 6,
+            Refusal::NoType => 7,
+            Refusal::LongPlan => 11,
+            Refusal::Body(fault) => fault_number(fault),
+        }
+    }
+
+    // The place that it gives, 1 for the ident; 0 where it gives none.
+    pub fn place(self) -> usize
+        ensures { λ r. ⌜ r ≡ refusalPlace self ⌝ }
+    {
+        match self {
+            Refusal::Short => 0,
+            Refusal::Long => 0,
+            Refusal::Unprintable => 0,
+            Refusal::NoSequence => 0,
+            Refusal::NoStamp => 0,
+            Refusal::NoFacility => 0,
+            Refusal::NoType => 0,
+            Refusal::LongPlan => 0,
+            Refusal::Body(fault) => fault_place(fault),
+        }
+    }
 }
 
 pub enum LineRead {

@@ -30,7 +30,7 @@ use Rattle.table.specs.Spacing.{fieldsOf, ended}
 use Rattle.table.specs.Table.{countWith, isCount, kindsOf, countIn, answerBy, valuesBy}
 use Rattle.table.specs.declared.kinds.Value.{Value}
 use Rattle.table.specs.declared.walk.Fault.the-variants as fault
-use Rattle.messages.specs.Body.{planLevel, amendedIn, heldOf, typeIn, marksIn, valueOfWord, bodyFrom, slots}
+use Rattle.messages.specs.Body.{planLevel, amendedIn, heldOf, typeIn, keyIn, marksIn, valueOfWord, bodyFrom, slots}
 use Rattle.messages.specs.Read.{bodyRead}
 use Rattle.messages.specs.declared.Amended.the-variants as amended
 use Rattle.messages.specs.declared.Amendment.{Amendment}
@@ -41,6 +41,7 @@ use Rattle.messages.specs.declared.typed.BodyRead.the-variants as read
 use Rattle.messages.proofs.Amended.amendment.Reads as held
 use Rattle.messages.proofs.Amendment.amended.Reads as content
 use Rattle.messages.proofs.Plan.filed_level.Reads as filed-level
+use Rattle.messages.proofs.key_in.Reads as key-in
 use Rattle.messages.proofs.marks_in.Reads as marks-in
 use Rattle.messages.proofs.type_in.Reads as type-in
 use Rattle.messages.proofs.typed.read_body.Reads as read-body
@@ -166,6 +167,17 @@ unfolding bodyRead answerBy valuesBy countIn kindsOf isCount answerOf answers an
     contentOf follows markOf identOf tzIdentOf wordOf aircraftOf plainOf prefixedOf pairOf isPairForm isForm isKey isIdent isTzIdent isFix isTime isClock isPosition
     joins has before after upTo oneOf fitsAny fits pieces run isOf isAlnum isDigit isLetter all within isNumeral isDigitTo digitOf numberOf value codeOf
 speeds-and-levels κs a r s p = rw p (refuses (a .0) (now (a .1 .0)) notHandedOn refl)
+
+-- ---- the flight's key
+
+-- of a TZ the key is not its ident's computer number
+pub key-the-computer-number : (κs : _) (a : _) (r : _) (s : _) → key-in.Post κs a r s → (m : _) → a .0 ≡ body.Tz m
+    → m .ident ≡ record { key = record { 0 = packed (bytes "QQX12") }; number = record { 0 = packed (bytes "101") } } → r ≡ packed (bytes "QQX12")
+key-the-computer-number κs a r s p m e i = p ∙ ap keyIn e ∙ rw i
+
+-- and a heartbeat has none
+pub key-of-a-heartbeat : (κs : _) (a : _) (r : _) (s : _) → key-in.Post κs a r s → a .0 ≡ body.Hb → r ≡ 0
+key-of-a-heartbeat κs a r s p e = p ∙ ap keyIn e
 
 -- ---- values
 

@@ -4,5 +4,6 @@ pub mod Tables
 pub mod ReadWays
 pub mod Theorems
 pub mod Named
+pub mod Keys
 pub mod Unique
 pub mod Examples

@@ -4,6 +4,7 @@ use mathlib.Core.Path.{_≡_, sym, _∙_}
 use Rattle.messages.proofs.Amended.amendment.Reads as held
 use Rattle.messages.proofs.Amendment.amended.Reads as content
 use Rattle.messages.proofs.Plan.filed_level.Reads as filed-level
+use Rattle.messages.proofs.key_in.Reads as key-in
 use Rattle.messages.proofs.marks_in.Reads as marks-in
 use Rattle.messages.proofs.type_in.Reads as type-in
 use Rattle.messages.proofs.typed.read_body.Reads as read-body
@@ -20,6 +21,9 @@ amendment-one κs a r r′ s s′ p q = p ∙ sym q
 
 pub type-in-one : (κs : _) (a : _) (r r′ : _) (s s′ : _) → type-in.Post κs a r s → type-in.Post κs a r′ s′ → r ≡ r′
 type-in-one κs a r r′ s s′ p q = p ∙ sym q
+
+pub key-in-one : (κs : _) (a : _) (r r′ : _) (s s′ : _) → key-in.Post κs a r s → key-in.Post κs a r′ s′ → r ≡ r′
+key-in-one κs a r r′ s s′ p q = p ∙ sym q
 
 pub marks-in-one : (κs : _) (a : _) (r r′ : _) (s s′ : _) → marks-in.Post κs a r s → marks-in.Post κs a r′ s′ → r ≡ r′
 marks-in-one κs a r r′ s s′ p q = p ∙ sym q

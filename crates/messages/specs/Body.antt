@@ -127,6 +127,19 @@ typeIn body.Rt = type.Rt
 typeIn body.To = type.To
 typeIn body.Hb = type.Hb
 
+-- "The flight's key is the part before the slash": the key of the ident, as its word; RT, TO and HB have no ident, and 0 is no key's word
+abbrev pub keyIn : Body → ℕ
+keyIn (body.Af m) = m .ident .key .0
+keyIn (body.Az m) = m .ident .key .0
+keyIn (body.Dz m) = m .ident .key .0
+keyIn (body.Fz p) = p .ident .key .0
+keyIn (body.Rz m) = m .ident .key .0
+keyIn (body.Tz m) = m .ident .key .0
+keyIn (body.Uz p) = p .ident .key .0
+keyIn body.Rt = 0
+keyIn body.To = 0
+keyIn body.Hb = 0
+
 abbrev pub valueOfWord : ℕ → Value
 valueOfWord t = valued t 0 0
 

@@ -26,7 +26,7 @@ use table::kinds;
 use table::kinds::Value;
 ghost use mathlib.Core.Path.{_≡_};
 ghost use Rattle.table.specs.Field.{identIn, aircraftIn};
-ghost use Rattle.messages.specs.Body.{planLevel, amendedIn, heldOf, typeIn, marksIn};
+ghost use Rattle.messages.specs.Body.{planLevel, amendedIn, heldOf, typeIn, keyIn, marksIn};
 
 pub struct Az {
     pub ident: Ident,
@@ -217,6 +217,24 @@ pub fn type_in(b: Body) -> MessageType
         Body::Rt => MessageType::Rt,
         Body::To => MessageType::To,
         Body::Hb => MessageType::Hb,
+    }
+}
+
+// The word of the flight's key, the part of its ident before the slash; 0 for RT, TO and HB, which have none.
+pub fn key_in(b: Body) -> u64
+    ensures { λ r. ⌜ r ≡ keyIn b ⌝ }
+{
+    match b {
+        Body::Af(m) => m.ident.key.0,
+        Body::Az(m) => m.ident.key.0,
+        Body::Dz(m) => m.ident.key.0,
+        Body::Fz(p) => p.ident.key.0,
+        Body::Rz(m) => m.ident.key.0,
+        Body::Tz(m) => m.ident.key.0,
+        Body::Uz(p) => p.ident.key.0,
+        Body::Rt => 0,
+        Body::To => 0,
+        Body::Hb => 0,
     }
 }
 

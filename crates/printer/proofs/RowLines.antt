@@ -100,7 +100,7 @@ parts-take w =
 
 -- ---- each word's part
 
-word-part : (k w : ℕ) → isWord k w ≡ true → partText w ≡ textOf w
+pub word-part : (k w : ℕ) → isWord k w ≡ true → partText w ≡ textOf w
 unfolding partText
 word-part k w e = rw (some-word k w e)
 

@@ -27,7 +27,7 @@ pub enum Printed {
 }
 
 // Writes a name with its space, a number and the byte `after` from place `at`; the place after them.
-fn put_count(name: &[u8], n: u64, after: u8, out: &mut [u8], at: usize) -> usize
+pub fn put_count(name: &[u8], n: u64, after: u8, out: &mut [u8], at: usize) -> usize
     requires { ⌜ at + length (counted (now name) n after) ≤ length (now out) ⌝ }
     ensures { λ r. ⌜ r ≡ at + length (counted (now (name .entry)) n after) ⌝ }
     ensures { λ _. ⌜ now (out .exit) ≡ spliced (now (out .entry)) at (counted (now (name .entry)) n after) ⌝ }

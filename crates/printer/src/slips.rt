@@ -63,7 +63,7 @@ fn put_text(word: u64, out: &mut [u8], at: usize) -> usize
 }
 
 // The same, and the byte `after` after it.
-fn put_part(word: u64, after: u8, out: &mut [u8], at: usize) -> usize
+pub fn put_part(word: u64, after: u8, out: &mut [u8], at: usize) -> usize
     requires { ⌜ (isPacked word ≡ true) × (at + length (partText word) + 1 ≤ length (now out)) ⌝ }
     ensures { λ r. ⌜ r ≡ at + length (partText word) + 1 ⌝ }
     ensures { λ _. ⌜ now (out .exit) ≡ spliced (now (out .entry)) at (partText word ++ after ∷ []) ⌝ }

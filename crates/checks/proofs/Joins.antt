@@ -1,0 +1,110 @@
+-- Two parts of a feed, one after the other: their lines, what is said of these, and how many they are. Assumes nothing.
+use mathlib.Core.Path.{_≡_, refl, sym, ap, _∙_}
+use mathlib.Core.Bool.{Bool, true, false, cond}
+use mathlib.Core.List.{List, [], _∷_, _++_, append-assoc, append-nil}
+use Prim.Native.Nat.{ℕ, suc, _+_, _*_, _≤_}
+use native.Mathlib.Omega.{arith}
+use lib.ListN.{length, length-append, length-map}
+use Rattle.text.specs.Text.{spliced}
+use Rattle.text.proofs.Splice.{spliced-none, spliced-next, length-spliced}
+use Rattle.shapes.specs.Pieces.{pieces}
+use Rattle.rules.specs.Frame.{lineFeed}
+use Rattle.cutter.specs.Feed.{Line, feedOf, allButLast, textsOf, restOf, lineOf, linesOf}
+use Rattle.cutter.specs.State.{State, Bytes, stateIn, isAllowed}
+use Rattle.cutter.specs.Told.{ended, told, stateAfter}
+use Rattle.cutter.proofs.States.{more-none}
+use Rattle.cutter.proofs.Feeds.{feed-text, feed-then}
+use Rattle.checks.specs.Check.{isTaken, saidOf}
+use Rattle.checks.specs.Feed.{checksFrom, readsIn}
+use Rattle.checks.specs.Part.{linesIn, textIn, longestSaying, Adds}
+use Rattle.checks.specs.declared.Sums.{Sums}
+use Rattle.checks.proofs.Lines.{checks-few}
+
+-- ---- lines after lines
+
+pub reads-then : (ls ms : List Line) → readsIn (ls ++ ms) ≡ readsIn ls + readsIn ms
+unfolding readsIn
+reads-then [] ms = omega arith
+reads-then (l ∷ ls) ms = go (isTaken l) (reads-then ls ms)
+  where
+    go : (b : Bool) → readsIn (ls ++ ms) ≡ readsIn ls + readsIn ms → cond b (suc (readsIn (ls ++ ms))) (readsIn (ls ++ ms)) ≡ cond b (suc (readsIn ls)) (readsIn ls) + readsIn ms
+    go true e = omega arith
+    go false e = e
+
+pub reads-few : (ls : List Line) → readsIn ls ≤ length ls
+unfolding readsIn
+reads-few [] = omega arith
+reads-few (l ∷ ls) = go (isTaken l) (reads-few ls)
+  where
+    go : (b : Bool) → readsIn ls ≤ length ls → cond b (suc (readsIn ls)) (readsIn ls) ≤ suc (length ls)
+    go true h = omega arith
+    go false h = omega arith
+
+pub checks-then : (only : Bool) (n : ℕ) (ls ms : List Line) → checksFrom only n (ls ++ ms) ≡ checksFrom only n ls ++ checksFrom only (n + length ls) ms
+unfolding checksFrom
+checks-then only n [] ms = let z : n + 0 ≡ n = omega arith in rw z
+checks-then only n (l ∷ ls) ms =
+    let z : n + suc (length ls) ≡ suc n + length ls = omega arith in
+    rw (z, checks-then only (suc n) ls ms, append-assoc (saidOf only n l) (checksFrom only (suc n) ls) (checksFrom only (suc n + length ls) ms))
+
+-- ---- not more lines than bytes, whatever state they come from
+
+feed-long : (ls : List (List ℕ)) (rest : List ℕ) → length ls + length rest ≤ length (feedOf ls rest)
+unfolding feedOf
+feed-long [] rest = omega arith
+feed-long (l ∷ ls) rest = omega (arith, feed-long ls rest, length-append l (lineFeed ∷ feedOf ls rest))
+
+told-count : (h : State) (ps : List (List ℕ)) → length (told h ps) ≡ length (allButLast ps)
+unfolding told allButLast
+told-count h [] = refl
+told-count h (p ∷ []) = refl
+told-count h (p ∷ (q ∷ ps)) = ap suc (told-count (Bytes []) (q ∷ ps))
+
+pub lines-few : (h : State) (s : List ℕ) → length (told h (pieces lineFeed s)) + length (restOf s) ≤ length s
+unfolding textsOf
+lines-few h s = omega (arith, told-count h (pieces lineFeed s), ap length (feed-text s), feed-long (textsOf s) (restOf s))
+
+-- ---- parts after parts
+
+pub adds-none : (only : Bool) (held : List ℕ) (s : Sums) (out : List ℕ) (at : ℕ) → isAllowed held (s .begun) ≡ true → Adds only held s [] out at held s out at
+unfolding pieces told stateAfter checksFrom readsIn
+adds-none only held s out at a =
+    record {
+      allowed = a;
+      state = sym (more-none held (s .begun) a);
+      lines = omega arith;
+      read = omega arith;
+      place = omega arith;
+      bytes = sym (spliced-none out at);
+    }
+
+module _ {only : Bool} {held : List ℕ} {s : Sums} {a out : List ℕ} {at : ℕ} {held₁ : List ℕ} {s₁ : Sums} {out₁ : List ℕ} {at₁ : ℕ} (x : Adds only held s a out at held₁ s₁ out₁ at₁) where
+  -- the lines of both
+  pub lines-then : (b : List ℕ) → linesIn held s (a ++ b) ≡ linesIn held s a ++ linesIn held₁ s₁ b
+  lines-then b = feed-then (stateIn held (s .begun)) a b .0 ∙ rw (x .state)
+
+  pub text-then : (b : List ℕ) → textIn only held s (a ++ b) ≡ textIn only held s a ++ textIn only held₁ s₁ b
+  text-then b =
+      let z : suc (s .lines) + length (linesIn held s a) ≡ suc (s₁ .lines) = omega (arith, x .lines) in
+      rw (lines-then b, checks-then only (suc (s .lines)) (linesIn held s a) (linesIn held₁ s₁ b), z)
+
+  pub text-few : length (textIn only held s a) ≤ longestSaying * length a
+  text-few = omega (arith, checks-few only (suc (s .lines)) (linesIn held s a), lines-few (stateIn held (s .begun)) a)
+
+  module _ (room : at + length (textIn only held s a) ≤ length out) where
+    pub same-size : length out₁ ≡ length out
+    same-size = ap length (x .bytes) ∙ length-spliced out (textIn only held s a) at room
+
+    -- WHAT BOTH ADD
+    pub adds-then : {b held₂ : List ℕ} {s₂ : Sums} {out₂ : List ℕ} {at₂ : ℕ} → Adds only held₁ s₁ b out₁ at₁ held₂ s₂ out₂ at₂ → Adds only held s (a ++ b) out at held₂ s₂ out₂ at₂
+    adds-then {b} y =
+        let t = text-then b in
+        let l = lines-then b in
+        record {
+          allowed = y .allowed;
+          state = y .state ∙ rw (x .state) (sym (feed-then (stateIn held (s .begun)) a b .1));
+          lines = omega (arith, y .lines, x .lines, ap length l, length-append (linesIn held s a) (linesIn held₁ s₁ b));
+          read = omega (arith, y .read, x .read, ap readsIn l, reads-then (linesIn held s a) (linesIn held₁ s₁ b));
+          place = omega (arith, y .place, x .place, ap length t, length-append (textIn only held s a) (textIn only held₁ s₁ b));
+          bytes = y .bytes ∙ rw (t, x .bytes, x .place) (spliced-next out (textIn only held s a) (textIn only held₁ s₁ b) at room);
+        }

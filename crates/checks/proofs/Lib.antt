@@ -1,0 +1,11 @@
+pub mod Lines
+pub mod Ways
+pub mod Puts
+pub mod Joins
+pub mod Steps
+pub mod Feeds
+pub mod Torn
+pub mod EachLine
+pub mod Theorems
+pub mod Unique
+pub mod Examples

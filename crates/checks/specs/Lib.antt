@@ -1,0 +1,4 @@
+pub mod Check
+pub mod Feed
+pub mod Part
+pub mod Run

@@ -1,0 +1,280 @@
+// Why was this line refused? For each line of a feed one line of text: its number, document 01's answer and place, its type and its flight's
+// key. Memory is fixed, whatever the feed; no board is needed.
+use cutter::Begun;
+use cutter::CutAnswer;
+use cutter::EndAnswer;
+use cutter::cut;
+use cutter::line;
+use fields::heads::MessageType;
+use line::LineRead;
+use messages::Message;
+use messages::key_in;
+use messages::type_in;
+use printer::put_count;
+use printer::slips::put_part;
+ghost use mathlib.Core.Path.{_≡_};
+ghost use mathlib.Core.Bool.{true};
+ghost use Prim.Native.Nat.{suc, _+_, _≤_, _<_, _^_};
+ghost use lib.ListN.{length, take};
+ghost use Rattle.text.specs.Text.{packed, spliced};
+ghost use Rattle.fields.specs.MessageType.{typeText};
+ghost use Rattle.cutter.specs.State.{stateIn, isAllowed};
+ghost use Rattle.cutter.specs.Calls.{lineIn};
+ghost use Rattle.cutter.specs.Cases.{toldBy};
+ghost use Rattle.line.specs.Read.{readOf};
+ghost use Rattle.line.specs.declared.LineRead.the-variants as read;
+ghost use Rattle.checks.specs.Part.{verdictBy, judgedOf, isVerdict, verdictText, verdictSaid, counted, longestSaying, Adds, Ready, StepReady, Steps, Continues, tornIn, EndReady, EndsFeed};
+
+// No line of text is longer.
+pub const LONGEST_SAYING: usize = 90;
+
+// What is kept from part to part: the cutter's state, how many lines ended, and how many of these read.
+pub struct Sums {
+    pub begun: Begun,
+    pub lines: usize,
+    pub read: usize,
+}
+
+// What is said of a line but for its number: document 01's answer and place, and the words of its type and its flight's key, 0 where there is none.
+pub struct Verdict {
+    pub answer: u64,
+    pub place: u64,
+    pub kind: u64,
+    pub key: u64,
+}
+
+pub enum Judged {
+    Line(Verdict),
+    Nothing,
+}
+
+// How far a step came: the counts, how many bytes of the part it used, and the place after what it wrote.
+pub struct Turn {
+    pub sums: Sums,
+    pub used: usize,
+    pub next: usize,
+}
+
+// After a part: the counts, and how many bytes were written.
+pub struct Said {
+    pub sums: Sums,
+    pub size: usize,
+}
+
+// The words of the types.
+const AF: u64 = 2724743942026889216;
+
+const AZ: u64 = 2850308178986653696;
+
+const DZ: u64 = 3566024329657311232;
+
+const FZ: u64 = 4043168430104416256;
+
+const RZ: u64 = 6906033032787046400;
+
+const TZ: u64 = 7383177133234151424;
+
+const UZ: u64 = 7621749183457703936;
+
+const RT: u64 = 6868363761699117056;
+
+const TO: u64 = 7314116802906280960;
+
+const HB: u64 = 4369635446199803904;
+
+fn type_word(kind: MessageType) -> u64
+    ensures { λ r. ⌜ r ≡ packed (typeText kind) ⌝ }
+{
+    match kind {
+        MessageType::Af => AF,
+        MessageType::Az => AZ,
+        MessageType::Dz => DZ,
+        MessageType::Fz => FZ,
+        MessageType::Rz => RZ,
+        MessageType::Tz => TZ,
+        MessageType::Uz => UZ,
+        MessageType::Rt => RT,
+        MessageType::To => TO,
+        MessageType::Hb => HB,
+    }
+}
+
+// A message has no answer but 0, and no place.
+fn of_message(m: Message) -> Verdict
+    ensures { λ r. ⌜ r ≡ verdictBy (read.Read m) ⌝ }
+{
+    let body = m.body;
+    let kind = type_word(type_in(body));
+    let key = key_in(body);
+    Verdict {
+        answer: 0,
+        place: 0,
+        kind,
+        key,
+    }
+}
+
+// What is said of a line that is not overlong.
+fn judge_line(line: &[u8]) -> Verdict
+    ensures { λ r. ⌜ r ≡ verdictBy (readOf (now (line .entry))) ⌝ }
+{
+    let read = line::read(line);
+    match read {
+        LineRead::Read(m) => of_message(m),
+        LineRead::Refused(refusal) => Verdict {
+            answer: refusal.number() as u64,
+            place: refusal.place() as u64,
+            kind: 0,
+            key: 0,
+        },
+    }
+}
+
+// Of the line that a cut told of, if it did. An overlong one answers 2.
+fn judge<'a>(answer: CutAnswer, held: &'a [u8], rest: &'a [u8]) -> Judged
+    ensures { λ r. ⌜ r ≡ judgedOf (toldBy answer (lineIn answer (now (held .entry)) (now (rest .entry)))) ⌝ }
+{
+    match answer {
+        CutAnswer::InBuffer(_) => Judged::Line(judge_line(line(answer, held, rest))),
+        CutAnswer::InPart(_) => Judged::Line(judge_line(line(answer, held, rest))),
+        CutAnswer::TooLong => Judged::Line(Verdict {
+            answer: 2,
+            place: 0,
+            kind: 0,
+            key: 0,
+        }),
+        _ => Judged::Nothing,
+    }
+}
+
+// Writes the line of text of the n-th line from place `at`; the place after it.
+fn put(n: u64, verdict: Verdict, out: &mut [u8], at: usize) -> usize
+    requires { ⌜ isVerdict verdict ≡ true ⌝ }
+    requires { ⌜ at + longestSaying ≤ length (now out) ⌝ }
+    ensures { λ r. ⌜ r ≡ at + length (verdictText n verdict) ⌝ }
+    ensures { λ _. ⌜ now (out .exit) ≡ spliced (now (out .entry)) at (verdictText n verdict) ⌝ }
+{
+    let j = put_count(b"", n, b' ', out, at);
+    let j = put_count(b"", verdict.answer, b' ', out, j);
+    let j = put_count(b"", verdict.place, b' ', out, j);
+    let j = put_part(verdict.kind, b' ', out, j);
+    put_part(verdict.key, b'\n', out, j)
+}
+
+// One line more: what is said of it, from place `at`; the place after it. Where only the refused lines are asked for, nothing is said of a line that reads.
+fn say(only: bool, n: u64, verdict: Verdict, out: &mut [u8], at: usize) -> usize
+    requires { ⌜ isVerdict verdict ≡ true ⌝ }
+    requires { ⌜ at + longestSaying ≤ length (now out) ⌝ }
+    ensures { λ r. ⌜ r ≡ at + length (verdictSaid only n verdict) ⌝ }
+    ensures { λ _. ⌜ now (out .exit) ≡ spliced (now (out .entry)) at (verdictSaid only n verdict) ⌝ }
+{
+    if !only {
+        return put(n, verdict, out, at);
+    }
+    if verdict.answer == 0 {
+        return at;
+    }
+    put(n, verdict, out, at)
+}
+
+// A line is counted, also where nothing is said of it.
+fn count(sums: Sums, verdict: Verdict) -> Sums
+    requires { ⌜ (sums .lines + 1 < 2 ^ 64) × (sums .read ≤ sums .lines) ⌝ }
+    ensures { λ r. ⌜ r ≡ counted sums verdict ⌝ }
+{
+    let begun = sums.begun;
+    if verdict.answer == 0 {
+        return Sums {
+            begun,
+            lines: sums.lines + 1,
+            read: sums.read + 1,
+        };
+    }
+    Sums {
+        begun,
+        lines: sums.lines + 1,
+        read: sums.read,
+    }
+}
+
+// One line of what is left of the part, or all of it where no line ends there.
+fn step(held: &mut [u8], only: bool, sums: Sums, rest: &[u8], out: &mut [u8], at: usize) -> Turn
+    requires { ⌜ StepReady (now held) sums (now rest) (now out) at ⌝ }
+    ensures { λ r. ⌜ Steps only (now (held .entry)) sums (now (rest .entry)) (now (out .entry)) at (now (held .exit)) r (now (out .exit)) ⌝ }
+{
+    let begun = sums.begun;
+    let done = cut(held, begun, rest);
+    let answer = done.answer;
+    let begun = done.begun;
+    let sums = Sums {
+        begun,
+        lines: sums.lines,
+        read: sums.read,
+    };
+    let judged = judge(answer, &held[..], rest);
+    match judged {
+        Judged::Line(verdict) => {
+            let next = say(only, (sums.lines + 1) as u64, verdict, out, at);
+            let sums = count(sums, verdict);
+            Turn {
+                sums,
+                used: done.used,
+                next,
+            }
+        }
+        Judged::Nothing => Turn {
+            sums,
+            used: done.used,
+            next: at,
+        },
+    }
+}
+
+// Cuts the part into its lines, and writes what is said of them from the start of out: a part of any size, with room for a line of text for each of
+// its bytes.
+pub fn check(held: &mut [u8], only: bool, sums: Sums, part: &[u8], out: &mut [u8]) -> Said
+    requires { ⌜ Ready (now held) sums (now part) (length (now out)) ⌝ }
+    ensures { λ r. ⌜ Adds only (now (held .entry)) sums (now (part .entry)) (now (out .entry)) 0 (now (held .exit)) (r .sums) (now (out .exit)) (r .size) ⌝ }
+    ensures { λ r. ⌜ r .size ≤ length (now (out .exit)) ⌝ }
+    ensures { λ r. ⌜ Continues only (now (held .entry)) sums (now (part .entry)) (now (held .exit)) (r .sums) (take (r .size) (now (out .exit))) ⌝ }
+{
+    let mut now = sums;
+    let mut used: usize = 0;
+    let mut at: usize = 0;
+    while used < part.len() {
+        let turn = step(held, only, now, &part[used..], out, at);
+        now = turn.sums;
+        used += turn.used;
+        at = turn.next;
+    }
+    Said {
+        sums: now,
+        size: at,
+    }
+}
+
+// The end of the feed: an unended rest is no line, and answers 17. Writes what is said of it at the start of out.
+pub fn end(held: &[u8], sums: Sums, out: &mut [u8]) -> usize
+    requires { ⌜ EndReady (now held) sums (length (now out)) ⌝ }
+    ensures { λ r. ⌜ r ≡ length (tornIn (suc (sums .lines)) (stateIn (now (held .entry)) (sums .begun))) ⌝ }
+    ensures { λ _. ⌜ now (out .exit) ≡ spliced (now (out .entry)) 0 (tornIn (suc (sums .lines)) (stateIn (now (held .entry)) (sums .begun))) ⌝ }
+    ensures { λ r. ⌜ EndsFeed (now (held .entry)) sums (take r (now (out .exit))) ⌝ }
+{
+    let begun = sums.begun;
+    let end = cutter::end(held, begun);
+    let answer = end.answer;
+    match answer {
+        EndAnswer::InsideLine => put(
+            (sums.lines + 1) as u64,
+            Verdict {
+                answer: 17,
+                place: 0,
+                kind: 0,
+                key: 0,
+            },
+            out,
+            0,
+        ),
+        _ => 0,
+    }
+}

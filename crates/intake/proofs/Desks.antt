@@ -1,0 +1,167 @@
+-- The work of a check, block after block: what is kept stays so, what is handed over next is exactly what is said of what came, and when there is more.
+-- Assumes nothing.
+use mathlib.Core.Path.{_≡_, refl, sym, ap, _∙_}
+use mathlib.Core.Bool.{Bool, true, false, cond, _&&_}
+use mathlib.Core.List.{List, [], _++_}
+use Prim.Native.Nat.{ℕ, suc, _+_, _*_, _-_, _≤_, _<_, _^_}
+use native.Mathlib.Omega.{arith}
+use lib.ListN.{length, take, length-append}
+use lib.Seq.{length-take-le}
+use Rattle.text.proofs.Logic.{and-left, and-right, true-false}
+use Rattle.rules.specs.Frame.{longestLine}
+use Rattle.cutter.specs.Feed.{linesOf, restOf}
+use Rattle.cutter.specs.State.{Bytes, stateIn}
+use Rattle.checks.specs.Check.{tornOf}
+use Rattle.checks.specs.Feed.{checksFrom, checksOf, checkedOf, readsIn, Checked}
+use Rattle.checks.specs.Part.{longestSaying, Ready, Continues, EndReady, EndsFeed}
+use Rattle.checks.specs.Run.{atFirst}
+use Rattle.checks.specs.declared.Sums.{Sums}
+use Rattle.checks.proofs.Joins.{reads-few}
+use Rattle.checks.proofs.Feeds.{first-checked}
+use Rattle.checks.proofs.Torn.{inside-rest}
+use Rattle.checks.proofs.Theorems.{checked-few}
+use Rattle.intake.specs.Edge.{Came}
+use Rattle.intake.specs.Desk.{Next, More, Last, Handed, isOn, Said, Kept, Works, Whole, Done}
+use Rattle.intake.specs.declared.input.Input.{Input}
+use Rattle.intake.specs.declared.output.Output.{Output}
+use Rattle.intake.specs.declared.checking.Work.{Work}
+
+-- ---- whether there is more
+
+module _ (w : Work) where
+  pub on-ended : w .input .live ≡ false → false ≡ isOn w
+  unfolding isOn
+  on-ended e = rw e
+
+  pub on-live : w .input .live ≡ true → {b : Bool} → b ≡ w .output .live → b ≡ isOn w
+  unfolding isOn
+  on-live e f = rw e f
+
+  pub on-first : w .input .live ≡ true → w .output .live ≡ true → true ≡ isOn w
+  unfolding isOn
+  on-first e f = rw (e, f)
+
+  pub on-is : isOn w ≡ true → (w .input .live ≡ true) × (w .output .live ≡ true)
+  unfolding isOn
+  on-is e = (and-left (w .input .live) (w .output .live) e, and-right (w .input .live) (w .output .live) e)
+
+  -- where what was said was taken, no more comes
+  pub off-is : isOn w ≡ false → w .output .live ≡ true → w .input .live ≡ false
+  unfolding isOn
+  off-is e f = go (w .input .live) (rw f at e)
+    where
+      go : (b : Bool) → (b && true) ≡ false → b ≡ false
+      go true q = q
+      go false q = q
+
+-- ---- the start
+
+pub first-kept : (only : Bool) (held : List ℕ) → length held ≡ longestLine → (i : Input) → i .total ≡ 0 → (o : Output) → o .total ≡ 0
+    → Kept only held (record { input = i; sums = atFirst; output = o })
+unfolding checksOf
+first-kept only held h i e o f =
+    let c = first-checked only held h in
+    ([], record { checked = record { allowed = c .allowed; state = c .state; lines = c .lines; read = c .read; text = refl }; came = sym e; handed = λ q. f ∙ ap length (c .text) })
+
+-- ---- a block
+
+module _ (only : Bool) (held : List ℕ) (w : Work) (k : Kept only held w) where
+  abbrev feed : List ℕ
+  feed = k .0
+
+  abbrev has : Checked only feed held (w .sums) (checksOf only feed)
+  has = k .1 .checked
+
+  -- fewer lines than bytes, so that the counts have room
+  few : w .sums .lines + length (restOf feed) ≤ w .input .total
+  few = omega (arith, checked-few has, k .1 .came)
+
+  pub fewer : w .sums .read ≤ w .sums .lines
+  fewer = omega (arith, has .lines, has .read, reads-few (linesOf feed))
+
+  -- what came is a part that can be checked
+  pub block-ready : (part : List ℕ) (room : ℕ) → w .input .total + length part < 2 ^ 64 → longestSaying * length part ≤ room → Ready held (w .sums) part room
+  block-ready part room h r = record { allowed = has .allowed; few = omega (arith, few); less = fewer; roomy = r }
+
+  module _ (on : isOn w ≡ true) (part held′ : List ℕ) (s′ : Sums) (text : List ℕ) (x : Continues only held (w .sums) part held′ s′ text) where
+    next : Checked only (feed ++ part) held′ s′ (checksOf only feed ++ text)
+    next = x feed (checksOf only feed) has
+
+    pub block-next : (n : ℕ) → n ≡ w .input .total + length part → Next only n (w .output .total) text
+    block-next n e = More feed part (omega (arith, e, length-append feed part, k .1 .came)) (k .1 .handed (on-is w on .1)) (sym (next .text))
+
+    pub block-kept : (i : Input) → i .total ≡ w .input .total + length part → (o : Output) → Handed (w .output) (length text) o → Kept only held′ (record { input = i; sums = s′; output = o })
+    block-kept i e o h = (
+      feed ++ part,
+      record {
+        checked = record { allowed = next .allowed; state = next .state; lines = next .lines; read = next .read; text = refl };
+        came = omega (arith, e, length-append feed part, k .1 .came);
+        handed = λ q. omega (arith, h q, k .1 .handed (on-is w on .1), ap length (next .text), length-append (checksOf only feed) text);
+      },
+    )
+
+-- as many bytes as came stand at the start of the block
+module _ (i : Input) (block : List ℕ) (j : Input) (c : Came i (length block) j) {m n : ℕ} (e : m ≡ j .total) (f : n ≡ i .total) where
+  pub came-inside : m - n ≤ length block
+  came-inside = omega (arith, e, f, c .least, c .most)
+
+  pub came-size : length (take (m - n) block) ≡ m - n
+  came-size = length-take-le (m - n) block came-inside
+
+  pub came-total : j .total ≡ i .total + length (take (m - n) block)
+  came-total = omega (arith, came-size, e, f, c .least)
+
+-- ---- with each read there is less to come: fewer bytes, or none at all
+
+abbrev pub stillToCome : Work → ℕ
+stillToCome w = 2 ^ 64 - w .input .total + cond (w .input .live) 1 0
+
+pub less-still : (w w′ : Work) (size : ℕ) → Came (w .input) size (w′ .input) → w .input .live ≡ true → stillToCome w′ < stillToCome w
+less-still w w′ size c e = go (w′ .input .live) refl
+  where
+    go : (b : Bool) → w′ .input .live ≡ b → stillToCome w′ < stillToCome w
+    go true q = let s = c .some q in rw (e, q) (omega (arith, s .0, s .1))
+    go false q = rw (e, q, c .none q) (omega arith)
+
+-- ---- the end
+
+module _ (only : Bool) (held : List ℕ) (w : Work) (h : Whole only held w) where
+  abbrev all : List ℕ
+  all = h .0 .0
+
+  abbrev said : Checked only all held (w .sums) (checksOf only all)
+  said = h .0 .1 .checked
+
+  pub end-ready : (room : ℕ) → w .input .total < 2 ^ 64 → longestSaying ≤ room → EndReady held (w .sums) room
+  end-ready room t r =
+      record {
+        allowed = said .allowed;
+        few = λ q. omega (arith, few only held w (h .0), inside-rest said q, t);
+        roomy = r;
+      }
+
+  -- nothing more is taken
+  pub done-closed : w .output .live ≡ false → Done only w
+  done-closed q =
+      record { feed = all; came = h .0 .1 .came; lines = said .lines; read = said .read; fewer = fewer only held w (h .0); handed = λ p. true-false p q }
+
+  module _ (live : w .output .live ≡ true) (text : List ℕ) (x : EndsFeed held (w .sums) text) where
+    whole : checkedOf only all ≡ checksOf only all ++ text
+    unfolding checkedOf
+    whole =
+        let t : text ≡ tornOf (suc (length (linesOf all))) (restOf all) = x only all (checksOf only all) said ∙ ap (λ (n : ℕ). tornOf (suc n) (restOf all)) (said .lines) in
+        ap (λ (l : List ℕ). checksOf only all ++ l) (sym t)
+
+    pub end-next : Next only (w .input .total) (w .output .total) text
+    end-next = Last all (h .0 .1 .came) (h .0 .1 .handed live) whole
+
+    pub end-done : (o : Output) → Handed (w .output) (length text) o → Done only (record { input = w .input; sums = w .sums; output = o })
+    end-done o k =
+        record {
+          feed = all;
+          came = h .0 .1 .came;
+          lines = said .lines;
+          read = said .read;
+          fewer = fewer only held w (h .0);
+          handed = λ q. (off-is w (h .1) live, omega (arith, k q, h .0 .1 .handed live, ap length whole, length-append (checksOf only all) text));
+        }

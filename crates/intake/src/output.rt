@@ -1,0 +1,57 @@
+// THE OTHER EDGE of a check: the one place where what is said of lines goes out. Nothing outside this file can make an `Output`, so no other code
+// can say that bytes were handed over.
+use crate::input::Input;
+use libc::STDOUT_FILENO;
+ghost use mathlib.Core.Path.{_≡_};
+ghost use mathlib.Core.Bool.{true, false};
+ghost use lib.ListN.{length};
+ghost use Rattle.intake.specs.Desk.{Next, Handed};
+
+// How many bytes were handed to standard output, and whether it takes more.
+pub struct Output {
+    total: usize,
+    live: bool,
+}
+
+pub fn start() -> Output
+    ensures { λ r. ⌜ (r .total ≡ 0) × (r .live ≡ true) ⌝ }
+{
+    Output {
+        total: 0,
+        live: true,
+    }
+}
+
+// A write failed, or more bytes than any output has.
+fn closed(output: Output) -> Output
+    ensures { λ r. ⌜ r .live ≡ false ⌝ }
+{
+    Output {
+        total: output.total,
+        live: false,
+    }
+}
+
+// What is said next of what came in, and nothing else.
+pub fn hand_over(output: Output, input: Input, only: bool, text: &[u8]) -> Output
+    requires { ⌜ Next only (input .total) (output .total) (now text) ⌝ }
+    ensures { λ r. ⌜ Handed output (length (now (text .entry))) r ⌝ }
+{
+    if text.len() > usize::MAX - output.total {
+        return closed(output);
+    }
+    if !io::write_all(STDOUT_FILENO, text) {
+        os::fail(b"standard output");
+        return closed(output);
+    }
+    Output {
+        total: output.total + text.len(),
+        live: true,
+    }
+}
+
+pub fn is_live(output: Output) -> bool
+    ensures { λ r. ⌜ r ≡ output .live ⌝ }
+{
+    output.live
+}
