@@ -1,0 +1,123 @@
+// The desks' program: a word for each job.
+use check::same;
+use intake::say;
+use intake::words::is_help;
+use intake::words::is_option;
+use libc::STDIN_FILENO;
+use libc::STDOUT_FILENO;
+
+const HELP: [u8; 229] =
+    *b"desk: what the desks ask of a feed\n\n  desk check [--refused] [FILE]    each line of the feed with its answer\n\n'desk check --help' says more of it. What went wrong is said on standard error; there is\nno exit status that tells it.\n";
+
+const CHECK_HELP: [u8; 727] =
+    *b"desk check: why was this line refused?\n\n  desk check            reads standard input; so does 'desk check -'\n  desk check FILE       reads the file\n  desk check --refused [FILE]    leaves out the lines that are read\n\nEach line of the feed gets a line: NUMBER ANSWER PLACE TYPE KEY. NUMBER counts from 1.\nANSWER is 0 for a line that is read, else the number that says why not, and PLACE the\nfield at fault, 1 for the ident, or 0. TYPE and KEY are those of a line that is read, a\nhyphen where there is none. 2 is an overlong line, 17 a last line without a line feed.\nThe sums go to standard error: how many LINES, how many READ, how many REFUSED. No board\nis there, so a line that would find the board full is read all the same.\n";
+
+fn print_help() {
+    let text = HELP;
+    io::write_all(STDOUT_FILENO, &text);
+}
+
+fn print_check_help() {
+    let text = CHECK_HELP;
+    io::write_all(STDOUT_FILENO, &text);
+}
+
+// The checks of the feed in the file that is named; of standard input where that is a hyphen.
+fn check_named(name: &[u8], only: bool) {
+    if same(name, b"-") {
+        return intake::checking::run(STDIN_FILENO, b"standard input", only);
+    }
+    if is_option(name) {
+        return say(
+            name,
+            b"no such option; 'desk check --help' names what there is",
+        );
+    }
+    let fd = os::open_read(name);
+    if fd < 0 {
+        os::fail(name);
+        return;
+    }
+    intake::checking::run(fd, name, only);
+    libc::close(fd);
+}
+
+// One word after 'check'.
+fn check_word(word: &[u8]) {
+    if is_help(word) {
+        return print_check_help();
+    }
+    if same(word, b"--refused") {
+        return check_named(b"-", true);
+    }
+    check_named(word, false);
+}
+
+// Two words after 'check': the first is the option.
+fn check_words(option: &[u8], name: &[u8]) {
+    if same(option, b"--refused") {
+        return check_named(name, true);
+    }
+    if is_option(option) {
+        return say(
+            option,
+            b"no such option; 'desk check --help' names what there is",
+        );
+    }
+    say(
+        b"desk check",
+        b"it reads one feed; 'desk check --help' says how",
+    );
+}
+
+fn check() {
+    let words = os::arg_count();
+    if words < 3 {
+        return check_named(b"-", false);
+    }
+    if words > 4 {
+        return say(
+            b"desk check",
+            b"it reads one feed; 'desk check --help' says how",
+        );
+    }
+    let mut first = io::buffer();
+    let n = os::arg(2, &mut first);
+    if os::errno() != 0 {
+        return os::fail(b"the word after check");
+    }
+    if words < 4 {
+        return check_word(&first[..n]);
+    }
+    let mut second = io::buffer();
+    let m = os::arg(3, &mut second);
+    if os::errno() != 0 {
+        return os::fail(b"the name of the file");
+    }
+    check_words(&first[..n], &second[..m]);
+}
+
+fn job(word: &[u8]) {
+    if is_help(word) {
+        return print_help();
+    }
+    if same(word, b"check") {
+        return check();
+    }
+    say(word, b"no such word; 'desk --help' names what there is");
+}
+
+fn main() {
+    if os::arg_count() < 2 {
+        return say(
+            b"desk",
+            b"a word is missing; 'desk --help' names what there is",
+        );
+    }
+    let mut word = io::buffer();
+    let n = os::arg(1, &mut word);
+    if os::errno() != 0 {
+        return os::fail(b"the word");
+    }
+    job(&word[..n]);
+}
