@@ -14,7 +14,7 @@ use Rattle.text.specs.Decimal.{widthBy, decimal}
 use Rattle.text.specs.Number.{isDigitTo, digitOf, isNumeral, numberOf as number, padded}
 use Rattle.text.specs.Place.{value, digits, places, allIn}
 use Rattle.text.specs.Text.{packed, textOf}
-use Rattle.text.proofs.Splice.{spliced-none}
+use Rattle.text.proofs.Splice.{take-spliced, spliced-none}
 use Rattle.shapes.specs.Cut.{upTo, has, before, after, joins}
 use Rattle.shapes.specs.Picture.{isOf, fits, fitsAny, oneOf, run, within}
 use Rattle.shapes.specs.Pieces.{pieces, noneHas}
@@ -35,7 +35,7 @@ use Rattle.line.specs.Read.{headOf, restOf, readOf}
 use Rattle.printer.specs.RowText.{lineText}
 use Rattle.printer.specs.Parts.{partText}
 use Rattle.cutter.specs.Feed.{Line, Whole, TooLong, feedOf, lineOf, linesOf}
-use Rattle.cutter.specs.State.{stateIn}
+use Rattle.cutter.specs.State.{Mark, stateIn}
 use Rattle.cutter.specs.Calls.{start}
 use Rattle.cutter.specs.Told.{told}
 use Rattle.cutter.specs.declared.Begun.{Begun}
@@ -145,9 +145,15 @@ overlong-answered-0 κs a r s p b n text h l e = said κs a r s p b text h e ∙
 -- ---- wrong answers of `end`
 
 -- a begun line, overlong or not, is 17
-pub end-says-nothing : (κs : _) (a : _) (r : _) (s : _) → end.Post κs a r s → a .1 .0 .begun ≡ Overlong → a .1 .0 .lines ≡ 1 → r ≡ length (ended "2 17 0 - -")
-unfolding stateIn tornIn lineText decimal widthBy padded places byteOf
-end-says-nothing κs a r s p b n = p .0 ∙ rw (b, n)
+torn-said : tornIn 2 Mark ≡ ended "2 17 0 - -"
+unfolding tornIn lineText decimal widthBy padded places byteOf
+torn-said = refl
+
+pub end-answers-0 : (κs : _) (a : _) (r : _) (s : _) → end.Post κs a r s → a .1 .0 .begun ≡ Overlong → a .1 .0 .lines ≡ 1 → take r (now (s .1 .1 .0)) ≡ ended "2 17 0 - -"
+unfolding stateIn
+end-answers-0 κs a r s p b n =
+    let t : tornIn (suc (a .1 .0 .lines)) (stateIn (now (a .0)) (a .1 .0 .begun)) ≡ ended "2 17 0 - -" = rw (b, n) torn-said in
+    rw (p .1 .0) (take-spliced (now (a .1 .1 .0)) _ r (p .0)) ∙ t
 
 -- at a line's start there is nothing to say
 pub end-says-17-at-start : (κs : _) (a : _) (r : _) (s : _) → end.Post κs a r s → a .1 .0 .begun ≡ Held 0 → (r ≡ 0) × (now (s .1 .1 .0) ≡ now (a .1 .1 .0))
