@@ -1,6 +1,6 @@
 -- What the promises of `checks` require on inputs written out, and so wrong answers that they do not allow: of each, `Post` is the function's
 -- `ensures` as it stands in the source, r any result that meets it, s the state at exit. Assumes nothing.
-use Prim.Native.Nat.{ℕ, suc}
+use Prim.Native.Nat.{ℕ, suc, _+_}
 use Prim.Native.String.{String}
 use mathlib.Core.Bool.{Bool, true, false}
 use mathlib.Core.List.{List, [], _∷_, _++_, map, append-nil}
@@ -14,7 +14,7 @@ use Rattle.text.specs.Decimal.{widthBy, decimal}
 use Rattle.text.specs.Number.{isDigitTo, digitOf, isNumeral, numberOf as number, padded}
 use Rattle.text.specs.Place.{value, digits, places, allIn}
 use Rattle.text.specs.Text.{packed, textOf}
-use Rattle.text.proofs.Splice.{spliced-none}
+use Rattle.text.proofs.Splice.{take-spliced, spliced-none}
 use Rattle.shapes.specs.Cut.{upTo, has, before, after, joins}
 use Rattle.shapes.specs.Picture.{isOf, fits, fitsAny, oneOf, run, within}
 use Rattle.shapes.specs.Pieces.{pieces, noneHas}
@@ -35,14 +35,14 @@ use Rattle.line.specs.Read.{headOf, restOf, readOf}
 use Rattle.printer.specs.RowText.{lineText}
 use Rattle.printer.specs.Parts.{partText}
 use Rattle.cutter.specs.Feed.{Line, Whole, TooLong, feedOf, lineOf, linesOf}
-use Rattle.cutter.specs.State.{stateIn}
+use Rattle.cutter.specs.State.{Mark, stateIn}
 use Rattle.cutter.specs.Calls.{start}
 use Rattle.cutter.specs.Told.{told}
 use Rattle.cutter.specs.declared.Begun.{Begun}
 use Rattle.cutter.specs.declared.Begun.the-variants.{Held, Overlong}
 use Rattle.cutter.proofs.Feeds.{feed-only, start-lines}
 use Rattle.checks.specs.Check.{saidOf, checkOf, isTaken, tornOf}
-use Rattle.checks.specs.Feed.{checksFrom}
+use Rattle.checks.specs.Feed.{checksFrom, readsIn}
 use Rattle.checks.specs.Part.{tornIn}
 use Rattle.checks.proofs.Feeds.{the-text}
 use Rattle.checks.proofs.check.Reads as check
@@ -74,6 +74,14 @@ said κs a r s p b text h e =
     from-start (now (a .0)) (a .1 .1 .0 .begun) b (now (a .1 .1 .1 .0)) ∙ ap linesOf e ∙ one-line text h in
     the-text (p .0) ∙ ap (checksFrom (a .1 .0) n) l ∙ says (a .1 .0) n (lineOf text)
 
+-- and how it is counted
+counts : (κs : _) (a : _) (r : _) (s : _) → check.Post κs a r s → a .1 .1 .0 .begun ≡ start → (text : List ℕ) → has lineFeed text ≡ false → now (a .1 .1 .1 .0) ≡ text ++ lineFeed ∷ []
+    → (r .sums .lines ≡ a .1 .1 .0 .lines + 1) × (r .sums .read ≡ a .1 .1 .0 .read + readsIn (lineOf text ∷ []))
+counts κs a r s p b text h e =
+    let l : told (stateIn (now (a .0)) (a .1 .1 .0 .begun)) (pieces lineFeed (now (a .1 .1 .1 .0))) ≡ lineOf text ∷ [] =
+    from-start (now (a .0)) (a .1 .1 .0 .begun) b (now (a .1 .1 .1 .0)) ∙ ap linesOf e ∙ one-line text h in
+    (p .0 .lines ∙ rw l, p .0 .read ∙ rw l)
+
 -- ---- lines of document 01
 
 abbrev line1 : String
@@ -92,10 +100,12 @@ Told =
     × (saidOf true 1 (lineOf (bytes line1)) ≡ [])
     × (saidOf true 5 (lineOf (bytes line5)) ≡ ended "5 9 1 - -")
     × (saidOf false 6 (lineOf (bytes beat)) ≡ ended "6 0 0 HB -")
+    × (readsIn (lineOf (bytes line1) ∷ []) ≡ 1)
+    × (readsIn (lineOf (bytes line5) ∷ []) ≡ 0)
 
 told-them : Told
-unfolding saidOf isTaken checkOf lineOf lineText partText textOf digits byteOf decimal widthBy padded places readOf headOf restOf bodyRead bodyFrom typeOf allIn answerBy valuesBy kindsOf countIn isCount countWith filled valuesFrom answerFrom counted answers values answerOf valuesOf plain traceOf marksOf readKind readIn follows spaced fieldsOf identFrom identOf tzIdentOf isPairForm pairOf wordOf isForm isStamp isKey isIdent isTzIdent isPosition upTo has before after joins isOf fits fitsAny oneOf run within pieces isDigitTo digitOf isNumeral number packed value codeOf all isDigit isLetter isAlnum
-told-them = (refl, refl, refl, refl)
+unfolding saidOf isTaken checkOf readsIn lineOf lineText partText textOf digits byteOf decimal widthBy padded places readOf headOf restOf bodyRead bodyFrom typeOf allIn answerBy valuesBy kindsOf countIn isCount countWith filled valuesFrom answerFrom counted answers values answerOf valuesOf plain traceOf marksOf readKind readIn follows spaced fieldsOf identFrom identOf tzIdentOf isPairForm pairOf wordOf isForm isStamp isKey isIdent isTzIdent isPosition upTo has before after joins isOf fits fitsAny oneOf run within pieces isDigitTo digitOf isNumeral number packed value codeOf all isDigit isLetter isAlnum
+told-them = (refl, refl, refl, refl, refl, refl)
 
 -- a text without a line feed
 clean-1 : has lineFeed (bytes line1) ≡ false
@@ -132,6 +142,15 @@ pub heartbeat-with-a-key : (κs : _) (a : _) (r : _) (s : _) → check.Post κs 
     → take (r .size) (now (s .1 .1 .1 .1 .0)) ≡ ended "6 0 0 HB -"
 heartbeat-with-a-key κs a r s p o b n e = said κs a r s p b (bytes beat) clean-beat e ∙ rw (o, n) (told-them .3)
 
+-- READ counts the lines that read, and LINES all of them
+pub a-line-that-reads-not-counted : (κs : _) (a : _) (r : _) (s : _) → check.Post κs a r s → a .1 .1 .0 .begun ≡ start → now (a .1 .1 .1 .0) ≡ ended line1
+    → (r .sums .lines ≡ a .1 .1 .0 .lines + 1) × (r .sums .read ≡ a .1 .1 .0 .read + 1)
+a-line-that-reads-not-counted κs a r s p b e = let c = counts κs a r s p b (bytes line1) clean-1 e in (c .0, c .1 ∙ rw (told-them .4))
+
+pub refused-counted-as-read : (κs : _) (a : _) (r : _) (s : _) → check.Post κs a r s → a .1 .1 .0 .begun ≡ start → now (a .1 .1 .1 .0) ≡ ended line5
+    → (r .sums .lines ≡ a .1 .1 .0 .lines + 1) × (r .sums .read ≡ a .1 .1 .0 .read + 0)
+refused-counted-as-read κs a r s p b e = let c = counts κs a r s p b (bytes line5) clean-5 e in (c .0, c .1 ∙ rw (told-them .5))
+
 -- "line over 2,048 bytes" is 2, whether all are asked for or the refused only
 over : (only : Bool) (text : List ℕ) → length text ≡ 2049 → saidOf only 2 (lineOf text) ≡ ended "2 2 0 - -"
 unfolding saidOf isTaken checkOf lineOf lineText decimal widthBy padded places byteOf
@@ -145,9 +164,15 @@ overlong-answered-0 κs a r s p b n text h l e = said κs a r s p b text h e ∙
 -- ---- wrong answers of `end`
 
 -- a begun line, overlong or not, is 17
-pub end-says-nothing : (κs : _) (a : _) (r : _) (s : _) → end.Post κs a r s → a .1 .0 .begun ≡ Overlong → a .1 .0 .lines ≡ 1 → r ≡ length (ended "2 17 0 - -")
-unfolding stateIn tornIn lineText decimal widthBy padded places byteOf
-end-says-nothing κs a r s p b n = p .0 ∙ rw (b, n)
+torn-said : tornIn 2 Mark ≡ ended "2 17 0 - -"
+unfolding tornIn lineText decimal widthBy padded places byteOf
+torn-said = refl
+
+pub end-answers-0 : (κs : _) (a : _) (r : _) (s : _) → end.Post κs a r s → a .1 .0 .begun ≡ Overlong → a .1 .0 .lines ≡ 1 → take r (now (s .1 .1 .0)) ≡ ended "2 17 0 - -"
+unfolding stateIn
+end-answers-0 κs a r s p b n =
+    let t : tornIn (suc (a .1 .0 .lines)) (stateIn (now (a .0)) (a .1 .0 .begun)) ≡ ended "2 17 0 - -" = rw (b, n) torn-said in
+    rw (p .1 .0) (take-spliced (now (a .1 .1 .0)) _ r (p .0)) ∙ t
 
 -- at a line's start there is nothing to say
 pub end-says-17-at-start : (κs : _) (a : _) (r : _) (s : _) → end.Post κs a r s → a .1 .0 .begun ≡ Held 0 → (r ≡ 0) × (now (s .1 .1 .0) ≡ now (a .1 .1 .0))

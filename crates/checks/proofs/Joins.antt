@@ -4,10 +4,12 @@ use mathlib.Core.Bool.{Bool, true, false, cond}
 use mathlib.Core.List.{List, [], _∷_, _++_, append-assoc, append-nil}
 use Prim.Native.Nat.{ℕ, suc, _+_, _*_, _≤_}
 use native.Mathlib.Omega.{arith}
+use lib.Dec.{eqb}
 use lib.ListN.{length, length-append, length-map}
 use Rattle.text.specs.Text.{spliced}
 use Rattle.text.proofs.Splice.{spliced-none, spliced-next, length-spliced}
-use Rattle.shapes.specs.Pieces.{pieces}
+use Rattle.shapes.specs.Many.{howMany}
+use Rattle.shapes.specs.Pieces.{grow, pieces}
 use Rattle.rules.specs.Frame.{lineFeed}
 use Rattle.cutter.specs.Feed.{Line, feedOf, allButLast, textsOf, restOf, lineOf, linesOf}
 use Rattle.cutter.specs.State.{State, Bytes, stateIn, isAllowed}
@@ -63,6 +65,32 @@ told-count h (p ∷ (q ∷ ps)) = ap suc (told-count (Bytes []) (q ∷ ps))
 pub lines-few : (h : State) (s : List ℕ) → length (told h (pieces lineFeed s)) + length (restOf s) ≤ length s
 unfolding textsOf
 lines-few h s = omega (arith, told-count h (pieces lineFeed s), ap length (feed-text s), feed-long (textsOf s) (restOf s))
+
+-- ---- as many lines as line feeds
+
+grow-size : (x : ℕ) (ps : List (List ℕ)) → 1 ≤ length ps → length (grow x ps) ≡ length ps
+grow-size x [] h = absurd (omega arith)
+grow-size x (p ∷ ps) h = refl
+
+pieces-count : (b : ℕ) (s : List ℕ) → length (pieces b s) ≡ suc (howMany b s)
+unfolding pieces howMany
+pieces-count b [] = refl
+pieces-count b (x ∷ s) = go (eqb x b) (pieces-count b s)
+  where
+    go : (t : Bool) → length (pieces b s) ≡ suc (howMany b s) → length (cond t ([] ∷ pieces b s) (grow x (pieces b s))) ≡ suc (cond t (suc (howMany b s)) (howMany b s))
+    go true e = ap suc e
+    go false e = grow-size x (pieces b s) (omega (arith, e)) ∙ e
+
+but-last : (ps : List (List ℕ)) → 1 ≤ length ps → suc (length (allButLast ps)) ≡ length ps
+unfolding allButLast
+but-last [] h = absurd (omega arith)
+but-last (p ∷ []) h = refl
+but-last (p ∷ (q ∷ ps)) h = ap suc (but-last (q ∷ ps) (omega arith))
+
+pub feeds-told : (h : State) (s : List ℕ) → length (told h (pieces lineFeed s)) ≡ howMany lineFeed s
+feeds-told h s =
+    let c = pieces-count lineFeed s in
+    omega (arith, told-count h (pieces lineFeed s), c, but-last (pieces lineFeed s) (omega (arith, c)))
 
 -- ---- parts after parts
 

@@ -11,7 +11,9 @@ use lib.Dec.{eqb}
 use lib.ListN.{length, take, drop}
 use Rattle.text.specs.Text.{textOf}
 use Rattle.shapes.specs.Cut.{before}
+use Rattle.shapes.specs.Many.{howMany}
 use Rattle.shapes.specs.Picture.{part}
+use Rattle.rules.specs.Frame.{lineFeed}
 use Rattle.rules.specs.Kind.{KEY}
 use Rattle.fields.specs.Pair.{slash}
 use Rattle.table.specs.Table.{hasFields}
@@ -32,7 +34,7 @@ use Rattle.checks.specs.Feed.{checksOf, checkedOf, Checked}
 use Rattle.checks.specs.Run.{Checks, Ends, Run, begin, go-on}
 use Rattle.checks.specs.declared.Sums.{Sums}
 use Rattle.checks.proofs.Lines.{zero-part}
-use Rattle.checks.proofs.Joins.{lines-few}
+use Rattle.checks.proofs.Joins.{lines-few, feeds-told}
 use Rattle.checks.proofs.Feeds.{first-checked, continues}
 use Rattle.checks.proofs.Torn.{ends-feed}
 use Rattle.checks.proofs.check.Reads as check
@@ -67,6 +69,10 @@ whole-feed {only} {feed} {held} {s} {said} p out e =
 -- not more lines than bytes: the counts of a feed that came can't be exceeded
 pub checked-few : {only : Bool} {feed held : List ℕ} {s : Sums} {said : List ℕ} → Checked only feed held s said → s .lines + length (restOf feed) ≤ length feed
 checked-few {only} {feed} c = omega (arith, c .lines, ap length (start-lines feed), lines-few (Bytes []) feed)
+
+-- "LINES counts line feeds"
+pub lines-are-feeds : {only : Bool} {feed held : List ℕ} {s : Sums} {said : List ℕ} → Checked only feed held s said → s .lines ≡ howMany lineFeed feed
+lines-are-feeds {only} {feed} c = c .lines ∙ sym (ap length (start-lines feed)) ∙ feeds-told (Bytes []) feed
 
 -- ---- WHERE IN THE LINE THEY STAND
 
