@@ -4,3 +4,4 @@ pub mod Fills
 pub mod Torn
 pub mod Whole
 pub mod Desks
+pub mod DeskCase
