@@ -5,3 +5,4 @@ pub mod Torn
 pub mod Whole
 pub mod Desks
 pub mod DeskCase
+pub mod DeskTheorems
