@@ -6,7 +6,7 @@ use mathlib.Core.List.{List, [], _∷_, _++_, map, append-assoc}
 use Prim.Native.Nat.{ℕ, zero, suc, _+_, _≤_, _<_}
 use native.Mathlib.Nat.{le-of-suc-le-suc}
 use native.Mathlib.Omega.{arith}
-use borrow.Author.Tests.{ne-eqb}
+use borrow.Author.Tests.{ne-eqb, leb-false, le-ltb, lt-ltb}
 use denote.Ref.{now}
 use lib.Dec.{eqb, leb}
 use lib.ListN.{length, getD, length-append}
@@ -19,11 +19,14 @@ use Rattle.text.proofs.Logic.{true-false}
 use Rattle.shapes.specs.Cut.{upTo, has}
 use Rattle.shapes.specs.Pieces.{noneHas}
 use Rattle.shapes.proofs.Joins.{upTo-past, whole-has}
-use Rattle.rules.specs.Frame.{lineFeed}
-use Rattle.cutter.specs.Feed.{Line, Whole, TooLong, feedOf, textsOf, restOf, linesOf}
+use Rattle.rules.specs.Frame.{headLength, lineFeed, longestLine}
+use Rattle.cutter.specs.Feed.{Line, Whole, TooLong, feedOf, textsOf, restOf, lineOf, linesOf}
 use Rattle.cutter.proofs.Feeds.{feed-only}
 use Rattle.line.specs.Cases.{Case}
 use Rattle.line.specs.Read.{readOf, lineNumber, linePlace}
+use Rattle.line.specs.declared.LineRead.the-variants.{Refused}
+use Rattle.line.specs.declared.Refusal.the-variants.{Long}
+use Rattle.line.proofs.Cases.{case-only}
 use Rattle.line.proofs.read.Reads as read
 use Rattle.printer.specs.RowText.{space, hyphen, lineText}
 use Rattle.printer.specs.Parts.{partText}
@@ -165,3 +168,35 @@ pub answer-read : (κs : _) (a : _) (r : _) (s : _) → read.Post κs a r s → 
     → (checkOf n (Whole (now (a .0))) ≡ saying n (lineNumber r) (linePlace r) (typeSaid r) (keySaid r)) × Case (now (a .0)) (lineNumber r) (linePlace r)
 unfolding checkOf
 answer-read κs a r s p n = (rw (p .0), p .1)
+
+-- ---- AND SO OF EVERY LINE, ALSO AN OVERLONG ONE: what is said is the number and the place of its case in document 01's table
+
+long-read : (s : List ℕ) → leb (length s) longestLine ≡ false → readOf s ≡ Refused Long
+unfolding readOf
+long-read s q =
+    let h : longestLine < length s = leb-false (length s) longestLine q in
+    rw (le-ltb (length s) headLength (omega arith), lt-ltb longestLine (length s) h)
+
+line-said : (n : ℕ) (s : List ℕ) → checkOf n (lineOf s) ≡ saying n (lineNumber (readOf s)) (linePlace (readOf s)) (typeSaid (readOf s)) (keySaid (readOf s))
+unfolding lineOf checkOf
+line-said n s = go (leb (length s) longestLine) refl
+  where
+    go : (b : Bool) → leb (length s) longestLine ≡ b
+        → checkOf n (cond (leb (length s) longestLine) (Whole s) TooLong) ≡ saying n (lineNumber (readOf s)) (linePlace (readOf s)) (typeSaid (readOf s)) (keySaid (readOf s))
+    go true q = rw q
+    go false q = rw (q, long-read s q)
+
+line-taken : (s : List ℕ) → isTaken (lineOf s) ≡ eqb (lineNumber (readOf s)) 0
+unfolding lineOf isTaken
+line-taken s = go (leb (length s) longestLine) refl
+  where
+    go : (b : Bool) → leb (length s) longestLine ≡ b → isTaken (cond (leb (length s) longestLine) (Whole s) TooLong) ≡ eqb (lineNumber (readOf s)) 0
+    go true q = rw q
+    go false q = rw (q, long-read s q)
+
+pub case-said : (s : List ℕ) (a p : ℕ) → Case s a p → (n : ℕ) → checkOf n (lineOf s) ≡ saying n a p (typeSaid (readOf s)) (keySaid (readOf s))
+case-said s a p c n = let e = case-only s a p c in line-said n s ∙ rw (e .0, e .1)
+
+-- it counts as read exactly if that case is 0
+pub case-taken : (s : List ℕ) (a p : ℕ) → Case s a p → isTaken (lineOf s) ≡ eqb a 0
+case-taken s a p c = line-taken s ∙ rw (case-only s a p c .0)

@@ -7,11 +7,11 @@ use Prim.Native.Nat.{ℕ, suc, _+_, _*_, _≤_}
 use native.Mathlib.Omega.{arith}
 use lib.Dec.{eqb, ltb}
 use lib.ListN.{length, length-append}
-use Rattle.text.specs.Class.{isDigit, isLetter}
+use Rattle.text.specs.Class.{all, isDigit, isLetter, isAlnum, isTextByte}
 use Rattle.text.specs.Code.{codeOf, byteOf}
 use Rattle.text.specs.Decimal.{decimal}
 use Rattle.text.specs.Place.{value, digits, tight}
-use Rattle.text.specs.Text.{packed, textOf, isPacked}
+use Rattle.text.specs.Text.{isText, packed, textOf, isPacked, spliced, hasRoom, writtenBytes}
 use Rattle.text.proofs.Decimal.{decimal-short}
 use Rattle.text.proofs.Laws.{text-short}
 use Rattle.text.proofs.Logic.{and-left, and-right}
@@ -59,6 +59,20 @@ type-word type.Uz = (refl, refl)
 type-word type.Rt = (refl, refl)
 type-word type.To = (refl, refl)
 type-word type.Hb = (refl, refl)
+
+-- the letters, written into two bytes
+pub letters-written : (t : MessageType) → (writtenBytes true (typeText t) (0 ∷ 0 ∷ []) 0 ≡ typeText t) × (isText (typeText t) ≡ true)
+unfolding writtenBytes hasRoom spliced isText all isTextByte isAlnum isDigit isLetter
+letters-written type.Af = (refl, refl)
+letters-written type.Az = (refl, refl)
+letters-written type.Dz = (refl, refl)
+letters-written type.Fz = (refl, refl)
+letters-written type.Rz = (refl, refl)
+letters-written type.Tz = (refl, refl)
+letters-written type.Uz = (refl, refl)
+letters-written type.Rt = (refl, refl)
+letters-written type.To = (refl, refl)
+letters-written type.Hb = (refl, refl)
 
 -- a key's that of a key; where there is none it is 0
 key-word : (s : List ℕ) (m : Message) → readOf s ≡ Read m → isPacked (keyIn (m .body)) ≡ true

@@ -12,6 +12,7 @@ use messages::key_in;
 use messages::type_in;
 use printer::put_count;
 use printer::slips::put_part;
+use text::pack_known;
 ghost use mathlib.Core.Path.{_≡_};
 ghost use mathlib.Core.Bool.{true};
 ghost use Prim.Native.Nat.{suc, _+_, _≤_, _<_, _^_};
@@ -61,42 +62,13 @@ pub struct Said {
     pub size: usize,
 }
 
-// The words of the types.
-const AF: u64 = 2724743942026889216;
-
-const AZ: u64 = 2850308178986653696;
-
-const DZ: u64 = 3566024329657311232;
-
-const FZ: u64 = 4043168430104416256;
-
-const RZ: u64 = 6906033032787046400;
-
-const TZ: u64 = 7383177133234151424;
-
-const UZ: u64 = 7621749183457703936;
-
-const RT: u64 = 6868363761699117056;
-
-const TO: u64 = 7314116802906280960;
-
-const HB: u64 = 4369635446199803904;
-
+// The word of a type's two letters.
 fn type_word(kind: MessageType) -> u64
     ensures { λ r. ⌜ r ≡ packed (typeText kind) ⌝ }
 {
-    match kind {
-        MessageType::Af => AF,
-        MessageType::Az => AZ,
-        MessageType::Dz => DZ,
-        MessageType::Fz => FZ,
-        MessageType::Rz => RZ,
-        MessageType::Tz => TZ,
-        MessageType::Uz => UZ,
-        MessageType::Rt => RT,
-        MessageType::To => TO,
-        MessageType::Hb => HB,
-    }
+    let mut letters = [0u8; 2];
+    kind.put(&mut letters, 0);
+    pack_known(&letters)
 }
 
 // A message has no answer but 0, and no place.

@@ -4,5 +4,7 @@ pub mod Fills
 pub mod Torn
 pub mod Whole
 pub mod Desks
+pub mod DeskCase
+pub mod DeskTheorems
 pub mod Unique
 pub mod Examples

@@ -125,7 +125,7 @@ fn finish(only: bool, held: &[u8], out: &mut [u8], work: Work) -> Work
 }
 
 // Reads the feed that fd gives, to its end or to a read that fails, and hands over what is said of each of its lines.
-fn check_feed(fd: i32, name: &[u8], only: bool) -> Work
+pub(crate) fn check_feed(fd: i32, name: &[u8], only: bool) -> Work
     ensures { λ r. ⌜ Done only r ⌝ }
 {
     let mut block = io::buffer();

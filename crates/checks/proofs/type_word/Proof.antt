@@ -1,28 +1,18 @@
--- `checks::type_word` meets its contract: each word is that of its two letters. Assumes nothing.
+-- `type_word` meets its contract: the two letters are a text. Assumes nothing.
+use mathlib.Core.Path.{_≡_, ap, sym, _∙_}
 use borrow.Author.Needs.{needs}
-use mathlib.Core.Path.{sym, ap}
-use Rattle.text.specs.Class.{isDigit, isLetter}
-use Rattle.text.specs.Code.{codeOf}
-use Rattle.text.specs.Place.{value}
-use Rattle.text.specs.Text.{packed}
-use Rattle.fields.specs.MessageType.{typeText}
-use Rattle.fields.specs.declared.heads.MessageType.{MessageType}
+use Rattle.text.specs.Text.{isText, packed}
+use Rattle.checks.proofs.Lines.{letters-written}
 use Rattle.checks.proofs.type_word.Statement.{statement}
 use Rattle.checks.proofs.type_word.Tie as tie
 
 pub type-word-spec : {M : Type 1} → statement M
-unfolding packed value codeOf isDigit isLetter
 type-word-spec =
     tie.close
     (tie.spec
-    (λ c. search needs) (λ c. search needs) (λ c. search needs) (λ c. search needs) (λ c. search needs) (λ c. search needs) (λ c. search needs) (λ c. search needs) (λ c. search needs) (λ c. search needs)
-    (λ c. ap (λ (t : MessageType). packed (typeText t)) (sym (c .enum-told .given .1)))
-    (λ c. ap (λ (t : MessageType). packed (typeText t)) (sym (c .enum-told2 .given .1)))
-    (λ c. ap (λ (t : MessageType). packed (typeText t)) (sym (c .enum-told3 .given .1)))
-    (λ c. ap (λ (t : MessageType). packed (typeText t)) (sym (c .enum-told4 .given .1)))
-    (λ c. ap (λ (t : MessageType). packed (typeText t)) (sym (c .enum-told5 .given .1)))
-    (λ c. ap (λ (t : MessageType). packed (typeText t)) (sym (c .enum-told6 .given .1)))
-    (λ c. ap (λ (t : MessageType). packed (typeText t)) (sym (c .enum-told7 .given .1)))
-    (λ c. ap (λ (t : MessageType). packed (typeText t)) (sym (c .enum-told8 .given .1)))
-    (λ c. ap (λ (t : MessageType). packed (typeText t)) (sym (c .enum-told9 .given .1)))
-    (λ c. ap (λ (t : MessageType). packed (typeText t)) (sym (c .enum-told10 .given .1))))
+    (λ c. search needs) (λ c κs. search needs) (λ c. search needs)
+    (λ c κs. let p = c .before .before in
+    let l = letters-written (p .before .before .args .kind) in
+    ap isText (p .put .ensures .1 ∙ l .0) ∙ l .1)
+    (λ c. let p = c .before .before .before in
+    c .pack-known .ensures ∙ ap packed (p .put .ensures .1 ∙ letters-written (p .before .before .args .kind) .0)))
