@@ -6,11 +6,11 @@ pub mod output;
 pub mod words;
 
 use crate::input::Input;
+use crate::output::hand_report;
 use cutter::Begun;
 use cutter::EndAnswer;
 use feeding::feed_allowed;
 use libc::STDERR_FILENO;
-use libc::STDOUT_FILENO;
 use printer::Printed;
 use printer::print;
 use printer::print_counts;
@@ -154,15 +154,6 @@ pub fn say(name: &[u8], word: &[u8]) {
     io::write_all(STDERR_FILENO, b"\n");
 }
 
-// THE OTHER EDGE: the one place where a report goes out, and nothing but the report of what came in.
-fn hand_over(reported: Reported, text: &[u8])
-    requires { ⌜ Reports reported (now text) ⌝ }
-{
-    if !io::write_all(STDOUT_FILENO, text) {
-        os::fail(b"standard output");
-    }
-}
-
 // Reads the feed and hands its report to standard output. Where a read fails before a byte came, there is nothing to report.
 pub fn run(fd: i32, name: &[u8]) {
     let mut out = [0u8; LONGEST_REPORT];
@@ -181,5 +172,5 @@ pub fn run(fd: i32, name: &[u8]) {
         );
     }
     let size = reported.size;
-    hand_over(reported, &out[..size]);
+    hand_report(reported, &out[..size]);
 }

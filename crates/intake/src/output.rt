@@ -1,11 +1,22 @@
-// THE OTHER EDGE of a check: the one place where what is said of lines goes out. Nothing outside this file can make an `Output`, so no other code
-// can say that bytes were handed over.
+// THE OTHER EDGE: the one place where bytes go out. A report goes out whole, and is that of what came in; what is said of lines goes out piece by piece,
+// and nothing outside this file can make an `Output`, so no other code can say that bytes were handed over.
+use crate::Reported;
 use crate::input::Input;
 use libc::STDOUT_FILENO;
 ghost use mathlib.Core.Path.{_≡_};
 ghost use mathlib.Core.Bool.{true, false};
 ghost use lib.ListN.{length};
+ghost use Rattle.intake.specs.Day.{Reports};
 ghost use Rattle.intake.specs.Desk.{Next, Handed};
+
+// The report of what came in, and nothing else.
+pub(crate) fn hand_report(reported: Reported, text: &[u8])
+    requires { ⌜ Reports reported (now text) ⌝ }
+{
+    if !io::write_all(STDOUT_FILENO, text) {
+        os::fail(b"standard output");
+    }
+}
 
 // How many bytes were handed to standard output, and whether it takes more.
 pub struct Output {
@@ -13,7 +24,7 @@ pub struct Output {
     live: bool,
 }
 
-pub fn start() -> Output
+pub(crate) fn start() -> Output
     ensures { λ r. ⌜ (r .total ≡ 0) × (r .live ≡ true) ⌝ }
 {
     Output {
@@ -33,7 +44,7 @@ fn closed(output: Output) -> Output
 }
 
 // What is said next of what came in, and nothing else.
-pub fn hand_over(output: Output, input: Input, only: bool, text: &[u8]) -> Output
+pub(crate) fn hand_over(output: Output, input: Input, only: bool, text: &[u8]) -> Output
     requires { ⌜ Next only (input .total) (output .total) (now text) ⌝ }
     ensures { λ r. ⌜ Handed output (length (now (text .entry))) r ⌝ }
 {
@@ -50,7 +61,7 @@ pub fn hand_over(output: Output, input: Input, only: bool, text: &[u8]) -> Outpu
     }
 }
 
-pub fn is_live(output: Output) -> bool
+pub(crate) fn is_live(output: Output) -> bool
     ensures { λ r. ⌜ r ≡ output .live ⌝ }
 {
     output.live
