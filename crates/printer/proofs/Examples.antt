@@ -25,7 +25,11 @@ use Rattle.printer.specs.Print.{printOf, outAfter, printNumber, CountsCa
 use Rattle.printer.specs.RowText.{lineText, rowText, rowsText}
 use Rattle.printer.specs.Text.{boardText, countsText}
 use Rattle.printer.proofs.print.Reads as print
+use Rattle.printer.specs.Asks.{counted}
+use Rattle.printer.specs.Parts.{partText}
 use Rattle.printer.proofs.print_counts.Reads as print-counts
+use Rattle.printer.proofs.put_count.Reads as put-count
+use Rattle.printer.proofs.slips.put_part.Reads as put-part
 
 -- ---- `print`, of the board of one row
 
@@ -79,3 +83,23 @@ counts-case (CountsFit h) e = true-false h e
 pub counts-past-the-end : (κs : _) (a : _) (r : _) (s : _) → print-counts.Post κs a r s → now (a .1 .1 .0) ≡ [] → a .1 .1 .1 .0 ≡ 1 → (writeAnswer r ≡ 15) × (now (s .1 .1 .0) ≡ [])
 unfolding hasRoom
 counts-past-the-end κs a r s p f g = let q = counts-case (p .1 .1) (rw (f, g) (lt-leb (1 + length (countsText (a .0) (a .1 .0))) 0 (omega arith))) in (q .0, q .1 ∙ f)
+
+-- ---- `put_count` and `slips::put_part`
+
+pub count-without-its-name : (κs : _) (a : _) (r : _) (s : _) → put-count.Post κs a r s → now (a .0) ≡ bytes "LINES " → a .1 .0 ≡ 5 → a .1 .1 .1 .1 .0 ≡ 0 → r ≡ 8
+unfolding counted decimal padded places widthBy byteOf
+count-without-its-name κs a r s p e f g = p .0 ∙ rw (e, f, g)
+
+pub count-without-its-end : (κs : _) (a : _) (r : _) (s : _) → put-count.Post κs a r s → now (a .0) ≡ [] → a .1 .0 ≡ 12 → a .1 .1 .0 ≡ 32 → now (a .1 .1 .1 .0) ≡ replicate 5 0
+    → a .1 .1 .1 .1 .0 ≡ 1 → now (s .1 .1 .1 .0) ≡ 0 ∷ (bytes "12 " ++ 0 ∷ [])
+unfolding counted spliced decimal padded places widthBy byteOf
+count-without-its-end κs a r s p e f g h k = p .1 ∙ rw (e, f, g, h, k)
+
+pub none-is-no-hyphen : (κs : _) (a : _) (r : _) (s : _) → put-part.Post κs a r s → a .0 ≡ 0 → a .1 .0 ≡ 10 → now (a .1 .1 .0) ≡ replicate 3 7 → a .1 .1 .1 .0 ≡ 0
+    → now (s .1 .1 .0) ≡ bytes "-" ++ 10 ∷ (7 ∷ [])
+unfolding partText spliced
+none-is-no-hyphen κs a r s p e f g h = p .1 ∙ rw (e, f, g, h)
+
+pub part-next-is-its-end : (κs : _) (a : _) (r : _) (s : _) → put-part.Post κs a r s → a .0 ≡ 0 → a .1 .1 .1 .0 ≡ 3 → r ≡ 5
+unfolding partText
+part-next-is-its-end κs a r s p e f = p .0 ∙ rw (e, f)
