@@ -21,11 +21,15 @@ use Rattle.fields.specs.Answer.{writeAnswer}
 use Rattle.board.specs.Board.{wordsOf, isAllowed}
 use Rattle.board.proofs.Examples.{tracked, one-row}
 use Rattle.board.proofs.Theorems.{rows-words, allowed-words}
+use Rattle.printer.specs.Asks.{counted}
+use Rattle.printer.specs.Parts.{partText}
 use Rattle.printer.specs.Print.{printOf, outAfter, printNumber, CountsCase, CountsNoRoom, CountsFit}
 use Rattle.printer.specs.RowText.{lineText, rowText, rowsText}
 use Rattle.printer.specs.Text.{boardText, countsText}
 use Rattle.printer.proofs.print.Reads as print
 use Rattle.printer.proofs.print_counts.Reads as print-counts
+use Rattle.printer.proofs.put_count.Reads as put-count
+use Rattle.printer.proofs.slips.put_part.Reads as put-part
 
 -- ---- `print`, of the board of one row
 
@@ -79,3 +83,29 @@ counts-case (CountsFit h) e = true-false h e
 pub counts-past-the-end : (κs : _) (a : _) (r : _) (s : _) → print-counts.Post κs a r s → now (a .1 .1 .0) ≡ [] → a .1 .1 .1 .0 ≡ 1 → (writeAnswer r ≡ 15) × (now (s .1 .1 .0) ≡ [])
 unfolding hasRoom
 counts-past-the-end κs a r s p f g = let q = counts-case (p .1 .1) (rw (f, g) (lt-leb (1 + length (countsText (a .0) (a .1 .0))) 0 (omega arith))) in (q .0, q .1 ∙ f)
+
+-- ---- `put_count` and `put_part`, into six bytes from place 1
+
+-- the name, the number without a zero in front, and the byte after it; the bytes beside them stay
+pub count-with-a-zero-in-front : (κs : _) (a : _) (r : _) (s : _) → put-count.Post κs a r s → now (a .0) ≡ bytes "A " → a .1 .0 ≡ 7 → a .1 .1 .0 ≡ 32 → now (a .1 .1 .1 .0) ≡ replicate 6 0 → a .1 .1 .1 .1 .0 ≡ 1
+    → (r ≡ 5) × (now (s .1 .1 .1 .0) ≡ 0 ∷ (bytes "A 7 " ++ 0 ∷ []))
+unfolding counted spliced decimal padded places widthBy byteOf
+count-with-a-zero-in-front κs a r s p e n b o i = (p .0 ∙ rw (e, n, i), p .1 ∙ rw (e, n, b, o, i))
+
+-- 0 is one digit
+pub count-of-0-empty : (κs : _) (a : _) (r : _) (s : _) → put-count.Post κs a r s → now (a .0) ≡ [] → a .1 .0 ≡ 0 → a .1 .1 .0 ≡ 10 → now (a .1 .1 .1 .0) ≡ replicate 6 0 → a .1 .1 .1 .1 .0 ≡ 1
+    → (r ≡ 3) × (now (s .1 .1 .1 .0) ≡ 0 ∷ (48 ∷ (10 ∷ replicate 3 0)))
+unfolding counted spliced decimal padded places widthBy byteOf
+count-of-0-empty κs a r s p e n b o i = (p .0 ∙ rw (e, n, i), p .1 ∙ rw (e, n, b, o, i))
+
+-- a part that is missing is a hyphen
+pub missing-part-empty : (κs : _) (a : _) (r : _) (s : _) → put-part.Post κs a r s → a .0 ≡ 0 → a .1 .0 ≡ 32 → now (a .1 .1 .0) ≡ replicate 6 0 → a .1 .1 .1 .0 ≡ 1
+    → (r ≡ 3) × (now (s .1 .1 .0) ≡ 0 ∷ (bytes "- " ++ replicate 3 0))
+unfolding partText spliced
+missing-part-empty κs a r s p w b o i = (p .0 ∙ rw (w, i), p .1 ∙ rw (w, b, o, i))
+
+-- and one that is there its text, with the byte after it
+pub part-without-its-byte : (κs : _) (a : _) (r : _) (s : _) → put-part.Post κs a r s → a .0 ≡ packed (bytes "N5") → a .1 .0 ≡ 10 → now (a .1 .1 .0) ≡ replicate 6 0 → a .1 .1 .1 .0 ≡ 1
+    → (r ≡ 4) × (now (s .1 .1 .0) ≡ 0 ∷ (bytes "N5" ++ 10 ∷ replicate 2 0))
+unfolding partText spliced textOf digits byteOf packed value codeOf isDigit isLetter
+part-without-its-byte κs a r s p w b o i = (p .0 ∙ rw (w, i), p .1 ∙ rw (w, b, o, i))
