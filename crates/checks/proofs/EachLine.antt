@@ -1,9 +1,9 @@
 -- EACH LINE OF A FEED HAS ONE LINE OF TEXT: where all are asked for, the i-th line of what is said is what is said of the i-th line of the feed, with its
 -- number from 1, and there are no others. Where only the refused are asked for, no refused line is left out, and no line that reads stays. Assumes nothing.
 use mathlib.Core.Path.{_≡_, refl, sym, ap, _∙_}
-use mathlib.Core.Bool.{Bool, true, false, cond, not, _&&_}
+use mathlib.Core.Bool.{Bool, true, false, cond}
 use mathlib.Core.List.{List, [], _∷_, _++_, map, append-assoc}
-use Prim.Native.Nat.{ℕ, zero, suc, _+_, _≤_, _<_}
+use Prim.Native.Nat.{ℕ, zero, suc, _+_, _<_}
 use native.Mathlib.Nat.{le-of-suc-le-suc}
 use native.Mathlib.Omega.{arith}
 use borrow.Author.Tests.{ne-eqb, leb-false, le-ltb, lt-ltb}
@@ -15,7 +15,6 @@ use Rattle.text.specs.Decimal.{widthOf, decimal}
 use Rattle.text.specs.Number.{padded}
 use Rattle.text.specs.Place.{places, digits}
 use Rattle.text.specs.Text.{textOf}
-use Rattle.text.proofs.Logic.{true-false}
 use Rattle.shapes.specs.Cut.{upTo, has}
 use Rattle.shapes.specs.Pieces.{noneHas}
 use Rattle.shapes.proofs.Joins.{upTo-past, whole-has}

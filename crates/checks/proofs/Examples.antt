@@ -4,7 +4,7 @@ use Prim.Native.Nat.{ℕ, suc, _+_}
 use Prim.Native.String.{String}
 use mathlib.Core.Bool.{Bool, true, false}
 use mathlib.Core.List.{List, [], _∷_, _++_, map, append-nil}
-use mathlib.Core.Path.{_≡_, refl, sym, ap, _∙_}
+use mathlib.Core.Path.{_≡_, refl, ap, _∙_}
 use denote.Ref.{now}
 use lib.ListN.{length, take}
 use Rattle.text.specs.Bytes.{bytes}
@@ -34,7 +34,7 @@ use Rattle.messages.specs.Read.{bodyRead}
 use Rattle.line.specs.Read.{headOf, restOf, readOf}
 use Rattle.printer.specs.RowText.{lineText}
 use Rattle.printer.specs.Parts.{partText}
-use Rattle.cutter.specs.Feed.{Line, Whole, TooLong, feedOf, lineOf, linesOf}
+use Rattle.cutter.specs.Feed.{Line, feedOf, lineOf, linesOf}
 use Rattle.cutter.specs.State.{Mark, stateIn}
 use Rattle.cutter.specs.Calls.{start}
 use Rattle.cutter.specs.Told.{told}

@@ -1,19 +1,18 @@
 -- A feed in parts cut anywhere: what the parts add, one after the other, is what is said of the whole; and its end. Assumes nothing.
 use mathlib.Core.Path.{_≡_, refl, sym, ap, _∙_}
-use mathlib.Core.Bool.{Bool, true}
-use mathlib.Core.List.{List, [], _∷_, _++_}
-use Prim.Native.Nat.{ℕ, suc, _+_, _≤_}
+use mathlib.Core.Bool.{Bool}
+use mathlib.Core.List.{List, [], _++_}
+use Prim.Native.Nat.{ℕ, suc, _+_}
 use native.Mathlib.Omega.{arith}
 use lib.ListN.{length, take, length-append}
-use Rattle.text.specs.Text.{spliced}
 use Rattle.text.proofs.Splice.{take-spliced}
 use Rattle.shapes.specs.Pieces.{pieces}
-use Rattle.rules.specs.Frame.{lineFeed, longestLine}
-use Rattle.cutter.specs.Feed.{linesOf, restOf}
-use Rattle.cutter.specs.State.{Bytes, stateIn, stateOf, more}
+use Rattle.rules.specs.Frame.{longestLine}
+use Rattle.cutter.specs.Feed.{linesOf}
+use Rattle.cutter.specs.State.{Bytes, stateIn, more}
 use Rattle.cutter.specs.Told.{told, stateAfter}
 use Rattle.cutter.proofs.States.{start-allowed}
-use Rattle.cutter.proofs.Feeds.{start-lines, start-rest, feed-then}
+use Rattle.cutter.proofs.Feeds.{start-lines, feed-then}
 use Rattle.checks.specs.Feed.{checksFrom, checksOf, readsIn, Checked}
 use Rattle.checks.specs.Part.{linesIn, textIn, Adds, Continues}
 use Rattle.checks.specs.Run.{atFirst}

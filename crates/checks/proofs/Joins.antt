@@ -1,19 +1,18 @@
 -- Two parts of a feed, one after the other: their lines, what is said of these, and how many they are. Assumes nothing.
 use mathlib.Core.Path.{_≡_, refl, sym, ap, _∙_}
 use mathlib.Core.Bool.{Bool, true, false, cond}
-use mathlib.Core.List.{List, [], _∷_, _++_, append-assoc, append-nil}
+use mathlib.Core.List.{List, [], _∷_, _++_, append-assoc}
 use Prim.Native.Nat.{ℕ, suc, _+_, _*_, _≤_}
 use native.Mathlib.Omega.{arith}
 use lib.Dec.{eqb}
-use lib.ListN.{length, length-append, length-map}
-use Rattle.text.specs.Text.{spliced}
+use lib.ListN.{length, length-append}
 use Rattle.text.proofs.Splice.{spliced-none, spliced-next, length-spliced}
 use Rattle.shapes.specs.Many.{howMany}
 use Rattle.shapes.specs.Pieces.{grow, pieces}
 use Rattle.rules.specs.Frame.{lineFeed}
-use Rattle.cutter.specs.Feed.{Line, feedOf, allButLast, textsOf, restOf, lineOf, linesOf}
+use Rattle.cutter.specs.Feed.{Line, feedOf, allButLast, textsOf, restOf}
 use Rattle.cutter.specs.State.{State, Bytes, stateIn, isAllowed}
-use Rattle.cutter.specs.Told.{ended, told, stateAfter}
+use Rattle.cutter.specs.Told.{told, stateAfter}
 use Rattle.cutter.proofs.States.{more-none}
 use Rattle.cutter.proofs.Feeds.{feed-text, feed-then}
 use Rattle.checks.specs.Check.{isTaken, saidOf}

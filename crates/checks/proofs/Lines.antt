@@ -1,11 +1,11 @@
 -- The words of what is said of a line are texts, what they make is what specs/Check says of the line, and it is no longer than 90 bytes.
 -- Assumes nothing.
-use mathlib.Core.Path.{_≡_, refl, sym, ap, _∙_}
+use mathlib.Core.Path.{_≡_, refl}
 use mathlib.Core.Bool.{Bool, true, false, cond, _&&_}
-use mathlib.Core.List.{List, [], _∷_, _++_}
+use mathlib.Core.List.{List, [], _∷_}
 use Prim.Native.Nat.{ℕ, suc, _+_, _*_, _≤_}
 use native.Mathlib.Omega.{arith}
-use lib.Dec.{eqb, ltb}
+use lib.Dec.{eqb}
 use lib.ListN.{length, length-append}
 use Rattle.text.specs.Class.{all, isDigit, isLetter, isAlnum, isTextByte}
 use Rattle.text.specs.Code.{codeOf, byteOf}

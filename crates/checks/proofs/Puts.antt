@@ -1,5 +1,5 @@
 -- The five parts of a line of text, written one after the other, are the line. Assumes nothing.
-use mathlib.Core.Path.{_≡_, refl, sym, ap, _∙_}
+use mathlib.Core.Path.{_≡_}
 use mathlib.Core.Bool.{true}
 use mathlib.Core.List.{List, [], _∷_, _++_, append-assoc}
 use Prim.Native.Nat.{ℕ, _+_, _≤_}
@@ -11,7 +11,7 @@ use Rattle.rules.specs.Frame.{lineFeed}
 use Rattle.printer.specs.RowText.{space, lineText}
 use Rattle.printer.specs.Parts.{partText}
 use Rattle.printer.specs.Asks.{counted}
-use Rattle.printer.proofs.Counts.{first-fits, next-fits, next-wrote}
+use Rattle.printer.proofs.Counts.{next-fits, next-wrote}
 use Rattle.checks.specs.Part.{isVerdict, verdictText, longestSaying}
 use Rattle.checks.specs.declared.Verdict.{Verdict}
 use Rattle.checks.proofs.Lines.{text-few}

@@ -28,9 +28,9 @@ use Rattle.cutter.specs.declared.CutAnswer.{CutAnswer}
 use Rattle.cutter.specs.declared.CutAnswer.the-variants as cut
 use Rattle.cutter.proofs.Feeds.{cut-same}
 use Rattle.cutter.proofs.Runs.{cut-still, cut-used}
-use Rattle.checks.specs.Check.{isTaken, saidOf}
+use Rattle.checks.specs.Check.{saidOf}
 use Rattle.checks.specs.Feed.{checksFrom, readsIn}
-use Rattle.checks.specs.Part.{verdictOf, judgedOf, isVerdict, verdictSaid, counted, linesIn, Adds, Steps}
+use Rattle.checks.specs.Part.{verdictOf, judgedOf, isVerdict, verdictSaid, counted, linesIn, Steps}
 use Rattle.checks.specs.declared.Sums.{Sums}
 use Rattle.checks.specs.declared.Verdict.{Verdict}
 use Rattle.checks.specs.declared.Judged.{Judged}

@@ -1,15 +1,13 @@
 -- THE THEOREMS OF A CHECK, about the promises (`Post`) of `check` and `end` as they stand in the source: whatever the parts of a feed, what is said of
 -- them, one after the other, and then of the unended rest, is what is said of the whole; and where in the line its type and its key stand.
 -- Assumes nothing.
-use mathlib.Core.Path.{_≡_, refl, sym, ap, _∙_}
+use mathlib.Core.Path.{_≡_, sym, ap, _∙_}
 use mathlib.Core.Bool.{Bool, true, false}
-use mathlib.Core.List.{List, [], _∷_, _++_}
-use Prim.Native.Nat.{ℕ, suc, _+_, _≤_}
+use mathlib.Core.List.{List, [], _++_}
+use Prim.Native.Nat.{ℕ, _+_, _≤_}
 use native.Mathlib.Omega.{arith}
 use denote.Ref.{now}
-use lib.Dec.{eqb}
 use lib.ListN.{length, take, drop}
-use Rattle.text.specs.Text.{textOf}
 use Rattle.shapes.specs.Cut.{before}
 use Rattle.shapes.specs.Many.{howMany}
 use Rattle.shapes.specs.Picture.{part}
@@ -17,7 +15,7 @@ use Rattle.rules.specs.Frame.{lineFeed}
 use Rattle.rules.specs.Kind.{KEY}
 use Rattle.fields.specs.Pair.{slash}
 use Rattle.table.specs.Table.{hasFields}
-use Rattle.cutter.specs.Feed.{linesOf, restOf}
+use Rattle.cutter.specs.Feed.{restOf}
 use Rattle.cutter.specs.State.{Bytes}
 use Rattle.cutter.proofs.Feeds.{start-lines}
 use Rattle.messages.specs.Body.{typeIn, keyIn}

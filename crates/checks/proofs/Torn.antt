@@ -23,7 +23,6 @@ use Rattle.cutter.specs.declared.EndAnswer.the-variants as end
 use Rattle.cutter.proofs.EndAnswer.{the-type}
 use Rattle.cutter.proofs.Feeds.{start-rest}
 use Rattle.printer.specs.RowText.{hyphen}
-use Rattle.printer.specs.Parts.{partText}
 use Rattle.checks.specs.Check.{saying, tornOf}
 use Rattle.checks.specs.Feed.{Checked}
 use Rattle.checks.specs.Part.{verdictText, isVerdict, longestSaying, tornIn, EndsFeed}

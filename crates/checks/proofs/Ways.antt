@@ -1,10 +1,9 @@
 -- What each way through the code gives, but for the loop, is what its definition says. Assumes nothing.
-use mathlib.Core.Path.{_≡_, refl, sym, ap, _∙_}
-use mathlib.Core.Bool.{Bool, true, false, cond}
+use mathlib.Core.Path.{_≡_, refl, sym}
+use mathlib.Core.Bool.{Bool, true, false}
 use mathlib.Core.List.{List, [], _∷_}
 use Prim.Native.Nat.{ℕ, _+_}
 use native.Mathlib.Nat.{add-zero}
-use lib.Dec.{eqb}
 use lib.ListN.{length}
 use borrow.Author.Tests.{eq-eqb, ne-eqb}
 use denote.Enum.Declared.{tagOf}
@@ -21,7 +20,6 @@ use Rattle.cutter.proofs.CutAnswer.{the-type}
 use Rattle.messages.specs.Body.{typeIn, keyIn}
 use Rattle.messages.specs.declared.Message.{Message}
 use Rattle.line.specs.Read.{readOf, refusalNumber, refusalPlace}
-use Rattle.line.specs.declared.LineRead.{LineRead}
 use Rattle.line.specs.declared.LineRead.the-variants.{Read, Refused}
 use Rattle.line.specs.declared.Refusal.{Refusal}
 use Rattle.checks.specs.Part.{verdictBy, overlong, verdictOf, judgedOf, verdictText, verdictSaid, counted}

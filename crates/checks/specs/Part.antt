@@ -10,7 +10,7 @@ use Rattle.text.specs.Text.{packed, isPacked, spliced}
 use Rattle.shapes.specs.Pieces.{pieces}
 use Rattle.rules.specs.Frame.{lineFeed}
 use Rattle.fields.specs.MessageType.{typeText}
-use Rattle.cutter.specs.Feed.{Line, Whole, TooLong, linesOf, restOf}
+use Rattle.cutter.specs.Feed.{Line, Whole, TooLong, restOf}
 use Rattle.cutter.specs.State.{State, Bytes, Mark, stateIn, isAllowed}
 use Rattle.cutter.specs.Told.{told, stateAfter}
 use Rattle.messages.specs.Body.{typeIn, keyIn}

@@ -19,7 +19,7 @@ ghost use Prim.Native.Nat.{suc, _+_, _≤_, _<_, _^_};
 ghost use lib.ListN.{length, take};
 ghost use Rattle.text.specs.Text.{packed, spliced};
 ghost use Rattle.fields.specs.MessageType.{typeText};
-ghost use Rattle.cutter.specs.State.{stateIn, isAllowed};
+ghost use Rattle.cutter.specs.State.{stateIn};
 ghost use Rattle.cutter.specs.Calls.{lineIn};
 ghost use Rattle.cutter.specs.Cases.{toldBy};
 ghost use Rattle.line.specs.Read.{readOf};

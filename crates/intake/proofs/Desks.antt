@@ -10,9 +10,8 @@ use lib.Seq.{length-take-le}
 use Rattle.text.proofs.Logic.{and-left, and-right, true-false}
 use Rattle.rules.specs.Frame.{longestLine}
 use Rattle.cutter.specs.Feed.{linesOf, restOf}
-use Rattle.cutter.specs.State.{Bytes, stateIn}
 use Rattle.checks.specs.Check.{tornOf}
-use Rattle.checks.specs.Feed.{checksFrom, checksOf, checkedOf, readsIn, Checked}
+use Rattle.checks.specs.Feed.{checksOf, checkedOf, Checked}
 use Rattle.checks.specs.Part.{longestSaying, Ready, Continues, EndReady, EndsFeed}
 use Rattle.checks.specs.Run.{atFirst}
 use Rattle.checks.specs.declared.Sums.{Sums}
@@ -21,7 +20,7 @@ use Rattle.checks.proofs.Feeds.{first-checked}
 use Rattle.checks.proofs.Torn.{inside-rest}
 use Rattle.checks.proofs.Theorems.{checked-few}
 use Rattle.intake.specs.Edge.{Came}
-use Rattle.intake.specs.Desk.{Next, More, Last, Handed, isOn, Said, Kept, Works, Whole, Done}
+use Rattle.intake.specs.Desk.{Next, More, Last, Handed, isOn, Kept, Whole, Done}
 use Rattle.intake.specs.declared.input.Input.{Input}
 use Rattle.intake.specs.declared.output.Output.{Output}
 use Rattle.intake.specs.declared.checking.Work.{Work}

@@ -1,8 +1,8 @@
 -- THE FLIGHT'S KEY (document 01, "Fields"): "The flight's key is the part before the slash". Of a body that reads it is the first field up to
 -- its slash, and the word of a key. Assumes nothing.
-use mathlib.Core.Path.{_≡_, refl, sym, ap, _∙_, subst}
+use mathlib.Core.Path.{_≡_, refl, sym, _∙_, subst}
 use mathlib.Core.Bool.{Bool, true, false, not, _&&_, _||_}
-use mathlib.Core.List.{List, [], _∷_}
+use mathlib.Core.List.{List, _∷_}
 use Prim.Native.Nat.{ℕ, suc, _+_, _*_}
 use native.Mathlib.Omega.{arith}
 use lib.Count.{ones}
@@ -12,7 +12,7 @@ use Rattle.text.specs.Text.{textOf, slashed}
 use Rattle.text.proofs.Logic.{and-left, true-false}
 use Rattle.shapes.specs.Cut.{upTo, before}
 use Rattle.shapes.proofs.Joins.{joined-before, whole-before}
-use Rattle.rules.specs.Kind.{KEY, NUMBER, POINT}
+use Rattle.rules.specs.Kind.{KEY, NUMBER}
 use Rattle.fields.specs.Word.{isWord}
 use Rattle.fields.specs.Pair.{slash, pairText, isPair}
 use Rattle.fields.specs.Ident.{isIdentValue}
@@ -23,10 +23,10 @@ use Rattle.fields.proofs.Slashes.{key-slashless}
 use Rattle.table.specs.Field.{IDENT, TZ-IDENT, identIn, isTwo, plain, isKindValue, isValue}
 use Rattle.table.specs.declared.kinds.Value.{Value}
 use Rattle.table.specs.Show.{allowedFrom}
-use Rattle.table.specs.Table.{amendments, countWith, hasFields, kindsOf, routeBy, freeIn}
-use Rattle.messages.specs.Body.{typeIn, keyIn, valueOfWord, valueOfIdent, slotsOf, pairsOf, slots, fieldCount, valuesIn}
-use Rattle.messages.specs.Allowed.{kindsIn, isFielded}
-use Rattle.messages.specs.Named.{Part, named, fieldAt, Stand}
+use Rattle.table.specs.Table.{countWith, hasFields, kindsOf, routeBy, freeIn}
+use Rattle.messages.specs.Body.{typeIn, keyIn, valueOfIdent, slots, fieldCount, valuesIn}
+use Rattle.messages.specs.Allowed.{kindsIn}
+use Rattle.messages.specs.Named.{named, fieldAt, Stand}
 use Rattle.messages.specs.Read.{bodyRead}
 use Rattle.messages.specs.declared.Body.{Body}
 use Rattle.messages.specs.declared.Body.the-variants as body

@@ -1,8 +1,8 @@
 -- `checks::check` meets its contract: what was said so far is what is said of the bytes used so far. Assumes nothing.
-use mathlib.Core.Path.{_≡_, refl, sym, ap, _∙_, subst}
+use mathlib.Core.Path.{_≡_, sym, _∙_, subst}
 use mathlib.Core.Bool.{Bool}
 use mathlib.Core.List.{List, _++_}
-use Prim.Native.Nat.{ℕ, _+_, _*_, _-_, _≤_, _<_, _^_}
+use Prim.Native.Nat.{ℕ, _+_, _*_, _-_, _≤_, _<_}
 use native.Mathlib.Omega.{arith}
 use lib.ListN.{length, take, drop, length-drop}
 use lib.Seq.{length-take-le, take-all, take-add}
@@ -10,7 +10,6 @@ use borrow.Author.Needs.{needs}
 use Rattle.shapes.proofs.Laws.{rest-all}
 use Rattle.cutter.specs.State.{stateIn}
 use Rattle.cutter.proofs.States.{allowed-size}
-use Rattle.checks.specs.Feed.{readsIn}
 use Rattle.checks.specs.Part.{longestSaying, linesIn, textIn, Adds, Ready, StepReady, Steps, Continues}
 use Rattle.checks.specs.declared.Sums.{Sums}
 use Rattle.checks.specs.declared.Turn.{Turn}

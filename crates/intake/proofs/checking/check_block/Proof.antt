@@ -1,7 +1,7 @@
 -- `checking::check_block` meets its contract: what came is checked, and what is said of it handed over. Assumes nothing.
 use borrow.Author.Needs.{needs}
 use native.Mathlib.Omega.{arith}
-use mathlib.Core.Path.{sym, _∙_}
+use mathlib.Core.Path.{sym}
 use lib.Seq.{length-take-le}
 use Rattle.intake.proofs.Desks.{block-ready, block-next, block-kept, came-inside, came-size, came-total}
 use Rattle.intake.proofs.checking.check_block.Statement.{statement}
