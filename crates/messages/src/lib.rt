@@ -25,7 +25,6 @@ use fields::track::TrackLevel;
 use table::kinds;
 use table::kinds::Value;
 ghost use mathlib.Core.Path.{_≡_};
-ghost use Rattle.table.specs.Field.{identIn, aircraftIn};
 ghost use Rattle.messages.specs.Body.{planLevel, amendedIn, heldOf, typeIn, keyIn, marksIn};
 
 pub struct Az {

@@ -12,12 +12,12 @@ use lib.Bits.{bitAnd, and-zero-l, and-self}
 use lib.Dec.{eqb}
 use lib.ListN.{length, take, getD}
 use borrow.Author.Tests.{eqb-true, eqb-false, eq-eqb}
-use Rattle.text.proofs.Logic.{and-left, and-right, true-false, not-holds}
+use Rattle.text.proofs.Logic.{true-false}
 use Rattle.rules.specs.Form.{isTime, isPosition}
 use Rattle.rules.specs.Kind.{FIX, TIME}
 use Rattle.table.specs.Amends.{Amends, theEight, markOf, markText, isMark, contentOf}
 use Rattle.table.specs.Field.{PLAN-TIME, AMENDMENT, CONTENT, readKind, readIn, traceOf, marksOf}
-use Rattle.table.specs.Fault.{kindAt, fieldAt, FormCase, Formed, Unformed, Asked, Content, Time, Plain, NoPosition, Came, FieldCase, ByForm, ERule, NoneOfEight, Twice, Fresh}
+use Rattle.table.specs.Fault.{kindAt, fieldAt, FormCase, Formed, Unformed, Asked, Content, Time, Plain, NoPosition, FieldCase, ByForm, ERule, NoneOfEight, Twice, Fresh}
 use Rattle.table.specs.declared.kinds.FieldRead.{FieldRead}
 use Rattle.fields.specs.declared.heads.MessageType.{MessageType}
 use Rattle.table.specs.Table.{tableOf, kindsOf}

@@ -1,12 +1,11 @@
 -- The reader and the forms: what one field is answered by its form, and of a number, a time, a content and any other field after those before it.
 -- Assumes nothing.
 use mathlib.Core.Path.{_≡_, refl, sym, ap, _∙_, subst}
-use mathlib.Core.Bool.{Bool, true, false, cond, _&&_}
+use mathlib.Core.Bool.{Bool, true, false, cond}
 use mathlib.Core.List.{List}
 use Prim.Native.Char.{code}
 use Prim.Native.Nat.{ℕ}
-use native.Mathlib.Omega.{arith}
-use lib.Bits.{bitAnd, and-zero-r}
+use lib.Bits.{bitAnd}
 use lib.Dec.{eqb}
 use lib.ListN.{getD}
 use borrow.Author.Tests.{eqb-true, eqb-false}
@@ -24,8 +23,7 @@ use Rattle.table.specs.Amends.{markOf, contentOf}
 use Rattle.table.specs.Fault.{hasForm, FormCase, Readings, Formed, Unformed}
 use Rattle.table.specs.Field.{IDENT, TZ-IDENT, AIRCRAFT, ROUTE, PLAN-TIME, AMENDMENT, CONTENT, traceOf, follows, plain, ofAircraft, readKind, readMark, barred, readIn}
 use Rattle.table.specs.Read.{fieldNumber}
-use Rattle.table.specs.declared.kinds.FieldRead.{FieldRead}
-use Rattle.table.specs.declared.kinds.FieldRead.the-variants.{Read, Nothing, Number, Two}
+use Rattle.table.specs.declared.kinds.FieldRead.the-variants.{Read, Nothing, Two}
 
 -- ---- by its form
 

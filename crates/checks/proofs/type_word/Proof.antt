@@ -1,5 +1,5 @@
 -- `type_word` meets its contract: the two letters are a text. Assumes nothing.
-use mathlib.Core.Path.{_≡_, ap, sym, _∙_}
+use mathlib.Core.Path.{ap, _∙_}
 use borrow.Author.Needs.{needs}
 use Rattle.text.specs.Text.{isText, packed}
 use Rattle.checks.proofs.Lines.{letters-written}
