@@ -147,10 +147,8 @@ fn tell(name: &[u8], n: usize, after: &[u8]) {
 pub fn run(fd: i32, name: &[u8], only: bool) {
     let work = check_feed(fd, name, only);
     let input = work.input;
-    if input::has_failed(input) {
-        if input::total(input) == 0 {
-            return;
-        }
+    if input::is_barren(input) {
+        return;
     }
     let sums = work.sums;
     tell(b"LINES ", sums.lines, b" ");

@@ -2,7 +2,8 @@
 // first of the block is its word, and these few lines are what is left to the eye. Nothing outside this file can make an `Input`, so no
 // other code can say that bytes came, or that there are no more.
 ghost use mathlib.Core.Path.{_≡_};
-ghost use mathlib.Core.Bool.{true, false};
+ghost use mathlib.Core.Bool.{true, false, cond};
+ghost use lib.Dec.{eqb};
 ghost use lib.ListN.{length};
 ghost use Rattle.intake.specs.Edge.{Came};
 
@@ -75,8 +76,12 @@ pub(crate) fn is_live(input: Input) -> bool
     input.live
 }
 
-pub(crate) fn has_failed(input: Input) -> bool
-    ensures { λ r. ⌜ r ≡ input .failed ⌝ }
+// Whether a read failed before a byte came: then there is nothing to tell of.
+pub(crate) fn is_barren(input: Input) -> bool
+    ensures { λ r. ⌜ r ≡ cond (input .failed) (eqb (input .total) 0) false ⌝ }
 {
-    input.failed
+    if !input.failed {
+        return false;
+    }
+    input.total == 0
 }

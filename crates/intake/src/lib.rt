@@ -160,10 +160,8 @@ pub fn run(fd: i32, name: &[u8]) {
     let reported = report(fd, name, &mut out);
     let day = reported.day;
     let input = day.input;
-    if input::has_failed(input) {
-        if input::total(input) == 0 {
-            return;
-        }
+    if input::is_barren(input) {
+        return;
     }
     if reported.torn {
         say(
