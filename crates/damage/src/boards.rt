@@ -8,41 +8,16 @@ use crate::numbers::say_words;
 use cutter::Begun;
 use feeding::FeedAnswer;
 use fields::frame::Stamp;
-use line::Refusal;
 use meanings::ages;
 use meanings::ages::Aged;
 use planner::LineAnswer;
 use planner::StrikeAnswer;
 use printer::Printed;
-use table::walk::Fault;
-
-fn say_fault(fault: Fault) {
-    match fault {
-        Fault::Spacing => say_two(8, 0),
-        Fault::Field(place) => say_two(9, place as u64),
-        Fault::Number(place) => say_two(10, place as u64),
-        Fault::Two(place) => say_two(18, place as u64),
-    }
-}
-
-fn say_refusal(refusal: Refusal) {
-    match refusal {
-        Refusal::Short => say_two(1, 0),
-        Refusal::Long => say_two(2, 0),
-        Refusal::Unprintable => say_two(3, 0),
-        Refusal::NoSequence => say_two(4, 0),
-        Refusal::NoStamp => say_two(5, 0),
-        Refusal::NoFacility => say_two(6, 0),
-        Refusal::NoType => say_two(7, 0),
-        Refusal::LongPlan => say_two(11, 0),
-        Refusal::Body(fault) => say_fault(fault),
-    }
-}
 
 fn say_line_answer(answer: LineAnswer) {
     match answer {
         LineAnswer::Taken => say_two(0, 0),
-        LineAnswer::Line(refusal) => say_refusal(refusal),
+        LineAnswer::Line(refusal) => say_two(refusal.number() as u64, refusal.place() as u64),
         LineAnswer::NotAllowed => say_two(13, 0),
         LineAnswer::Full => say_two(12, 0),
     }

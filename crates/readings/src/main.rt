@@ -1,9 +1,9 @@
 // The known readings of document 01 and the sample lines of sources 003 and 000: of each line its answer number and place, and of one
 // that reads its type, its flight's key if it has one, whether writing what was read gives the same bytes, and the values of its fields.
+use check::same;
 use libc::STDIN_FILENO;
 use libc::STDOUT_FILENO;
 use line::LineRead;
-use line::Refusal;
 use line::free;
 use line::read;
 use messages::Message;
@@ -15,27 +15,12 @@ use table::field_count;
 use table::kinds::AMENDMENT;
 use table::kinds::Value;
 use table::kinds_of;
-use table::walk::Fault;
 use text::Written;
 use text::writing;
 use writer::write;
 
 fn say(bytes: &[u8]) {
     io::write_all(STDOUT_FILENO, bytes);
-}
-
-fn is_same(a: &[u8], b: &[u8]) -> bool {
-    if a.len() != b.len() {
-        return false;
-    }
-    let mut i = 0;
-    while i < a.len() {
-        if a[i] != b[i] {
-            return false;
-        }
-        i += 1;
-    }
-    true
 }
 
 // The answer number and the place, and what comes after them.
@@ -104,7 +89,7 @@ fn writes_same(m: Message, line: &[u8]) -> bool {
     let Written::Next(n) = written else {
         return false;
     };
-    is_same(&room[..n], line)
+    same(&room[..n], line)
 }
 
 fn show(m: Message, line: &[u8]) {
@@ -125,34 +110,11 @@ fn show(m: Message, line: &[u8]) {
     say(b"\n");
 }
 
-fn show_fault(fault: Fault) {
-    match fault {
-        Fault::Spacing => refuse(8, 0),
-        Fault::Field(place) => refuse(9, place),
-        Fault::Number(place) => refuse(10, place),
-        Fault::Two(place) => refuse(18, place),
-    }
-}
-
-fn show_refusal(refusal: Refusal) {
-    match refusal {
-        Refusal::Short => refuse(1, 0),
-        Refusal::Long => refuse(2, 0),
-        Refusal::Unprintable => refuse(3, 0),
-        Refusal::NoSequence => refuse(4, 0),
-        Refusal::NoStamp => refuse(5, 0),
-        Refusal::NoFacility => refuse(6, 0),
-        Refusal::NoType => refuse(7, 0),
-        Refusal::LongPlan => refuse(11, 0),
-        Refusal::Body(fault) => show_fault(fault),
-    }
-}
-
 fn show_line(line: &[u8]) {
     let read = read(line);
     match read {
         LineRead::Read(m) => show(m, line),
-        LineRead::Refused(refusal) => show_refusal(refusal),
+        LineRead::Refused(refusal) => refuse(refusal.number() as u64, refusal.place()),
     }
 }
 
