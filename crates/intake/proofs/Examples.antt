@@ -5,13 +5,14 @@ use mathlib.Core.Logic.{inl, ⊎-elim}
 use mathlib.Core.List.{List, [], _∷_, _++_}
 use Prim.Native.Nat.{ℕ}
 use native.Mathlib.Omega.{arith}
-use lib.ListN.{length, take}
+use lib.ListN.{length, take, drop}
 use denote.Ref.{now}
 use Rattle.text.specs.Bytes.{bytes}
 use Rattle.text.proofs.Logic.{not-holds}
 use Rattle.text.specs.Decimal.{widthBy, decimal}
 use Rattle.text.specs.Number.{padded}
 use Rattle.text.specs.Place.{places}
+use Rattle.text.specs.Text.{spliced}
 use Rattle.text.specs.Code.{byteOf}
 use Rattle.shapes.specs.Pieces.{pieces}
 use Rattle.cutter.specs.Feed.{allButLast, last, textsOf, restOf, linesOf}
@@ -29,17 +30,21 @@ no-bytes [] e = refl
 no-bytes (x ∷ s) e = absurd (omega arith)
 
 -- where no byte came, the board is empty, no line is counted, and no line is torn
-nothing : (κs : _) (a : _) (r : _) (s : _) (p : report.Post κs a r s) → r .day .input .total ≡ 0 → p .1 .feed ≡ []
-nothing κs a r s p none = no-bytes (p .1 .feed) (p .1 .handed ∙ none)
+nothing : (κs : _) (a : _) (r : _) (s : _) (p : report.Post κs a r s) → r .day .input .total ≡ 0 → p .1 .0 .feed ≡ []
+nothing κs a r s p none = no-bytes (p .1 .0 .feed) (p .1 .0 .handed ∙ none)
 
 pub seven-lines-of-nothing : (κs : _) (a : _) (r : _) (s : _) → report.Post κs a r s → r .day .input .total ≡ 0
     → take (r .size) (now (s .1 .1 .0)) ≡ bytes "FLIGHTS 0" ++ 10 ∷ (bytes "LINES 0 TAKEN 0" ++ 10 ∷ [])
 unfolding reportOf linesOf textsOf allButLast pieces rowsBy takenBy lineFeeds boardText countsText rowsText lineText decimal widthBy padded places byteOf
-seven-lines-of-nothing κs a r s p none = p .1 .report ∙ rw (nothing κs a r s p none, read-empty mostLines)
+seven-lines-of-nothing κs a r s p none = p .1 .0 .report ∙ rw (nothing κs a r s p none, read-empty mostLines)
+
+pub junk-after-the-report : (κs : _) (a : _) (r : _) (s : _) → report.Post κs a r s → r .day .input .total ≡ 0 → drop 26 (now (s .1 .1 .0)) ≡ drop 26 (now (a .1 .1 .0))
+unfolding spliced
+junk-after-the-report κs a r s p none = ap (drop 26) (p .1 .1 ∙ ap (spliced (now (a .1 .1 .0)) 0) (seven-lines-of-nothing κs a r s p none))
 
 pub nothing-is-torn : (κs : _) (a : _) (r : _) (s : _) → report.Post κs a r s → r .day .input .total ≡ 0 → r .torn ≡ false
 unfolding restOf last pieces
-nothing-is-torn κs a r s p none = p .1 .torn ∙ rw (nothing κs a r s p none, read-empty mostLines)
+nothing-is-torn κs a r s p none = p .1 .0 .torn ∙ rw (nothing κs a r s p none, read-empty mostLines)
 
 pub short-help-refused : (κs : _) (a : _) (r : _) (s : _) → is-help.Post κs a r s → now (a .0) ≡ bytes "-h" → r ≡ true
 short-help-refused κs a r s p e = p .1 (inl e)

@@ -12,7 +12,6 @@ use Rattle.text.specs.declared.Written.{Written}
 use Rattle.text.specs.declared.Written.the-variants as written
 use Rattle.text.proofs.Written.{the-type as the-written}
 use Rattle.text.proofs.Wrote.{next-inside}
-use Rattle.text.proofs.Splice.{take-spliced}
 use Rattle.printer.specs.Text.{countsText}
 use Rattle.printer.specs.Print.{textIn}
 use Rattle.printer.specs.declared.Printed.{Printed}
@@ -40,7 +39,7 @@ module _ (board : List ℕ) (d : Day) (out : List ℕ) (big : longestReport ≤ 
   room : (feed : List ℕ) → 0 + length (reportOf mostLines feed) ≤ length out
   room feed = omega (arith, report-size mostLines feed)
 
-  pub fills-nothing : OneOf (1 ∷ 2 ∷ []) (tagOf the-printed r) → Fills board d 0 out₁
+  pub fills-nothing : OneOf (1 ∷ 2 ∷ []) (tagOf the-printed r) → Fills board d out 0 out₁
   fills-nothing h feed held q = absurd (no-print r h _ (report-printed mostLines q out 0 (room feed) r out₁ p .0))
 
   module _ (n : ℕ) (e : r ≡ printed.Next n) (w : Written) (out₂ : List ℕ) (k : Counts (d .lines) (d .taken) out₁ n w out₂) where
@@ -52,16 +51,15 @@ module _ (board : List ℕ) (d : Day) (out : List ℕ) (big : longestReport ≤ 
         let y : n ≡ 0 + length (textIn board) = cc in
         f .1 w out₂ (rw y at k)
 
-    pub fills-none : OneOf (1 ∷ 2 ∷ []) (tagOf the-written w) → Fills board d 0 out₂
+    pub fills-none : OneOf (1 ∷ 2 ∷ []) (tagOf the-written w) → Fills board d out 0 out₂
     fills-none h feed held q = absurd (no-count w h _ (whole feed held q .0))
 
-    pub fills-all : (m : ℕ) → w ≡ written.Next m → Fills board d m out₂
+    pub fills-all : (m : ℕ) → w ≡ written.Next m → Fills board d out m out₂
     fills-all m g feed held q =
         let f = whole feed held q in
         let z : written.Next m ≡ written.Next (0 + length (reportOf mostLines feed)) = sym g ∙ f .0 in
         let y : m ≡ 0 + length (reportOf mostLines feed) = cc in
-        let x : m ≡ length (reportOf mostLines feed) = omega arith in
-        (x, rw (f .1) (take-spliced out (reportOf mostLines feed) m x))
+        (omega arith, f .1)
 
     pub inside : (m : ℕ) → w ≡ written.Next m → m ≤ length out₂
     inside m g = next-inside true (countsText (d .lines) (d .taken)) out₁ n (sym (k .0) ∙ g) (k .1)

@@ -3,16 +3,19 @@
 use mathlib.Core.Path.{_≡_, sym, ap, _∙_}
 use lib.ListN.{length, take}
 use denote.Ref.{now}
+use Rattle.text.specs.Text.{spliced}
 use Rattle.text.proofs.Logic.{same-test}
 use Rattle.intake.proofs.report.Reads as report
 use Rattle.intake.proofs.words.is_help.Reads as is-help
 use Rattle.intake.proofs.words.is_option.Reads as is-option
 
-pub report-one : (κs : _) (a : _) (r r′ : _) (s s′ : _) (p : report.Post κs a r s) (q : report.Post κs a r′ s′) → p .1 .feed ≡ q .1 .feed
-    → (take (r .size) (now (s .1 .1 .0)) ≡ take (r′ .size) (now (s′ .1 .1 .0))) × (r .size ≡ r′ .size) × (r .torn ≡ r′ .torn)
+pub report-one : (κs : _) (a : _) (r r′ : _) (s s′ : _) (p : report.Post κs a r s) (q : report.Post κs a r′ s′) → p .1 .0 .feed ≡ q .1 .0 .feed
+    → (now (s .1 .1 .0) ≡ now (s′ .1 .1 .0)) × (r .size ≡ r′ .size) × (r .torn ≡ r′ .torn)
 report-one κs a r r′ s s′ p q e =
-    let t : take (r .size) (now (s .1 .1 .0)) ≡ take (r′ .size) (now (s′ .1 .1 .0)) = p .1 .report ∙ rw e (sym (q .1 .report)) in
-    (t, p .0 .1 ∙ ap length t ∙ sym (q .0 .1), p .1 .torn ∙ rw e (sym (q .1 .torn)))
+    let x = p .1 .0 in
+    let y = q .1 .0 in
+    let t : take (r .size) (now (s .1 .1 .0)) ≡ take (r′ .size) (now (s′ .1 .1 .0)) = x .report ∙ rw e (sym (y .report)) in
+    (p .1 .1 ∙ ap (spliced (now (a .1 .1 .0)) 0) t ∙ sym (q .1 .1), p .0 .1 ∙ ap length t ∙ sym (q .0 .1), x .torn ∙ rw e (sym (y .torn)))
 
 pub is-help-one : (κs : _) (a : _) (r r′ : _) (s s′ : _) → is-help.Post κs a r s → is-help.Post κs a r′ s′ → r ≡ r′
 is-help-one κs a r r′ s s′ p q = same-test r r′ (λ e. q .1 (p .0 e)) (λ e. p .1 (q .0 e))

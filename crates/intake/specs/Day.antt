@@ -6,6 +6,7 @@ use mathlib.Core.Bool.{Bool, false, _&&_}
 use mathlib.Core.List.{List, _++_}
 use lib.Dec.{eqb, ltb}
 use lib.ListN.{length, take, replicate}
+use Rattle.text.specs.Text.{spliced}
 use Rattle.rules.specs.Frame.{longestLine}
 use Rattle.cutter.specs.Feed.{restOf}
 use Rattle.cutter.specs.Run.{atEnd}
@@ -55,9 +56,9 @@ Led board d = (held : List ℕ) × Kept board held d
 abbrev pub longestReport : ℕ
 longestReport = 18300
 
--- the first r bytes of out′ are the report of the feed that was read
-abbrev pub Fills : List ℕ → Day → ℕ → List ℕ → Type 0
-Fills board d r out′ = (feed held : List ℕ) → ReadTo feed board held d → (r ≡ length (reportOf mostLines feed)) × (take r out′ ≡ reportOf mostLines feed)
+-- out′ is out with the report of the feed that was read at its start, r bytes long; every other byte as it was
+abbrev pub Fills : List ℕ → Day → List ℕ → ℕ → List ℕ → Type 0
+Fills board d out r out′ = (feed held : List ℕ) → ReadTo feed board held d → (r ≡ length (reportOf mostLines feed)) × (out′ ≡ spliced out 0 (reportOf mostLines feed))
 
 -- the board without rows, and a buffer for the cutter
 abbrev pub AtStart : List ℕ → List ℕ → Type 0

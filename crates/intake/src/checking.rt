@@ -5,6 +5,7 @@ use crate::input::Input;
 use crate::output;
 use crate::output::Output;
 use crate::output::hand_over;
+use checks::LONGEST_SAYING;
 use checks::Sums;
 use checks::check;
 use cutter::Begun;
@@ -18,8 +19,8 @@ ghost use Rattle.rules.specs.Frame.{longestLine};
 ghost use Rattle.checks.specs.Part.{longestSaying};
 ghost use Rattle.intake.specs.Desk.{Kept, Works, isOn, Whole, Done};
 
-// A line of text for each byte of a block.
-const LONGEST_SAID: usize = 368640;
+// A line of text for each byte of a block, of which there are 4,096.
+const LONGEST_SAID: usize = 4096 * LONGEST_SAYING;
 
 // What is kept from block to block: where bytes come from, what was counted, and how much was handed over.
 pub struct Work {

@@ -20,6 +20,7 @@ ghost use mathlib.Core.Path.{_≡_};
 ghost use Prim.Native.Nat.{_≤_};
 ghost use lib.ListN.{length, take};
 ghost use Rattle.io.specs.Counts.{Counts};
+ghost use Rattle.text.specs.Text.{spliced};
 ghost use Rattle.intake.specs.Day.{Kept, TakesIn, Reads, isMore, ReadWhole, Led, Fills, AtStart, isTorn, Reports};
 
 // "It stops reading after 4,294,967,295 lines."
@@ -105,7 +106,7 @@ fn read_all(fd: i32, name: &[u8], block: &mut [u8], board: &mut [u64], held: &mu
 fn fill(board: &[u64], day: Day, out: &mut [u8; LONGEST_REPORT]) -> usize
     requires { ⌜ Led (now board) day ⌝ }
     ensures { λ r. ⌜ r ≤ length (now (out .exit)) ⌝ }
-    ensures { λ r. ⌜ Fills (now (board .entry)) day r (now (out .exit)) ⌝ }
+    ensures { λ r. ⌜ Fills (now (board .entry)) day (now (out .entry)) r (now (out .exit)) ⌝ }
 {
     let printed = print(board, out, 0);
     let Printed::Next(n) = printed else {
@@ -131,10 +132,12 @@ fn is_torn(held: &[u8], begun: Begun) -> bool
     }
 }
 
-// Reads the feed that fd gives, to its end, to a read that fails or to the last line that is read, and puts its report at the start of out.
+// Reads the feed that fd gives, to its end, to a read that fails or to the last line that is read, and puts its report at the start of out; every
+// other byte stays.
 pub fn report(fd: i32, name: &[u8], out: &mut [u8; LONGEST_REPORT]) -> Reported
     ensures { λ r. ⌜ Counts (r .size) (now (out .exit)) ⌝ }
     ensures { λ r. ⌜ Reports r (take (r .size) (now (out .exit))) ⌝ }
+    ensures { λ r. ⌜ now (out .exit) ≡ spliced (now (out .entry)) 0 (take (r .size) (now (out .exit))) ⌝ }
 {
     let mut board = [0u64; 2817];
     let mut held = [0u8; LONGEST_LINE];

@@ -5,27 +5,14 @@ use Rattle.text.proofs.Wrote.{next-inside, next-part}
 use Rattle.readings.proofs.say_part.Statement.{statement}
 use Rattle.readings.proofs.say_part.Tie as tie
 
-room : tie.Need-array-share-prefix-room-2
-room c = let p = c .before .before .before .before in next-inside _ _ _ _ (sym (p .put .ensures .0) ∙ c .before .written .given .1) (p .put .ensures .1)
-
-text : tie.Need-slice-aggregate-say-2
-text c = let p = c .before .before .before .before .before in next-part _ _ _ _ (sym (p .put .ensures .0) ∙ c .before .before .written .given .1) (p .put .ensures .1)
-
 pub say-part-spec : {M : Type 1} → statement M
 say-part-spec =
     tie.close
     (tie.spec
-    (λ c. search needs)
-    (λ c. search needs)
-    (λ c. search needs)
-    (λ c. search needs)
-    (λ c κs. search needs)
-    (λ c. search needs)
-    (λ c. search needs)
-    (λ c κs. search needs)
-    (λ c. search needs)
-    (λ c. search needs)
-    room
-    text
-    (λ c κs. search needs)
-    (λ c. search needs))
+    (λ c. search needs) (λ c. search needs) (λ c. search needs) (λ c. search needs) (λ c κs. search needs)
+    (λ c. search needs) (λ c. search needs) (λ c κs. search needs) (λ c. search needs) (λ c. search needs)
+    (λ c. let p = c .before .before .before .before in
+    next-inside _ _ _ _ (sym (p .put .ensures .0) ∙ c .before .written .given .1) (p .put .ensures .1))
+    (λ c. let p = c .before .before .before .before .before in
+    next-part _ _ _ _ (sym (p .put .ensures .0) ∙ c .before .before .written .given .1) (p .put .ensures .1))
+    (λ c κs. search needs) (λ c. search needs))

@@ -5,22 +5,13 @@ use Rattle.text.proofs.Wrote.{next-inside, next-part}
 use Rattle.readings.proofs.writes_same.Statement.{statement}
 use Rattle.readings.proofs.writes_same.Tie as tie
 
-room : tie.Need-array-share-prefix-room
-room c = let p = c .before .before .before .before in next-inside _ _ _ _ (sym (p .write .ensures .0) ∙ c .before .written .given .1) (p .write .ensures .1 .0)
-
-text : tie.Need-slice-aggregate-same
-text c = let p = c .before .before .before .before .before in next-part _ _ _ _ (sym (p .write .ensures .0) ∙ c .before .before .written .given .1) (p .write .ensures .1 .0)
-
 pub writes-same-spec : {M : Type 1} → statement M
 writes-same-spec =
     tie.close
     (tie.spec
-    (λ c κs. search needs)
-    (λ c. search needs)
-    (λ c κs. search needs)
-    (λ c. search needs)
-    (λ c. search needs)
-    room
-    text
-    (λ c κs. search needs)
-    (λ c. search needs))
+    (λ c κs. search needs) (λ c. search needs) (λ c κs. search needs) (λ c. search needs) (λ c. search needs)
+    (λ c. let p = c .before .before .before .before in
+    next-inside _ _ _ _ (sym (p .write .ensures .0) ∙ c .before .written .given .1) (p .write .ensures .1 .0))
+    (λ c. let p = c .before .before .before .before .before in
+    next-part _ _ _ _ (sym (p .write .ensures .0) ∙ c .before .before .written .given .1) (p .write .ensures .1 .0))
+    (λ c κs. search needs) (λ c. search needs))
