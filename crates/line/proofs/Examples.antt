@@ -10,7 +10,7 @@ use Rattle.text.specs.Code.{codeOf}
 use Rattle.text.specs.Number.{isDigitTo, digitOf, isNumeral, numberOf as number}
 use Rattle.text.specs.Place.{value, allIn}
 use Rattle.shapes.specs.Cut.{upTo, has, before, after, joins}
-use Rattle.shapes.specs.Picture.{isOf, fits, fitsAny, oneOf, run, within}
+use Rattle.shapes.specs.Picture.{isOf, fits, fitsAny, oneOf, run, within, startsAt}
 use Rattle.shapes.specs.Pieces.{pieces}
 use Rattle.rules.specs.Form.{isStamp, isKey, isIdent, isTzIdent, isFix, isClock, isTime, isPosition}
 use Rattle.rules.specs.Kind.{isForm}
@@ -20,7 +20,7 @@ use Rattle.fields.specs.Word.{wordOf}
 use Rattle.fields.specs.MessageType.{typeOf}
 use Rattle.fields.specs.Pair.{isPairForm, pairOf}
 use Rattle.table.specs.Field.{markOf, contentOf, traceOf, marksOf, plain, readKind, readMark, barred, readIn, follows}
-use Rattle.table.specs.Read.{answerFrom, counted, answers, answerOf, routeIn, routeOf, routeFrom, routeAt, startsAt}
+use Rattle.table.specs.Read.{answerFrom, counted, answers, answerOf, routeIn, routeOf, routeFrom, routeAt}
 use Rattle.table.specs.Spacing.{ended, fieldsOf}
 use Rattle.table.specs.declared.walk.Fault.the-variants as fault
 use Rattle.table.specs.Table.{countWith, isCount, kindsOf, countIn, answerBy, routeBy, routeAtBy}

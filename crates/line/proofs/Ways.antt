@@ -25,7 +25,7 @@ use Rattle.fields.specs.declared.heads.FacilityRead.the-variants as facility
 use Rattle.fields.specs.declared.heads.MessageType.{MessageType}
 use Rattle.fields.specs.declared.heads.TypeRead.the-variants as type
 use Rattle.table.specs.Table.{hasFields, routeBy, routeAtBy, freeIn, freeAtIn}
-use Rattle.table.specs.Read.{startsAt}
+use Rattle.shapes.specs.Picture.{startsAt}
 use Rattle.table.specs.Plan.{isLongPlan}
 use Rattle.messages.specs.Read.{bodyRead}
 use Rattle.messages.specs.declared.typed.BodyRead.{BodyRead}

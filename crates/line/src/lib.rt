@@ -22,7 +22,8 @@ ghost use mathlib.Core.Path.{_≡_};
 ghost use Prim.Native.Nat.{_≤_};
 ghost use lib.ListN.{length};
 ghost use Rattle.rules.specs.Frame.{headLength};
-ghost use Rattle.table.specs.Read.{faultNumber, faultPlace, startsAt};
+ghost use Rattle.table.specs.Read.{faultNumber, faultPlace};
+ghost use Rattle.shapes.specs.Picture.{startsAt};
 ghost use Rattle.line.specs.Cases.{Case};
 ghost use Rattle.line.specs.Read.{headOf, restOf, readOf, refusalNumber, refusalPlace, lineNumber, linePlace, freeOf, freeAt};
 

@@ -1,6 +1,6 @@
 -- The words that document 01's field rules are made of: a picture, a run of one class, a number within limits, a part.
 -- Assumes nothing.
-use Prim.Native.Nat.{ℕ}
+use Prim.Native.Nat.{ℕ, _+_}
 use Prim.Native.Char.{code}
 use mathlib.Core.Bool.{Bool, true, false, cond, _&&_, _||_}
 use mathlib.Core.List.{List, [], _∷_}
@@ -58,3 +58,8 @@ within lo hi s = isNumeral 10 s && leb lo (numberOf 10 s) && leb (numberOf 10 s)
 -- n bytes from index i
 abbrev pub part : ℕ → ℕ → List ℕ → List ℕ
 part i n s = take n (drop i s)
+
+-- "that part of the line, not a copy" (document 01, "The line"): where the part of a text lies that begins at its index i. s is where the text
+-- lies, a block of memory and a place in it
+abbrev pub startsAt : ℕ × ℕ → ℕ → ℕ × ℕ
+startsAt s i = (s .0, i + s .1)

@@ -22,7 +22,8 @@ use Rattle.table.specs.declared.kinds.Value.{Value}
 use Rattle.table.specs.declared.kinds.FieldRead.{FieldRead}
 use Rattle.table.specs.declared.kinds.FieldRead.the-variants as field
 use Rattle.table.proofs.kinds.FieldRead.{the-type}
-use Rattle.table.specs.Read.{none, padded, more, valuesFrom, faultAt, orElse, answerFrom, counted, answers, values, answerOf, valuesOf, Ready, routeIn, routeOf, routeFrom, routeAt, startsAt}
+use Rattle.table.specs.Read.{none, padded, more, valuesFrom, faultAt, orElse, answerFrom, counted, answers, values, answerOf, valuesOf, Ready, routeIn, routeOf, routeFrom, routeAt}
+use Rattle.shapes.specs.Picture.{startsAt}
 use Rattle.table.specs.declared.walk.Answer.{Answer}
 use Rattle.table.specs.declared.walk.Answer.the-variants.{Taken, Refused}
 use Rattle.table.specs.declared.walk.Fault.the-variants.{Spacing}

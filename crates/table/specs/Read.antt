@@ -128,8 +128,3 @@ routeFrom j (k ∷ ks) p (f ∷ fs) = cond (eqb (plain k p) ROUTE) (j + 1) (rout
 
 unfoldable pub routeAt : List ℕ → List ℕ → ℕ
 routeAt ks body = routeFrom 0 ks 0 (fieldsIn (fieldsOf body))
-
--- "that part of the line, not a copy": where the part of a text lies that begins at its index i. s is where the text lies, a block of memory and
--- a place in it
-abbrev pub startsAt : ℕ × ℕ → ℕ → ℕ × ℕ
-startsAt s i = (s .0, i + s .1)

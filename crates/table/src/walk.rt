@@ -8,7 +8,8 @@ use crate::spacing;
 use crate::spacing::Counted;
 ghost use mathlib.Core.Path.{_≡_};
 ghost use mathlib.Core.List.{[]};
-ghost use Rattle.table.specs.Read.{Ready, padded, faultAt, answerOf, valuesOf, routeOf, routeAt, startsAt};
+ghost use Rattle.table.specs.Read.{Ready, padded, faultAt, answerOf, valuesOf, routeOf, routeAt};
+ghost use Rattle.shapes.specs.Picture.{startsAt};
 ghost use Rattle.table.specs.declared.walk.Answer.the-variants.{Refused};
 ghost use Rattle.table.specs.declared.walk.Fault.the-variants.{Spacing};
 

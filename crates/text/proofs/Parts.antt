@@ -21,7 +21,7 @@ unfolding all
 all-append f [] y = refl
 all-append f (b ∷ x) y = rw (all-append f x y) (sym (and-assoc (f b) (all f x) (all f y)))
 
-value-append : (B w : ℕ) (x y : List ℕ) → value B (length x + w) (x ++ y) ≡ value B (length x) x * B ^ w + value B w y
+pub value-append : (B w : ℕ) (x y : List ℕ) → value B (length x + w) (x ++ y) ≡ value B (length x) x * B ^ w + value B w y
 unfolding value
 value-append B w [] y = rw (zero-add, zero-mul, zero-add)
 value-append B w (d ∷ x) y =

@@ -7,7 +7,7 @@ use Rattle.shapes.proofs.Laws.{rest-all}
 use Rattle.fields.specs.MessageType.{typeOf}
 use Rattle.fields.specs.declared.heads.TypeRead.the-variants as type
 use Rattle.table.specs.Table.{routeBy, routeAtBy}
-use Rattle.table.specs.Read.{startsAt}
+use Rattle.shapes.specs.Picture.{startsAt}
 use Rattle.table.proofs.WalkWays.{at-front}
 use Rattle.line.proofs.Ways.{free-short, free-none, free-whole, free-route, part-of-part}
 use borrow.Author.Needs.{needs}

@@ -1,7 +1,7 @@
 -- `table::route` meets its contract. Assumes nothing.
 use mathlib.Core.Path.{ap, _∙_}
 use Rattle.table.proofs.TableWays.{route-dotted, start-dotted}
-use Rattle.table.specs.Read.{startsAt}
+use Rattle.shapes.specs.Picture.{startsAt}
 use borrow.Author.Needs.{needs}
 use Rattle.table.proofs.route.Statement.{statement}
 use Rattle.table.proofs.route.Tie as tie
