@@ -1,15 +1,18 @@
-//! How fast the proved board printer is, beside the plain reference and `wc -l`, on the same feeds in one run.
+//! How fast the proved board printer is, beside the plain reference and `wc -l`, on the same feeds in one run; then how fast
+//! day files are, beside `cp` (`days`).
 //!
-//! `bench FLIGHTS REFERENCE FOLDER`: the two programs, and a folder for the feeds. Each program reads each feed from its
-//! file, seven times, and the best time counts: once as it is, and once without the start of a process, which is the time that
+//! `bench FLIGHTS DESK REFERENCE FOLDER [MEMORY]`: the programs, a folder for the feeds, and one in memory. Each program reads each feed
+//! from its file, seven times, and the best time counts: once as it is, and once without the start of a process, which is the time that
 //! the program takes for an empty feed. Memory is the most that the process held when it had read all of a feed from a pipe.
 
 #![forbid(unsafe_code)]
 
+mod days;
+
 use std::env;
 use std::fs::{self, File};
 use std::io::{self, BufWriter, Write};
-use std::process::{Command, ExitCode, Stdio};
+use std::process::{Child, Command, ExitCode, Stdio};
 use std::time::{Duration, Instant};
 
 const SIZES: [usize; 3] = [10_000, 100_000, 1_000_000];
@@ -82,11 +85,17 @@ fn memory(command: &[&str], path: &str) -> io::Result<Option<u64>> {
     let mut child = Command::new(command[0]).args(&command[1..]).stdin(Stdio::piped()).stdout(Stdio::null()).spawn()?;
     let mut input = child.stdin.take().expect("a pipe");
     input.write_all(&fs::read(path)?)?;
-    let status = fs::read_to_string(format!("/proc/{}/status", child.id())).unwrap_or_default();
+    let memory = held(&child);
     drop(input);
     child.wait()?;
+    Ok(memory)
+}
+
+/// The most memory that the process held so far, in kilobytes.
+fn held(child: &Child) -> Option<u64> {
+    let status = fs::read_to_string(format!("/proc/{}/status", child.id())).unwrap_or_default();
     let line = status.lines().find_map(|l| l.strip_prefix("VmHWM:"));
-    Ok(line.and_then(|l| l.split_whitespace().next()?.parse().ok()))
+    line.and_then(|l| l.split_whitespace().next()?.parse().ok())
 }
 
 fn run(flights: &str, reference: &str, folder: &str) -> io::Result<()> {
@@ -117,11 +126,17 @@ fn run(flights: &str, reference: &str, folder: &str) -> io::Result<()> {
 
 fn main() -> ExitCode {
     let arguments: Vec<String> = env::args().skip(1).collect();
-    let [flights, reference, folder] = arguments.as_slice() else {
-        eprintln!("usage: bench FLIGHTS REFERENCE FOLDER");
+    let (Some([flights, desk, reference, folder]), memory) = (arguments.first_chunk(), arguments.get(4)) else {
+        eprintln!("usage: bench FLIGHTS DESK REFERENCE FOLDER [MEMORY]");
         return ExitCode::from(2);
     };
-    match run(flights, reference, folder) {
+    let feed = format!("{folder}/{}.feed", days::LINES);
+    let done = run(flights, reference, folder).and_then(|()| {
+        println!();
+        let bytes = write_feed(&feed, days::LINES)?;
+        days::run(desk, &feed, bytes, folder, memory.map(String::as_str))
+    });
+    match done {
         Ok(()) => ExitCode::SUCCESS,
         Err(error) => {
             eprintln!("bench: {error}");

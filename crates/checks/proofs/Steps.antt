@@ -51,9 +51,9 @@ first-line rest q =
     ap (take (upTo lineFeed rest + 1)) (sym w) ∙ take-at (p ++ lineFeed ∷ []) t (upTo lineFeed rest + 1) k
 
 -- the lines that they end, and the state that they lead to
-record Used (h : State) (s : List ℕ) (ts : List Line) (h′ : State) : Type 0 where
-  lines : ts ≡ told h (pieces lineFeed s)
-  state : h′ ≡ stateAfter h (pieces lineFeed s)
+pub record Used (h : State) (s : List ℕ) (ts : List Line) (h′ : State) : Type 0 where
+  pub lines : ts ≡ told h (pieces lineFeed s)
+  pub state : h′ ≡ stateAfter h (pieces lineFeed s)
 
 used-free : (h : State) (rest : List ℕ) → has lineFeed rest ≡ false → Used h (take (length rest) rest) [] (more h rest)
 unfolding told stateAfter
@@ -68,7 +68,7 @@ used-line h rest q l z =
     let c = cut-same h p [] (whole-has lineFeed p (before-none lineFeed rest)) in
     rw (first-line rest q) (record { lines = sym (c .0 ∙ rw z); state = sym (c .1) })
 
-used-by : {held : List ℕ} {begun : Begun} {rest : List ℕ} {n u : ℕ} {ts : List Line} {h : State} → CutCase held begun rest n u ts h → isAllowed held begun ≡ true → Used (stateIn held begun) (take u rest) ts h
+pub used-by : {held : List ℕ} {begun : Begun} {rest : List ℕ} {n u : ℕ} {ts : List Line} {h : State} → CutCase held begun rest n u ts h → isAllowed held begun ≡ true → Used (stateIn held begun) (take u rest) ts h
 used-by (NotAllowed p) a = true-false a p
 used-by {held} {begun} {rest} (NoLineFeed p q) a = used-free (stateIn held begun) rest q
 used-by {held} {begun} {rest} (LineEnded p q l z) a = used-line (stateIn held begun) rest q (Whole l) (ap ended z)

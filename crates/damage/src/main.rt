@@ -1,7 +1,9 @@
-// The calls themselves, on what no feed can bring: any words as a board, any state of the cutter, any values to write. Each case of
-// standard input names a call and has what it takes; its answer is written to standard output, with all that the call could change.
+// The calls themselves, on what no feed can bring: any words as a board, any state of the cutter, any values to write, any bytes as a day
+// file. Each case of standard input names a call and has what it takes; its answer is written to standard output, with all that the call
+// could change.
 mod boards;
 mod cuts;
+mod days;
 mod lines;
 mod numbers;
 
@@ -69,6 +71,11 @@ fn call(asked: Asked, words: &mut [u64], first: &mut [u8], second: &mut [u8]) {
         6 => boards::age(a, b, c),
         7 => boards::print_counts(a, b, first, c as usize),
         8 => lines::write(&words[..], &first[..], second, a as usize),
+        9 => days::open(&first[..]),
+        10 => days::line(&first[..], a as usize),
+        11 => days::keep_line(&second[..], first, words, a as usize, b as usize),
+        12 => days::end_file(first, &words[..], a as usize, b as usize),
+        13 => days::end_many(a as usize, b as usize, c as usize),
         _ => {}
     }
 }

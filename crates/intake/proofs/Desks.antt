@@ -112,13 +112,13 @@ module _ (i : Input) (block : List ℕ) (j : Input) (c : Came i (length block) j
 
 -- ---- with each read there is less to come: fewer bytes, or none at all
 
-abbrev pub stillToCome : Work → ℕ
-stillToCome w = 2 ^ 64 - w .input .total + cond (w .input .live) 1 0
+abbrev pub stillToCome : Input → ℕ
+stillToCome i = 2 ^ 64 - i .total + cond (i .live) 1 0
 
-pub less-still : (w w′ : Work) (size : ℕ) → Came (w .input) size (w′ .input) → w .input .live ≡ true → stillToCome w′ < stillToCome w
-less-still w w′ size c e = go (w′ .input .live) refl
+pub less-still : (i j : Input) (size : ℕ) → Came i size j → i .live ≡ true → stillToCome j < stillToCome i
+less-still i j size c e = go (j .live) refl
   where
-    go : (b : Bool) → w′ .input .live ≡ b → stillToCome w′ < stillToCome w
+    go : (b : Bool) → j .live ≡ b → stillToCome j < stillToCome i
     go true q = let s = c .some q in rw (e, q) (omega (arith, s .0, s .1))
     go false q = rw (e, q, c .none q) (omega arith)
 

@@ -8,7 +8,7 @@ use native.Mathlib.Omega.{arith}
 use lib.ListN.{length, take, drop}
 use denote.Ref.{now}
 use Rattle.text.specs.Bytes.{bytes}
-use Rattle.text.proofs.Logic.{not-holds}
+use Rattle.text.proofs.Logic.{not-holds, true-false}
 use Rattle.text.specs.Decimal.{widthBy, decimal}
 use Rattle.text.specs.Number.{padded}
 use Rattle.text.specs.Place.{places}
@@ -16,11 +16,22 @@ use Rattle.text.specs.Text.{spliced}
 use Rattle.text.specs.Code.{byteOf}
 use Rattle.shapes.specs.Pieces.{pieces}
 use Rattle.cutter.specs.Feed.{allButLast, last, textsOf, restOf, linesOf}
+use Rattle.shapes.specs.Cut.{upTo, has}
+use Rattle.cutter.specs.State.{isAllowed}
+use Rattle.cutter.specs.Calls.{atStart, endOf, endNumber}
+use Rattle.cutter.specs.declared.Begun.the-variants.{Held}
 use Rattle.printer.specs.RowText.{lineText, rowsText}
 use Rattle.printer.specs.Text.{boardText, countsText}
 use Rattle.feeding.specs.Tally.{rowsBy, takenBy, lineFeeds}
 use Rattle.reports.specs.Report.{mostLines, reportOf}
 use Rattle.reports.proofs.Joins.{read-empty}
+use Rattle.intake.specs.Day.{isTorn}
+use Rattle.intake.proofs.input.is_barren.Reads as is-barren
+use Rattle.intake.proofs.input.is_live.Reads as is-live
+use Rattle.intake.proofs.input.next.Reads as next
+use Rattle.intake.proofs.input.start.Reads as start
+use Rattle.intake.proofs.input.total.Reads as total
+use Rattle.intake.proofs.is_torn.Reads as is-torn
 use Rattle.intake.proofs.report.Reads as report
 use Rattle.intake.proofs.words.is_help.Reads as is-help
 use Rattle.intake.proofs.words.is_option.Reads as is-option
@@ -62,3 +73,46 @@ empty-is-an-option κs a r s p e = p ∙ rw e
 
 pub hyphen-inside-is-an-option : (κs : _) (a : _) (r : _) (s : _) → is-option.Post κs a r s → now (a .0) ≡ bytes "a-h" → r ≡ false
 hyphen-inside-is-an-option κs a r s p e = p ∙ rw e
+
+-- a read that is live brought something, and no more than its block holds
+pub live-and-nothing-came : (κs : _) (a : _) (r : _) (s : _) → next.Post κs a r s → r .live ≡ true → r .total ≡ a .0 .total → ⊥
+live-and-nothing-came κs a r s p l e = omega (arith, p .some l .0, e)
+
+pub more-than-the-block : (κs : _) (a : _) (r : _) (s : _) → next.Post κs a r s → length (now (s .1 .1 .0)) ≡ 4 → a .0 .total ≡ 10 → r .total ≡ 15 → ⊥
+more-than-the-block κs a r s p h e f = omega (arith, p .most, h, e, f)
+
+-- a feed begins with no byte, and may bring some
+pub starts-with-a-byte : (κs : _) (a : _) (r : _) (s : _) → start.Post κs a r s → r .total ≡ 1 → ⊥
+starts-with-a-byte κs a r s p e = omega (arith, p .0, e)
+
+pub ended-at-its-start : (κs : _) (a : _) (r : _) (s : _) → start.Post κs a r s → r .live ≡ false → ⊥
+ended-at-its-start κs a r s p e = true-false (p .1) e
+
+-- what is told of a feed is what it holds
+pub another-total : (κs : _) (a : _) (r : _) (s : _) → total.Post κs a r s → a .0 .total ≡ 7 → r ≡ 7
+another-total κs a r s p e = p ∙ e
+
+pub nothing-of-much : (κs : _) (a : _) (r : _) (s : _) → total.Post κs a r s → a .0 .total ≡ 65536 → r ≡ 0 → ⊥
+nothing-of-much κs a r s p e f = omega (arith, p, e, f)
+
+pub live-when-closed : (κs : _) (a : _) (r : _) (s : _) → is-live.Post κs a r s → a .0 .live ≡ false → r ≡ false
+live-when-closed κs a r s p e = p ∙ e
+
+pub closed-when-live : (κs : _) (a : _) (r : _) (s : _) → is-live.Post κs a r s → a .0 .live ≡ true → r ≡ true
+closed-when-live κs a r s p e = p ∙ e
+
+-- a feed whose read failed is barren only if no byte had come, and an empty one is not
+pub barren-after-bytes : (κs : _) (a : _) (r : _) (s : _) → is-barren.Post κs a r s → a .0 .failed ≡ true → a .0 .total ≡ 3 → r ≡ false
+barren-after-bytes κs a r s p e f = p ∙ rw (e, f)
+
+pub barren-when-empty : (κs : _) (a : _) (r : _) (s : _) → is-barren.Post κs a r s → a .0 .failed ≡ false → r ≡ false
+barren-when-empty κs a r s p e = p ∙ rw e
+
+-- a feed is torn inside a line, and not at a line's start
+pub torn-at-a-start : (κs : _) (a : _) (r : _) (s : _) → is-torn.Post κs a r s → length (now (a .0)) ≡ 2048 → a .1 .0 ≡ Held 0 → r ≡ false
+unfolding isTorn endOf endNumber isAllowed atStart has upTo
+torn-at-a-start κs a r s p h b = p ∙ rw (b, h)
+
+pub whole-inside-a-line : (κs : _) (a : _) (r : _) (s : _) (rest : List ℕ) → is-torn.Post κs a r s → now (a .0) ≡ 65 ∷ rest → length rest ≡ 2047 → a .1 .0 ≡ Held 1 → r ≡ true
+unfolding isTorn endOf endNumber isAllowed atStart has upTo
+whole-inside-a-line κs a r s rest p e h b = p ∙ rw (e, b, h)

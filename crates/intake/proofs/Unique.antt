@@ -1,10 +1,15 @@
 -- Two answers that a promise allows are equal. What the reads hand over is not the caller's to say, so two reports are equal where the same
--- bytes came. Assumes nothing.
+-- bytes came; and of `input::next` there is no such law, since what a read brings is the system's to say. Assumes nothing.
 use mathlib.Core.Path.{_≡_, sym, ap, _∙_}
 use lib.ListN.{length, take}
 use denote.Ref.{now}
 use Rattle.text.specs.Text.{spliced}
 use Rattle.text.proofs.Logic.{same-test}
+use Rattle.intake.proofs.input.is_barren.Reads as is-barren
+use Rattle.intake.proofs.input.is_live.Reads as is-live
+use Rattle.intake.proofs.input.start.Reads as start
+use Rattle.intake.proofs.input.total.Reads as total
+use Rattle.intake.proofs.is_torn.Reads as is-torn
 use Rattle.intake.proofs.report.Reads as report
 use Rattle.intake.proofs.words.is_help.Reads as is-help
 use Rattle.intake.proofs.words.is_option.Reads as is-option
@@ -22,3 +27,19 @@ is-help-one κs a r r′ s s′ p q = same-test r r′ (λ e. q .1 (p .0 e)) (λ
 
 pub is-option-one : (κs : _) (a : _) (r r′ : _) (s s′ : _) → is-option.Post κs a r s → is-option.Post κs a r′ s′ → r ≡ r′
 is-option-one κs a r r′ s s′ p q = p ∙ sym q
+
+-- but for the descriptor and whether a read failed, which no promise speaks of
+pub start-one : (κs : _) (a : _) (r r′ : _) (s s′ : _) → start.Post κs a r s → start.Post κs a r′ s′ → (r .total ≡ r′ .total) × (r .live ≡ r′ .live)
+start-one κs a r r′ s s′ p q = (p .0 ∙ sym (q .0), p .1 ∙ sym (q .1))
+
+pub total-one : (κs : _) (a : _) (r r′ : _) (s s′ : _) → total.Post κs a r s → total.Post κs a r′ s′ → r ≡ r′
+total-one κs a r r′ s s′ p q = p ∙ sym q
+
+pub is-live-one : (κs : _) (a : _) (r r′ : _) (s s′ : _) → is-live.Post κs a r s → is-live.Post κs a r′ s′ → r ≡ r′
+is-live-one κs a r r′ s s′ p q = p ∙ sym q
+
+pub is-barren-one : (κs : _) (a : _) (r r′ : _) (s s′ : _) → is-barren.Post κs a r s → is-barren.Post κs a r′ s′ → r ≡ r′
+is-barren-one κs a r r′ s s′ p q = p ∙ sym q
+
+pub is-torn-one : (κs : _) (a : _) (r r′ : _) (s s′ : _) → is-torn.Post κs a r s → is-torn.Post κs a r′ s′ → r ≡ r′
+is-torn-one κs a r r′ s s′ p q = p ∙ sym q

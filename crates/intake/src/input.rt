@@ -16,7 +16,7 @@ pub struct Input {
 }
 
 // What the descriptor gives, from the first read on.
-pub(crate) fn start(fd: i32) -> Input
+pub fn start(fd: i32) -> Input
     ensures { λ r. ⌜ (r .total ≡ 0) × (r .live ≡ true) ⌝ }
 {
     Input {
@@ -40,7 +40,7 @@ fn closed(input: Input, failed: bool) -> Input
 }
 
 // One read: how many bytes stand at the start of the block then is by how much the total has grown. A read that fails says so.
-pub(crate) fn next(input: Input, name: &[u8], block: &mut [u8]) -> Input
+pub fn next(input: Input, name: &[u8], block: &mut [u8]) -> Input
     ensures { λ r. ⌜ Came input (length (now (block .exit))) r ⌝ }
 {
     if block.len() > usize::MAX - input.total {
@@ -64,20 +64,20 @@ pub(crate) fn next(input: Input, name: &[u8], block: &mut [u8]) -> Input
     }
 }
 
-pub(crate) fn total(input: Input) -> usize
+pub fn total(input: Input) -> usize
     ensures { λ r. ⌜ r ≡ input .total ⌝ }
 {
     input.total
 }
 
-pub(crate) fn is_live(input: Input) -> bool
+pub fn is_live(input: Input) -> bool
     ensures { λ r. ⌜ r ≡ input .live ⌝ }
 {
     input.live
 }
 
 // Whether a read failed before a byte came: then there is nothing to tell of.
-pub(crate) fn is_barren(input: Input) -> bool
+pub fn is_barren(input: Input) -> bool
     ensures { λ r. ⌜ r ≡ cond (input .failed) (eqb (input .total) 0) false ⌝ }
 {
     if !input.failed {

@@ -120,7 +120,7 @@ fn fill(board: &[u64], day: Day, out: &mut [u8; LONGEST_REPORT]) -> usize
 }
 
 // Whether the feed ended inside a line, which is no line: answer 17.
-fn is_torn(held: &[u8], begun: Begun) -> bool
+pub fn is_torn(held: &[u8], begun: Begun) -> bool
     ensures { λ r. ⌜ r ≡ isTorn (now (held .entry)) begun ⌝ }
 {
     let end = cutter::end(held, begun);

@@ -1,8 +1,26 @@
 //! The calls themselves: what each is given, as the bytes that the proved program `damage` reads, and
 //! what the reference answers, as the bytes that it writes.
+//!
+//! A case is eight numbers of eight bytes, the least first: the call; how many words it takes, and how
+//! many of these are given, the others being 0; how many bytes are in each of two runs; and three
+//! numbers, a, b and c. The given words follow, eight bytes each, and the two runs. Of day files:
+//!
+//! | call | words | first run | second run | a | b | c | the answer |
+//! |---|---|---|---|---|---|---|---|
+//! | 9 `open` | | the file | | | | | number, how many lines, where the index starts |
+//! | 10 `line` | | the file | | the line's number | | | the line |
+//! | 11 `keep_line` | the offsets | the buffer | the line | place | count | | number, place and count after it, the offsets, the buffer |
+//! | 12 `end_file` | the offsets | the buffer | | place | count | | number, the file's length, the buffer |
+//! | 13 `end_many` | | | | lines | room | which offset is one too many | number, the file's length, the room |
+//!
+//! `end_many` is `end_file` for more lines than a case could bring: so many empty ones, at most 65,537,
+//! with their offsets, and a buffer of line feeds with so much room after them, at most 327,679 bytes.
+//! In an answer what only 0 gives is 0 where another number is answered. Words are how many, how many
+//! up to the last that is not 0, and these; bytes are how many, and these.
 
 use reference::age::{age_of_words, Age};
 use reference::buffer::{self, Begun, Place};
+use reference::dayfile::{self, Opened};
 use reference::values::{self, Value, Values};
 use reference::write::put;
 use reference::{print, words};
@@ -59,10 +77,36 @@ pub enum Case {
         out: Vec<u8>,
         at: usize,
     },
+    Open {
+        file: Vec<u8>,
+    },
+    Line {
+        file: Vec<u8>,
+        number: usize,
+    },
+    KeepLine {
+        line: Vec<u8>,
+        out: Vec<u8>,
+        offsets: Vec<u32>,
+        place: usize,
+        count: usize,
+    },
+    EndFile {
+        out: Vec<u8>,
+        offsets: Vec<u32>,
+        place: usize,
+        count: usize,
+    },
+    EndMany {
+        lines: usize,
+        room: usize,
+        shifted: usize,
+    },
 }
 
-/// The calls by their numbers, and the answer numbers that each may give.
-pub const CALLS: [(&str, &[u8]); 9] = [
+/// The calls by their numbers, and the answer numbers that each may give; for `line` they are those of
+/// opening the file. (24 at a file's end comes up in `end_many` alone.)
+pub const CALLS: [(&str, &[u8]); 14] = [
     ("apply", &[0, 1, 2, 3, 4, 5, 6, 7, 8, 9, 10, 11, 12, 13]),
     ("strike", &[0, 9, 13, 14]),
     ("print", &[0, 13, 15]),
@@ -72,6 +116,11 @@ pub const CALLS: [(&str, &[u8]); 9] = [
     ("age", &[0, 19]),
     ("counts", &[0, 15]),
     ("write", &[0, 15, 16]),
+    ("open", &[0, 20, 21, 22, 23]),
+    ("line", &[0, 20, 21, 22, 23]),
+    ("keep_line", &[0, 2, 15, 24, 25]),
+    ("end_file", &[0, 13, 15]),
+    ("end_many", &[0, 13, 15, 24]),
 ];
 
 /// What a call answers: its number, and all that the program writes of it.
@@ -93,7 +142,17 @@ impl Case {
             Case::Age { .. } => 6,
             Case::Counts { .. } => 7,
             Case::Write { .. } => 8,
+            Case::Open { .. } => 9,
+            Case::Line { .. } => 10,
+            Case::KeepLine { .. } => 11,
+            Case::EndFile { .. } => 12,
+            Case::EndMany { .. } => 13,
         }
+    }
+
+    /// Whether it goes over more lines than a case could bring.
+    pub fn is_long(&self) -> bool {
+        matches!(self, Case::EndMany { lines, .. } if *lines > 1000)
     }
 
     /// The case as the program reads it: eight numbers, the words, and two runs of bytes.
@@ -136,6 +195,35 @@ impl Case {
                 out,
                 at,
             } => self.framed(&message(values), free, out, [*at as u64, 0, 0]),
+            Case::Open { file } => self.framed(&[], file, &[], [0, 0, 0]),
+            Case::Line { file, number } => self.framed(&[], file, &[], [*number as u64, 0, 0]),
+            Case::KeepLine {
+                line,
+                out,
+                offsets,
+                place,
+                count,
+            } => {
+                let numbers = [*place as u64, *count as u64, 0];
+                self.framed(&wide(offsets), out, line, numbers)
+            }
+            Case::EndFile {
+                out,
+                offsets,
+                place,
+                count,
+            } => {
+                let numbers = [*place as u64, *count as u64, 0];
+                self.framed(&wide(offsets), out, &[], numbers)
+            }
+            Case::EndMany {
+                lines,
+                room,
+                shifted,
+            } => {
+                let numbers = [*lines, *room, *shifted].map(|number| number as u64);
+                self.framed(&[], &[], &[], numbers)
+            }
         }
     }
 
@@ -234,8 +322,67 @@ impl Case {
                 let written = values::write_into(&values, &free, &mut out, at);
                 written_at(written, at, &out)
             }
+            Case::Open { file } => {
+                let (number, opened) = match dayfile::open(&file) {
+                    Ok(opened) => (0, opened),
+                    Err(number) => (number, Opened { count: 0, start: 0 }),
+                };
+                let mut answer = Told::two(number, opened.count);
+                answer.number(opened.start as u64);
+                answer.of(number)
+            }
+            Case::Line { file, number } => {
+                let opened = dayfile::open(&file);
+                let line = dayfile::line(&file, number);
+                Told::default()
+                    .bytes(line)
+                    .of(opened.map_or_else(|number| number, |_| 0))
+            }
+            Case::KeepLine {
+                line,
+                mut out,
+                mut offsets,
+                place,
+                count,
+            } => {
+                let kept = dayfile::record(&mut out, &mut offsets, place, count, &line);
+                let (number, (place, count)) = match kept {
+                    Ok(after) => (0, after),
+                    Err(number) => (number, (0, 0)),
+                };
+                let mut answer = Told::two(number, place);
+                answer.number(count as u64);
+                answer.words(&wide(&offsets)).bytes(&out).of(number)
+            }
+            Case::EndFile {
+                mut out,
+                offsets,
+                place,
+                count,
+            } => {
+                let ended = dayfile::end(&mut out, &offsets, place, count);
+                written_at(ended, 0, &out)
+            }
+            Case::EndMany {
+                lines,
+                room,
+                shifted,
+            } => {
+                let mut out = vec![b'\n'; lines + room];
+                let mut offsets: Vec<u32> = (0..lines as u32).collect();
+                if let Some(offset) = offsets.get_mut(shifted) {
+                    *offset += 1;
+                }
+                let ended = dayfile::end(&mut out, &offsets, lines, lines);
+                written_at(ended, 0, &out[lines..])
+            }
         }
     }
+}
+
+/// Offsets as words.
+fn wide(offsets: &[u32]) -> Vec<u64> {
+    offsets.iter().map(|&offset| u64::from(offset)).collect()
 }
 
 /// How many words there are up to the last that is not 0.
@@ -369,5 +516,16 @@ mod tests {
         let expected = [numbers(&[1, 5, 3, 1, 0, 0, 0, 0, 1, 0, 7]), b"N".to_vec()].concat();
         assert_eq!(case.bytes(), expected);
         assert_eq!(case.answer().bytes, numbers(&[9, 1, 5, 3, 1, 0, 7]));
+        let case = Case::KeepLine {
+            line: b"a".to_vec(),
+            out: b"..x".to_vec(),
+            offsets: vec![5, 0],
+            place: 1,
+            count: 1,
+        };
+        let expected = numbers(&[11, 2, 1, 3, 1, 1, 1, 0, 5]);
+        assert_eq!(case.bytes(), [&expected[..], b"..xa"].concat());
+        let told = [&numbers(&[0, 3, 2, 2, 2, 5, 1, 3])[..], b".a\n"].concat();
+        assert_eq!(case.answer().bytes, told);
     }
 }

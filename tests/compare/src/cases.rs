@@ -4,15 +4,16 @@ use crate::boards;
 use crate::calls::{Case, MOST_BYTES};
 use crate::chance::Chance;
 use crate::damage::damage;
+use crate::days::{self, Lent};
 use crate::fields::{self, Form};
 use crate::lines::{line, long_line, Wrongs, NO_WRONGS, TYPES};
 use crate::states;
 use crate::values;
 use reference::{print, values as written, words};
 
-/// A case of any call; those of the board and of the writer more often than the others.
+/// A case of any call; those of the board, of the writer and of day files more often than the others.
 pub fn case(chance: &mut Chance) -> Case {
-    match chance.below(32) {
+    match chance.below(43) {
         0..=7 => {
             let board = boards::board(chance);
             let line = board_line(chance, &board);
@@ -56,6 +57,13 @@ pub fn case(chance: &mut Chance) -> Case {
                 at,
             }
         }
+        32..=34 => Case::Open {
+            file: days::file(chance),
+        },
+        35 | 36 => day_line(chance),
+        37..=39 => keep_line(chance),
+        40 | 41 => end_file(chance),
+        42 => end_many(chance),
         _ => {
             let (values, free) = values::values(chance);
             let line = written::write(&values, &free);
@@ -186,6 +194,89 @@ fn age(chance: &mut Chance) -> Case {
         stamp = now;
     }
     Case::Age { now, last, stamp }
+}
+
+/// A line of a day file by its number: one that it has, the next, or another one.
+fn day_line(chance: &mut Chance) -> Case {
+    let file = days::file(chance);
+    let count = reference::dayfile::open(&file).map_or(1, |opened| opened.count);
+    let number = match chance.below(8) {
+        0 => 0,
+        1 => count + 1,
+        2 => chance.one_of(&[65_535, 65_536, 1 << 32, usize::MAX]),
+        _ => chance.near_ends(1, count.max(1)),
+    };
+    Case::Line { file, number }
+}
+
+/// A line to keep, one that may be most often, after others.
+fn keep_line(chance: &mut Chance) -> Case {
+    let mut parts = days::whole(chance);
+    if chance.in_hundred(15) {
+        days::damage_lines(&mut parts, chance);
+    }
+    let line = match chance.below(5) {
+        0 => days::wrong_line(chance),
+        _ => days::line(chance),
+    };
+    let Lent {
+        out,
+        offsets,
+        place,
+        count,
+    } = days::lend(chance, parts, line.len() + 1, 1);
+    Case::KeepLine {
+        line,
+        out,
+        offsets,
+        place,
+        count,
+    }
+}
+
+/// A file to end, its lines and offsets in order most often.
+fn end_file(chance: &mut Chance) -> Case {
+    let mut parts = days::whole(chance);
+    if chance.in_hundred(35) {
+        days::damage_lines(&mut parts, chance);
+    }
+    let index = 4 * parts.offsets.len() + 8;
+    let Lent {
+        out,
+        offsets,
+        place,
+        count,
+    } = days::lend(chance, parts, index, 0);
+    Case::EndFile {
+        out,
+        offsets,
+        place,
+        count,
+    }
+}
+
+/// Empty lines to end a file with: few, or the most or about that many.
+fn end_many(chance: &mut Chance) -> Case {
+    let lines = match chance.below(4) {
+        0 => chance.between(0, 5),
+        _ => chance.between(65_534, 65_537),
+    };
+    let index = 4 * lines + 8;
+    let room = match chance.below(6) {
+        0 => index,
+        1 => index - 1,
+        2 => index + 1,
+        _ => chance.between(0, 40),
+    };
+    let shifted = match chance.below(3) {
+        0 => chance.near_ends(0, lines),
+        _ => usize::MAX,
+    };
+    Case::EndMany {
+        lines,
+        room,
+        shifted,
+    }
 }
 
 /// A buffer with any contents and a place, for so many bytes: often just room for them, or one byte

@@ -22,6 +22,7 @@ pub fn compare(proved: &Path, folder: &Path, seed: u64, cases: u64) -> io::Resul
         proved,
         name: "damage",
         words: &[],
+        folder: None,
     };
     let mut seeds = Chance::of_seed(seed);
     let mut tally = Tally::new();
@@ -58,7 +59,7 @@ pub fn compare(proved: &Path, folder: &Path, seed: u64, cases: u64) -> io::Resul
         done += count;
     }
     print(&tally);
-    println!("compared {done} calls on boards, states and values: no difference");
+    println!("compared {done} calls on boards, states, values and day files: no difference");
     Ok(true)
 }
 
@@ -101,7 +102,7 @@ fn show(program: &Program, folder: &Path, case: &Case, answer: &Answer) -> io::R
 
 /// Prints how often each call gave each number, and the numbers that did not come up.
 fn print(tally: &Tally) {
-    println!("call       count  answers");
+    println!("call          count  answers");
     let mut missing = Vec::new();
     for (call, (name, numbers)) in CALLS.iter().enumerate() {
         let counts = tally.range((call, 0)..=(call, u8::MAX));
@@ -110,7 +111,7 @@ fn print(tally: &Tally) {
             .map(|((_, number), count)| format!("{number}: {count}"))
             .collect();
         let sum: u64 = counts.map(|(_, count)| count).sum();
-        println!("{name:6} {sum:9}  {}", all.join(", "));
+        println!("{name:9} {sum:9}  {}", all.join(", "));
         for number in *numbers {
             if !tally.contains_key(&(call, *number)) {
                 missing.push(format!("{name} {number}"));
@@ -125,13 +126,16 @@ fn print(tally: &Tally) {
 }
 
 /// Cases to keep: of each call and answer number the first that are small, at most so many, or the
-/// smallest. What the program reads, and what it must write.
-pub fn record(seed: u64, most: usize) -> (Vec<u8>, Vec<u8>) {
+/// smallest; of those that are allowed. What the program reads, and what it must write.
+pub fn record(seed: u64, most: usize, is_allowed: fn(&Case) -> bool) -> (Vec<u8>, Vec<u8>) {
     const SMALL: usize = 5000;
     let mut seeds = Chance::of_seed(seed);
     let mut kept: BTreeMap<(usize, u8), Vec<(Case, usize)>> = BTreeMap::new();
     for _ in 0..4000 {
         let case = case(&mut Chance::of_seed(seeds.draw()));
+        if !is_allowed(&case) {
+            continue;
+        }
         let answer = case.answer();
         let size = case.bytes().len() + answer.bytes.len();
         let alike = kept.entry((case.call(), answer.number)).or_default();
@@ -157,7 +161,7 @@ mod tests {
     #[test]
     fn the_recorded_run() {
         let folder = Path::new(env!("CARGO_MANIFEST_DIR")).join("../../crates/damage");
-        let (read, written) = record(RECORDED, RECORDED_OF_EACH);
+        let (read, written) = record(RECORDED, RECORDED_OF_EACH, |_| true);
         assert!(fs::read(folder.join("stdin")).unwrap() == read);
         assert!(fs::read(folder.join("stdout")).unwrap() == written);
     }

@@ -1,7 +1,7 @@
-//! The comparison: `compare PROVED FOLDER [SEED [LINES [CASES]]]` hands random feeds to the proved
+//! The comparison: `compare PROVED FOLDER [SEED [LINES [CASES [FILES]]]]` hands random feeds to the proved
 //! programs and to the reference until so many lines were compared, then so many calls on random
-//! boards, states and values, and shows the first difference. It is started by the script `run`
-//! beside this folder. `compare record FOLDER` writes the cases that stand beside `damage`, and
+//! boards, states, values and day files, then so many feeds to be kept in day files, and shows the first
+//! difference. It is started by the script `run` beside this folder. `compare record FOLDER` writes the cases that stand beside `damage`, and
 //! `compare once NAME SEED BYTES FOLDER [WORD..]` one feed, or cases, for a program that is given these
 //! words, with the expected output.
 
@@ -12,9 +12,11 @@ mod calls;
 mod cases;
 mod chance;
 mod damage;
+mod days;
 mod direct;
 mod feeds;
 mod fields;
+mod keeping;
 mod lines;
 mod once;
 mod program;
@@ -37,6 +39,7 @@ use tally::Tally;
 const SEED: u64 = 1;
 const LINES: u64 = 200_000;
 const CASES: u64 = 20_000;
+const FILES: u64 = 300;
 /// The seed of the cases that stand beside the program `damage`, and how many of each call and number.
 const RECORDED: u64 = 1;
 const RECORDED_OF_EACH: usize = 2;
@@ -56,6 +59,7 @@ fn pairs(proved: &Path) -> [Pair<'_>; 4] {
         proved,
         name,
         words,
+        folder: None,
     };
     [
         Pair {
@@ -100,10 +104,10 @@ fn main() -> ExitCode {
 
 /// Does what the arguments ask. Whether there was no difference.
 fn asked(arguments: &[String]) -> io::Result<bool> {
-    let usage = || io::Error::other("usage: run [SEED [LINES [CASES]]], whole numbers");
+    let usage = || io::Error::other("usage: run [SEED [LINES [CASES [FILES]]]], whole numbers");
     match arguments {
         [what, folder] if what == "record" => {
-            let (read, written) = direct::record(RECORDED, RECORDED_OF_EACH);
+            let (read, written) = direct::record(RECORDED, RECORDED_OF_EACH, |_| true);
             fs::write(Path::new(folder).join("stdin"), read)?;
             fs::write(Path::new(folder).join("stdout"), written)?;
             Ok(true)
@@ -120,16 +124,18 @@ fn asked(arguments: &[String]) -> io::Result<bool> {
             )?;
             Ok(true)
         }
-        [proved, folder, numbers @ ..] if numbers.len() <= 3 => {
+        [proved, folder, numbers @ ..] if numbers.len() <= 4 => {
             let number = |index: usize, otherwise: u64| match numbers.get(index) {
                 Some(text) => text.parse::<u64>().map_err(|_| usage()),
                 None => Ok(otherwise),
             };
             let (proved, folder) = (Path::new(proved), Path::new(folder));
-            let (seed, lines, cases) = (number(0, SEED)?, number(1, LINES)?, number(2, CASES)?);
-            println!("seed {seed}, {lines} lines, {cases} calls");
+            let (seed, lines) = (number(0, SEED)?, number(1, LINES)?);
+            let (cases, files) = (number(2, CASES)?, number(3, FILES)?);
+            println!("seed {seed}, {lines} lines, {cases} calls, {files} feeds to keep");
             Ok((lines == 0 || compare(proved, folder, seed, lines)?)
-                && (cases == 0 || direct::compare(proved, folder, seed, cases)?))
+                && (cases == 0 || direct::compare(proved, folder, seed, cases)?)
+                && (files == 0 || keeping::compare(proved, folder, seed, files)?))
         }
         _ => Err(usage()),
     }

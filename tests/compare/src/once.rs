@@ -5,6 +5,7 @@ use crate::chance::Chance;
 use crate::direct;
 use crate::feeds;
 use crate::pair_of;
+use reference::dayfile::{keep, lines_text};
 use std::fs;
 use std::io;
 use std::path::Path;
@@ -21,16 +22,32 @@ fn feed(seed: u64, bytes: usize) -> Vec<u8> {
 }
 
 /// Writes `stdin` and `stdout` of a program with these words into a folder, and the words, a line each, as
-/// its `args`. `damage` gets a case of each call and number.
+/// its `args`. `damage` gets a case of each call and number, but for those that the interpreter has no
+/// steps for. `desk lines` gets a day file in the folder `data`, where the program finds it; of `desk keep`
+/// the file that it must make is written as `made`.
 pub fn write(name: &str, words: &[&str], seed: u64, bytes: usize, folder: &Path) -> io::Result<()> {
-    let (read, written) = if name == "damage" {
-        direct::record(seed, 1)
-    } else {
-        let pair = pair_of(Path::new(""), name, words)
-            .ok_or_else(|| io::Error::other(format!("no program {name} {}", words.join(" "))))?;
-        let feed = feed(seed, bytes.min(pair.most));
-        let report = (pair.reference)(&feed);
-        (feed, report)
+    let (read, written) = match (name, words) {
+        ("damage", _) => direct::record(seed, 1, |case| !case.is_long()),
+        ("desk", ["keep", _]) => {
+            let feed = feed(seed, bytes);
+            fs::write(folder.join("made"), keep(&feed).file)?;
+            (feed, Vec::new())
+        }
+        ("desk", ["lines", file]) => {
+            let kept = keep(&feed(seed, bytes)).file;
+            let lines = lines_text(&kept).map_err(io::Error::other)?;
+            fs::create_dir_all(folder.join("data"))?;
+            fs::write(folder.join("data").join(file), kept)?;
+            (Vec::new(), lines)
+        }
+        _ => {
+            let no_program = || format!("no program {name} {}", words.join(" "));
+            let pair = pair_of(Path::new(""), name, words)
+                .ok_or_else(|| io::Error::other(no_program()))?;
+            let feed = feed(seed, bytes.min(pair.most));
+            let report = (pair.reference)(&feed);
+            (feed, report)
+        }
     };
     println!(
         "{name}: seed {seed}, {} bytes in, {} bytes out",
@@ -64,6 +81,13 @@ mod tests {
             assert_eq!(part("stdout"), check(&part("stdin"), refused_only));
         }
         assert!(write("desk", &[], 3, 20_000, &folder).is_err());
+        write("desk", &["keep", "day"], 3, 20_000, &folder).unwrap();
+        let made = part("made");
+        assert_eq!(made, keep(&part("stdin")).file);
+        assert_eq!(part("stdout"), b"");
+        write("desk", &["lines", "day"], 3, 20_000, &folder).unwrap();
+        assert_eq!(part("data/day"), made);
+        assert_eq!(part("stdout"), lines_text(&made).unwrap());
         fs::remove_dir_all(&folder).unwrap();
     }
 }

@@ -5,7 +5,7 @@ use std::fmt;
 use std::io::{self, Read, Write};
 use std::path::Path;
 use std::process::{Command, Stdio};
-use std::thread::{self, sleep};
+use std::thread::{self, sleep, JoinHandle};
 use std::time::Duration;
 
 /// Parts up to this many are written slowly, so that the program reads them apart; more of them
@@ -66,11 +66,13 @@ fn limits(feed: &[u8]) -> Vec<usize> {
     places
 }
 
-/// A program: the script that runs those that are built, its name, and the words that it is given.
+/// A program: the script that runs those that are built, its name, the words that it is given, and the
+/// folder that it runs in, if it matters.
 pub struct Program<'a> {
     pub proved: &'a Path,
-    pub name: &'static str,
-    pub words: &'static [&'static str],
+    pub name: &'a str,
+    pub words: &'a [&'a str],
+    pub folder: Option<&'a Path>,
 }
 
 impl fmt::Display for Program<'_> {
@@ -79,30 +81,46 @@ impl fmt::Display for Program<'_> {
     }
 }
 
-/// What the program printed for a feed, and, if it ended badly, how.
+/// What the program printed for a feed, what it said on standard error, and, if it ended badly, how.
 pub struct Printed {
     pub text: Vec<u8>,
+    pub said: Vec<u8>,
     pub bad_end: Option<String>,
 }
 
-/// Runs a program on a feed. The feed is written here and the report read in a second thread, so that
-/// neither waits for the other. What it says on standard error is not looked at.
+/// Reads all that comes from a pipe, in a thread.
+fn read_all(mut pipe: impl Read + Send + 'static) -> JoinHandle<io::Result<Vec<u8>>> {
+    thread::spawn(move || {
+        let mut text = Vec::new();
+        pipe.read_to_end(&mut text).map(|_| text)
+    })
+}
+
+/// What a thread read.
+fn joined(reader: JoinHandle<io::Result<Vec<u8>>>) -> io::Result<Vec<u8>> {
+    let read = reader.join();
+    read.map_err(|_| io::Error::other("reading what the program writes failed"))?
+}
+
+/// Runs a program on a feed. The feed is written here and the report read in other threads, so that
+/// neither waits for the other.
 pub fn run(program: &Program, feed: &[u8], parts: &[usize]) -> io::Result<Printed> {
-    let mut child = Command::new(program.proved)
+    let mut command = Command::new(program.proved);
+    if let Some(folder) = program.folder {
+        command.current_dir(folder);
+    }
+    let mut child = command
         .arg(program.name)
         .args(program.words)
         .stdin(Stdio::piped())
         .stdout(Stdio::piped())
-        .stderr(Stdio::null())
+        .stderr(Stdio::piped())
         .spawn()?;
-    let (Some(mut to_program), Some(mut from_program)) = (child.stdin.take(), child.stdout.take())
-    else {
+    let pipes = (child.stdin.take(), child.stdout.take(), child.stderr.take());
+    let (Some(mut to_program), Some(output), Some(error)) = pipes else {
         return Err(io::Error::other("the program has no pipes"));
     };
-    let reader = thread::spawn(move || {
-        let mut text = Vec::new();
-        from_program.read_to_end(&mut text).map(|_| text)
-    });
+    let (text, said) = (read_all(output), read_all(error));
     let mut rest = feed;
     for (turn, &size) in parts.iter().enumerate() {
         let (part, after) = rest.split_at(size);
@@ -117,12 +135,11 @@ pub fn run(program: &Program, feed: &[u8], parts: &[usize]) -> io::Result<Printe
         }
     }
     drop(to_program);
-    let text = reader
-        .join()
-        .map_err(|_| io::Error::other("reading the report failed"))??;
+    let (text, said) = (joined(text)?, joined(said)?);
     let status = child.wait()?;
     Ok(Printed {
         text,
+        said,
         bad_end: (!status.success()).then(|| status.to_string()),
     })
 }

@@ -2,6 +2,7 @@
 //! none was taken from the program itself. (The cases beside `damage` are looked at in `direct`.)
 
 use crate::pair_of;
+use reference::dayfile::{keep, lines_text, THERE_ALREADY};
 use reference::print::check_counts;
 use std::fs;
 use std::path::{Path, PathBuf};
@@ -52,6 +53,11 @@ fn beside_the_programs() {
     }
 }
 
+/// What stands in a case's folder; nothing where there is no such file.
+fn written(folder: &Path, file: &str) -> Vec<u8> {
+    fs::read(folder.join(file)).unwrap_or_default()
+}
+
 /// The programs as people run them: the words, the last of which may name the feed's file or, by a hyphen,
 /// standard input. Of `desk check` the sums on standard error too.
 #[test]
@@ -69,17 +75,73 @@ fn as_people_run_them() {
         };
         let feed = fs::read(feed).unwrap_or_default();
         if let Some(expected) = expected(&name, &words, &feed) {
-            let written = |file: &str| fs::read(folder.join(file)).unwrap_or_default();
-            assert!(written("stdout") == expected, "{}", folder.display());
+            let stdout = written(&folder, "stdout");
+            assert!(stdout == expected, "{}", folder.display());
             if name == "desk" {
-                assert!(
-                    written("stderr") == check_counts(&feed),
-                    "{}",
-                    folder.display()
-                );
+                let stderr = written(&folder, "stderr");
+                assert!(stderr == check_counts(&feed), "{}", folder.display());
             }
             compared += 1;
         }
     }
     assert!(compared >= 9, "{compared}");
+}
+
+/// What `desk keep` and `desk lines` do with a file of this name: what they write, what they say, and the
+/// file that they make.
+fn of_day_file(
+    word: &str,
+    name: &str,
+    folder: &Path,
+) -> Option<(Vec<u8>, String, Option<Vec<u8>>)> {
+    let file = fs::read(folder.join(name));
+    match (word, file) {
+        ("keep", Ok(_)) => Some((Vec::new(), format!("{name}: {THERE_ALREADY}\n"), None)),
+        // there is no folder for it, or its part stands there: that is the system's word
+        ("keep", Err(_)) if !can_make(&folder.join(name)) => None,
+        ("keep", Err(_)) => {
+            let kept = keep(&written(folder, "stdin"));
+            Some((Vec::new(), kept.said, Some(kept.file)))
+        }
+        ("lines", Ok(file)) => Some(match lines_text(&file) {
+            Ok(text) => (text, String::new(), None),
+            Err(why) => (Vec::new(), format!("{name}: {why}\n"), None),
+        }),
+        _ => None,
+    }
+}
+
+/// Whether a file can be made there, by way of its part.
+fn can_make(path: &Path) -> bool {
+    let mut part = path.as_os_str().to_owned();
+    part.push(".part");
+    path.parent().is_some_and(Path::is_dir) && !Path::new(&part).exists()
+}
+
+/// The desk's day files: those that it makes, and what it says of them.
+#[test]
+fn day_files() {
+    let mut compared = 0;
+    for folder in folders("tests/desk/cases") {
+        let words = lines(&folder.join("words"));
+        let [program, word, name] = &words[..] else {
+            continue;
+        };
+        if program != "desk" || name.starts_with('-') {
+            continue;
+        }
+        let Some((text, said, made)) = of_day_file(word, name, &folder) else {
+            continue;
+        };
+        let shown = folder.display();
+        assert!(written(&folder, "stdout") == text, "{shown}");
+        assert!(written(&folder, "stderr") == said.as_bytes(), "{shown}");
+        let makes = fs::read_dir(folder.join("makes")).map_or(0, Iterator::count);
+        assert_eq!(makes, usize::from(made.is_some()), "{shown}");
+        if let Some(made) = made {
+            assert!(written(&folder.join("makes"), name) == made, "{shown}");
+        }
+        compared += 1;
+    }
+    assert!(compared >= 10, "{compared}");
 }

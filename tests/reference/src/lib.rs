@@ -1,8 +1,8 @@
-//! The reference: the rules of document 01 ("The exact rules and the build"), read with the
-//! readings of docs/DECISIONS.md, written a second time and plainly, to be checked against the
-//! document by eye and then compared byte for byte with the product.
+//! The reference: the rules of document 01 ("The exact rules and the build") and the day file of
+//! document 02, read with the readings of docs/DECISIONS.md, written a second time and plainly, to be
+//! checked against the documents by eye and then compared byte for byte with the product.
 //!
-//! Each module holds one chapter of the document:
+//! Each module holds one chapter of document 01, or a request of document 02:
 //! - `field`: the forms of the fields
 //! - `line`: from a line to its message, or to the number that refuses it
 //! - `write`: from a message to its line
@@ -10,6 +10,7 @@
 //! - `board`: the rows of the listed flights
 //! - `age`: how old a stamp is
 //! - `print`: the board as text, and the report of a whole feed
+//! - `dayfile`: the lines of a day in a file (request a)
 //!
 //! Four more take what a caller may hand over, allowed or not, as docs/DECISIONS.md lays it out:
 //! - `text`: a short text as one number
@@ -26,6 +27,7 @@ pub mod age;
 pub mod board;
 pub mod buffer;
 pub mod cutter;
+pub mod dayfile;
 pub mod field;
 pub mod line;
 pub mod print;

@@ -193,7 +193,7 @@ fn answer(line: Option<&[u8]>) -> Result<Message<'_>, (u8, usize)> {
 
 /// Cuts a feed and hands on its lines, at most `limit`; nothing for an overlong one. Gives what
 /// the end of the feed answers, 17 inside a line; which no report shows.
-fn each_line(feed: &[u8], limit: u64, mut hand_on: impl FnMut(Option<&[u8]>)) -> u8 {
+pub fn each_line(feed: &[u8], limit: u64, mut hand_on: impl FnMut(Option<&[u8]>)) -> u8 {
     let mut state = State::at_start();
     let mut rest = feed;
     let mut count: u64 = 0;

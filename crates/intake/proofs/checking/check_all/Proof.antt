@@ -13,7 +13,7 @@ Inv-loop fd name only block₀ held₀ out₀ work₀ on₀ block held out work 
     (Kept only held work) × (on ≡ isOn work) × (length block ≡ length block₀) × (length held ≡ length held₀) × (length out ≡ length out₀)
 
 abbrev μ-loop : tie.MeasureT-loop
-μ-loop fd name only block₀ held₀ out₀ work₀ on₀ block held out work on = stillToCome work
+μ-loop fd name only block₀ held₀ out₀ work₀ on₀ block held out work on = stillToCome (work .input)
 
 pub check-all-spec : {M : Type 1} → statement M
 check-all-spec =
@@ -32,7 +32,7 @@ check-all-spec =
     (λ c κs. search needs)
     (λ c. let b = c .before .before .before .before .before .before .before in
     let l = b .before .before .before .before in
-    less-still (l .before .loop .work) (b .check-block .result) _ (b .check-block .ensures .came) (on-is _ (sym (l .before .loop .inv .1) ∙ l .loop-test .taken) .0))
+    less-still (l .before .loop .work .input) (b .check-block .result .input) _ (b .check-block .ensures .came) (on-is _ (sym (l .before .loop .inv .1) ∙ l .loop-test .taken) .0))
     (λ c. let b = c .before .before .before .before .before .before .before in
     let v = b .before .before .before .before .before .loop .inv in
     let k = b .check-block .kept in

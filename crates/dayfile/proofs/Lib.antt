@@ -1,0 +1,15 @@
+pub mod Bytes
+pub mod Files
+pub mod Walks
+pub mod Opening
+pub mod Numbered
+pub mod Opens
+pub mod Windows
+pub mod Patches
+pub mod KeptCases
+pub mod KeptLines
+pub mod Puts
+pub mod Keeps
+pub mod Theorems
+pub mod Unique
+pub mod Examples

@@ -1,0 +1,7 @@
+pub mod DayFile
+pub mod Opening
+pub mod Keeping
+pub mod Walk
+pub mod Windows
+pub mod Cases
+pub mod Run

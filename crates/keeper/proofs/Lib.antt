@@ -1,0 +1,14 @@
+pub mod Kept
+pub mod Told
+pub mod Steps
+pub mod Parts
+pub mod Ways
+pub mod Blocks
+pub mod Closings
+pub mod Wholes
+pub mod KeepTheorems
+pub mod Sizes
+pub mod Passes
+pub mod Looks
+pub mod ListTheorems
+pub mod Examples

@@ -1,0 +1,3 @@
+pub mod Keep
+pub mod Work
+pub mod Lists

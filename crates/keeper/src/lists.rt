@@ -1,0 +1,311 @@
+// The lines of a day file: first a pass over its windows, lines and index side by side, that judges it as `dayfile::open` would; then, if it opens, a second one
+// that judges again and puts the lines away.
+use crate::shelf;
+use crate::shelf::Shelf;
+use crate::volume;
+use crate::volume::Filled;
+use crate::volume::Volume;
+use dayfile::Contents;
+use dayfile::Opened;
+use dayfile::open_tail;
+use dayfile::version_1;
+use dayfile::walking::Sweep;
+use dayfile::walking::least;
+use dayfile::walking::sweep_on;
+use intake::say;
+use libc::STDOUT_FILENO;
+ghost use mathlib.Core.Path.{_≡_};
+ghost use mathlib.Core.Bool.{true, false};
+ghost use Prim.Native.Nat.{_+_, _*_, _-_, _^_, _≤_, _<_};
+ghost use lib.ListN.{length};
+ghost use Rattle.dayfile.specs.DayFile.{version1};
+ghost use Rattle.dayfile.specs.Opening.{openBy};
+ghost use Rattle.dayfile.specs.Windows.{Wide};
+ghost use Rattle.dayfile.specs.declared.Opened.the-variants.{Day};
+ghost use Rattle.keeper.specs.Lists.{LinesPiece, AfterLines, Puts, ReadFrom, Told, Judged, Passing, unreadOf, Judges, Turns, goesOn, Passed, verdictOf};
+
+// A window of the lines has room for any line; one of the index for so many offsets.
+const LINES: usize = 65536;
+
+const INDEX: usize = 8192;
+
+// What a file answers, where it could be read.
+pub struct Looked {
+    pub opened: Opened,
+    pub read: bool,
+}
+
+// How far a pass came, where its lines were put, and whether each window could be read.
+pub struct Pass {
+    pub sweep: Sweep,
+    pub shelf: Shelf,
+    pub read: bool,
+}
+
+// What the last bytes tell of a file of this size.
+pub(crate) fn open_end(size: usize, end: Filled, tail: &[u8]) -> Opened
+    requires { ⌜ (8 ≤ size) × ReadFrom (size - 8) (now tail) end ⌝ }
+    requires { ⌜ length (now tail) ≡ 8 ⌝ }
+    ensures { λ r. ⌜ r ≡ openBy version1 size (now (tail .entry)) ⌝ }
+{
+    open_tail(version_1(), size, tail)
+}
+
+// What a file's size and its last bytes tell: 20 to 22. The bytes are left in `tail`.
+pub(crate) fn look_at_end(volume: Volume, name: &[u8], tail: &mut [u8]) -> Looked
+    requires { ⌜ volume .size < 2 ^ 63 ⌝ }
+    requires { ⌜ length (now tail) ≡ 8 ⌝ }
+    ensures { λ r. ⌜ (r .read ≡ true → r .opened ≡ openBy version1 (volume .size) (now (tail .exit))) ⌝ }
+{
+    let size = volume::size(volume);
+    if size < 8 {
+        return Looked {
+            opened: Opened::TooShort,
+            read: true,
+        };
+    }
+    let end = volume::fill(volume, name, size - 8, tail);
+    if !volume::is_filled(end) {
+        return Looked {
+            opened: Opened::TooShort,
+            read: false,
+        };
+    }
+    let opened = open_end(size, end, &tail[..]);
+    Looked { opened, read: true }
+}
+
+// A pass that only judges puts nothing away.
+fn put(writes: bool, shelf: Shelf, text: &[u8]) -> Shelf
+    requires { ⌜ (writes ≡ true → LinesPiece (shelf .total) (now text)) ⌝ }
+    ensures { λ r. ⌜ Puts writes shelf (length (now (text .entry))) r ⌝ }
+{
+    if !writes {
+        return shelf;
+    }
+    shelf::put_lines(shelf, b"standard output", text)
+}
+
+// How far two windows that were read bring the pass, and their lines put away.
+pub(crate) fn judge(
+    day: Contents,
+    writes: bool,
+    pass: Pass,
+    shown: Filled,
+    lines: &[u8],
+    beside: Filled,
+    index: &[u8],
+) -> Pass
+    requires { ⌜ Wide day (pass .sweep) (now lines) (now index) ⌝ }
+    requires { ⌜ ReadFrom (pass .sweep .at) (now lines) shown ⌝ }
+    requires { ⌜ ReadFrom (day .start + 4 * pass .sweep .lines) (now index) beside ⌝ }
+    requires { ⌜ (writes ≡ true → AfterLines (pass .shelf .total)) ⌝ }
+    ensures { λ r. ⌜ Judges day writes pass (now (lines .entry)) (now (index .entry)) r ⌝ }
+{
+    let sweep = pass.sweep;
+    let shelf = pass.shelf;
+    let next = sweep_on(day, sweep, lines, index);
+    let used = next.at - sweep.at;
+    let shelf = put(writes, shelf, &lines[..used]);
+    Pass {
+        sweep: next,
+        shelf,
+        read: true,
+    }
+}
+
+// A window could not be read.
+fn unread(pass: Pass) -> Pass
+    ensures { λ r. ⌜ r ≡ unreadOf pass ⌝ }
+{
+    let sweep = pass.sweep;
+    let shelf = pass.shelf;
+    Pass {
+        sweep,
+        shelf,
+        read: false,
+    }
+}
+
+// One window of each, from where the pass stands.
+pub(crate) fn turn(
+    volume: Volume,
+    name: &[u8],
+    day: Contents,
+    writes: bool,
+    pass: Pass,
+    lines: &mut [u8],
+    index: &mut [u8],
+) -> Pass
+    requires { ⌜ Passing (volume .size) day writes pass ⌝ }
+    requires { ⌜ (volume .size < 2 ^ 63) × (pass .shelf .live ≡ true) × (pass .sweep .lines < day .lines) ⌝ }
+    requires { ⌜ (length (now lines) ≡ 65536) × (length (now index) ≡ 8192) ⌝ }
+    ensures { λ r. ⌜ Turns (volume .size) day writes pass (now (lines .exit)) (now (index .exit)) r ⌝ }
+{
+    let sweep = pass.sweep;
+    let n = least(day.start - sweep.at, lines.len());
+    let shown = volume::fill(volume, name, sweep.at, &mut lines[..n]);
+    if !volume::is_filled(shown) {
+        return unread(pass);
+    }
+    let m = least(4 * (day.lines - sweep.lines), index.len());
+    let place = day.start + 4 * sweep.lines;
+    let beside = volume::fill(volume, name, place, &mut index[..m]);
+    if !volume::is_filled(beside) {
+        return unread(pass);
+    }
+    judge(day, writes, pass, shown, &lines[..n], beside, &index[..m])
+}
+
+// Whether a pass that stood at `before` lines has come further, and not to the end.
+fn is_on(day: Contents, before: usize, pass: Pass) -> bool
+    ensures { λ r. ⌜ r ≡ goesOn day before pass ⌝ }
+{
+    if !pass.read {
+        return false;
+    }
+    let shelf = pass.shelf;
+    if !shelf::is_live(shelf) {
+        return false;
+    }
+    let sweep = pass.sweep;
+    if sweep.lines == before {
+        return false;
+    }
+    sweep.lines < day.lines
+}
+
+// All windows, until one brings no line more.
+fn go_on(
+    volume: Volume,
+    name: &[u8],
+    day: Contents,
+    writes: bool,
+    lines: &mut [u8],
+    index: &mut [u8],
+) -> Pass
+    requires { ⌜ volume .size < 2 ^ 63 ⌝ }
+    requires { ⌜ Told (volume .size) (Day day) ⌝ }
+    requires { ⌜ (length (now lines) ≡ 65536) × (length (now index) ≡ 8192) ⌝ }
+    ensures { λ r. ⌜ Passed (volume .size) day writes r ⌝ }
+{
+    let sweep = Sweep { at: 0, lines: 0 };
+    let shelf = shelf::start(STDOUT_FILENO);
+    let mut pass = Pass {
+        sweep,
+        shelf,
+        read: true,
+    };
+    let mut on = day.lines > 0;
+    while on {
+        let sweep = pass.sweep;
+        let before = sweep.lines;
+        pass = turn(volume, name, day, writes, pass, lines, index);
+        on = is_on(day, before, pass);
+    }
+    pass
+}
+
+// The whole file in windows of its own.
+pub(crate) fn go_over(volume: Volume, name: &[u8], day: Contents, writes: bool) -> Pass
+    requires { ⌜ volume .size < 2 ^ 63 ⌝ }
+    requires { ⌜ Told (volume .size) (Day day) ⌝ }
+    ensures { λ r. ⌜ Passed (volume .size) day writes r ⌝ }
+{
+    let mut lines = [0u8; LINES];
+    let mut index = [0u8; INDEX];
+    go_on(volume, name, day, writes, &mut lines, &mut index)
+}
+
+// What a pass that could read all says: 0 or 23.
+fn verdict(day: Contents, pass: Pass) -> Opened
+    ensures { λ r. ⌜ r ≡ verdictOf day pass ⌝ }
+{
+    let sweep = pass.sweep;
+    if sweep.lines != day.lines {
+        return Opened::WrongLines;
+    }
+    if sweep.at != day.start {
+        return Opened::WrongLines;
+    }
+    Opened::Day(day)
+}
+
+// What `dayfile::open` answers to the whole file, by its windows.
+pub(crate) fn look(volume: Volume, name: &[u8]) -> Looked
+    requires { ⌜ volume .size < 2 ^ 63 ⌝ }
+    ensures { λ r. ⌜ (r .read ≡ true → Judged (volume .size) (r .opened)) ⌝ }
+{
+    let mut tail = [0u8; 8];
+    let told = look_at_end(volume, name, &mut tail);
+    if !told.read {
+        return told;
+    }
+    let opened = told.opened;
+    let Opened::Day(day) = opened else {
+        return told;
+    };
+    let pass = go_over(volume, name, day, false);
+    let opened = verdict(day, pass);
+    Looked {
+        opened,
+        read: pass.read,
+    }
+}
+
+// Puts the lines of a file that opens away, each judged again as it is read.
+pub(crate) fn list(volume: Volume, name: &[u8], day: Contents)
+    requires { ⌜ volume .size < 2 ^ 63 ⌝ }
+    requires { ⌜ Judged (volume .size) (Day day) ⌝ }
+{
+    let pass = go_over(volume, name, day, true);
+    if !pass.read {
+        return;
+    }
+    let shelf = pass.shelf;
+    if !shelf::is_live(shelf) {
+        return;
+    }
+    let again = verdict(day, pass);
+    let Opened::Day(_) = again else {
+        return say(name, b"it was changed while it was read");
+    };
+}
+
+// The lines of a file that opens; the number and the sentence of one that does not.
+fn answer(volume: Volume, name: &[u8])
+    requires { ⌜ volume .size < 2 ^ 63 ⌝ }
+{
+    let looked = look(volume, name);
+    if !looked.read {
+        return;
+    }
+    let opened = looked.opened;
+    match opened {
+        Opened::Day(day) => list(volume, name, day),
+        Opened::TooShort => say(name, b"no day file: under eight bytes (answer 20)"),
+        Opened::UnknownVersion => say(name, b"no day file: unknown version (answer 21)"),
+        Opened::WrongLength => say(
+            name,
+            b"no day file: start, index and trailer are not its length (answer 22)",
+        ),
+        Opened::WrongLines => say(
+            name,
+            b"no day file: its bytes are not the lines that its index says (answer 23)",
+        ),
+    }
+}
+
+// Writes the lines of the day file that is named to standard output.
+pub fn run(name: &[u8]) {
+    let fd = os::open_read(name);
+    if fd < 0 {
+        os::fail(name);
+        return;
+    }
+    let volume = volume::measure(fd, name);
+    if volume::is_whole(volume) {
+        answer(volume, name);
+    }
+    libc::close(fd);
+}
