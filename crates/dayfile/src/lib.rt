@@ -159,8 +159,8 @@ pub fn open(file: &[u8]) -> Opened
     open_as(version_1(), file)
 }
 
-// The line with this number, which the file has.
-fn known_line<'a>(file: &'a [u8], day: Contents, number: usize) -> &'a [u8]
+// The line with this number, of a file that was opened and has it: only its offset and its bytes are looked at.
+pub fn known_line<'a>(file: &'a [u8], day: Contents, number: usize) -> &'a [u8]
     requires { ⌜ openOf version1 (now file) ≡ Day day ⌝ }
     requires { ⌜ 0 < number ⌝ }
     requires { ⌜ number ≤ day .lines ⌝ }
