@@ -11,18 +11,29 @@ pub struct Volume {
     whole: bool,
 }
 
-// How long the file is. One that has no places, as a pipe, says so.
+// A file that cannot be read from any place.
+fn unmeasured(fd: i32, name: &[u8]) -> Volume
+    ensures { λ r. ⌜ r .size < 2 ^ 63 ⌝ }
+{
+    os::fail(name);
+    Volume {
+        fd,
+        size: 0,
+        whole: false,
+    }
+}
+
+// How long the file is. One that has no places, as a pipe, or no bytes, as a directory, says so by its first byte.
 pub(crate) fn measure(fd: i32, name: &[u8]) -> Volume
     ensures { λ r. ⌜ r .size < 2 ^ 63 ⌝ }
 {
+    let mut first = [0u8; 1];
+    if libc::pread(fd, &mut first, 0) < 0 {
+        return unmeasured(fd, name);
+    }
     let end = libc::lseek(fd, 0, libc::SEEK_END);
     if end < 0 {
-        os::fail(name);
-        return Volume {
-            fd,
-            size: 0,
-            whole: false,
-        };
+        return unmeasured(fd, name);
     }
     Volume {
         fd,

@@ -10,6 +10,6 @@ pub measure-spec : {M : Type 1} → statement M
 measure-spec =
     tie.close
     (tie.spec
-    (λ c κs. search needs) (λ c κs. search needs) (λ c. search needs)
-    (λ c. let n = not-below (ofZ w64 (c .before .lseek .result)) (c .if1 .left) in (n .positive, n .fits))
-    (λ c. not-below (ofZ w64 (c .before .lseek .result)) (c .if1 .left) .near))
+    (λ c. search needs) (λ c κs. search needs) (λ c κs. search needs) (λ c. search needs) (λ c κs. search needs) (λ c κs. search needs) (λ c. search needs)
+    (λ c. let n = not-below (ofZ w64 (c .before .lseek .result)) (c .if2 .left) in (n .positive, n .fits))
+    (λ c. not-below (ofZ w64 (c .before .lseek .result)) (c .if2 .left) .near))
