@@ -6,7 +6,7 @@ use mathlib.Core.List.{List}
 use mathlib.Core.Logic.{_⊎_}
 use lib.ListN.{length, take, drop}
 use Rattle.shapes.specs.Cut.{has}
-use Rattle.dayfile.specs.DayFile.{trailerSize, linesText, startsFrom, fileOf, eachMayKeep, isRun}
+use Rattle.dayfile.specs.DayFile.{trailerSize, linesText, startsFrom, eachMayKeep}
 use Rattle.dayfile.specs.Opening.{startBy, countBy, versionBy, offsetsIn, tailOf}
 use Rattle.dayfile.specs.declared.Trailer.{Trailer}
 use Rattle.dayfile.specs.declared.Place.{Place}

@@ -1,7 +1,7 @@
 -- What `keep_line` and `end_file` answer, and what they write: document 02's "writing 2, 25, 24, then 15, also for a full run of offsets; ending a file 13
 -- where lines and offsets disagree, 24, 15". Assumes nothing.
 use Prim.Native.Nat.{ℕ, _+_, _-_}
-use mathlib.Core.Bool.{Bool, true, false, cond, _&&_, _||_, not}
+use mathlib.Core.Bool.{Bool, cond, _&&_, _||_, not}
 use mathlib.Core.List.{List, [], _∷_, _++_}
 use lib.Dec.{leb, ltb}
 use lib.ListN.{length, take}
