@@ -2,14 +2,14 @@
 use mathlib.Core.Path.{_≡_, refl, sym, ap, _∙_}
 use mathlib.Core.Bool.{true, _&&_}
 use mathlib.Core.List.{List, [], _∷_, _++_, append-assoc}
-use Prim.Native.Nat.{ℕ, zero, suc, _+_, _*_, _^_, _≤_, _<_}
+use Prim.Native.Nat.{ℕ, zero, suc, _+_, _*_, _/_, _^_, _≤_, _<_}
 use native.Mathlib.Nat.{add-zero}
 use native.Mathlib.Omega.{arith}
 use lib.ListN.{length, take, drop, getD, length-append, take-append-drop}
 use lib.Seq.{take-at, drop-at, split-at, getD-drop, length-take-le}
 use Rattle.text.specs.Place.{value, places, allIn}
 use Rattle.text.proofs.Logic.{and-left, and-right}
-use Rattle.text.proofs.Places.{allIn-cons, value-lt, length-places, places-value, value-places}
+use Rattle.text.proofs.Places.{allIn-cons, value-four, value-lt, length-places, places-value, value-places}
 use Rattle.text.proofs.Parts.{all-append}
 use Rattle.dayfile.specs.DayFile.{indexOf, isBytes}
 use Rattle.dayfile.specs.Opening.{offsetsIn}
@@ -78,14 +78,14 @@ offsets-four (a ∷ (b ∷ (c ∷ []))) s e = absurd (omega arith)
 offsets-four (a ∷ (b ∷ (c ∷ (d ∷ [])))) s e = refl
 offsets-four (a ∷ (b ∷ (c ∷ (d ∷ (f ∷ x))))) s e = absurd (omega arith)
 
-pub length-offsets : (s : List ℕ) (n : ℕ) → length s ≡ 4 * n → length (offsetsIn s) ≡ n
+-- as many numbers as there are whole fours
+pub length-offsets : (s : List ℕ) → length (offsetsIn s) ≡ length s / 4
 unfolding offsetsIn
-length-offsets [] n e = omega arith
-length-offsets (a ∷ []) n e = omega arith
-length-offsets (a ∷ (b ∷ [])) n e = omega arith
-length-offsets (a ∷ (b ∷ (c ∷ []))) n e = omega arith
-length-offsets (a ∷ (b ∷ (c ∷ (d ∷ s)))) zero e = absurd (omega arith)
-length-offsets (a ∷ (b ∷ (c ∷ (d ∷ s)))) (suc n) e = ap suc (length-offsets s n (omega arith))
+length-offsets [] = omega arith
+length-offsets (a ∷ []) = omega arith
+length-offsets (a ∷ (b ∷ [])) = omega arith
+length-offsets (a ∷ (b ∷ (c ∷ []))) = omega arith
+length-offsets (a ∷ (b ∷ (c ∷ (d ∷ s)))) = omega (arith, length-offsets s)
 
 -- whole numbers of an index, and then the others
 pub offsets-append : (x y : List ℕ) (n : ℕ) → length x ≡ 4 * n → offsetsIn (x ++ y) ≡ offsetsIn x ++ offsetsIn y
@@ -134,14 +134,6 @@ fourAt s i = getD s i 0 * 16777216 + getD s (i + 1) 0 * 65536 + getD s (i + 2) 0
 abbrev pub twoAt : List ℕ → ℕ → ℕ
 twoAt s i = getD s i 0 * 256 + getD s (i + 1) 0
 
-four-bytes : (s : List ℕ) → value 256 4 s ≡ fourAt s 0
-unfolding value
-four-bytes [] = refl
-four-bytes (a ∷ []) = omega arith
-four-bytes (a ∷ (b ∷ [])) = omega arith
-four-bytes (a ∷ (b ∷ (c ∷ []))) = omega arith
-four-bytes (a ∷ (b ∷ (c ∷ (d ∷ s)))) = omega arith
-
 two-bytes : (s : List ℕ) → value 256 2 s ≡ twoAt s 0
 unfolding value
 two-bytes [] = refl
@@ -149,7 +141,7 @@ two-bytes (a ∷ []) = omega arith
 two-bytes (a ∷ (b ∷ s)) = omega arith
 
 pub four-at : (s : List ℕ) (i : ℕ) → value 256 4 (drop i s) ≡ fourAt s i
-four-at s i = four-bytes (drop i s) ∙ rw (getD-drop i s 0 0, getD-drop i s 1 0, getD-drop i s 2 0, getD-drop i s 3 0, add-zero)
+four-at s i = value-four (drop i s) ∙ rw (getD-drop i s 0 0, getD-drop i s 1 0, getD-drop i s 2 0, getD-drop i s 3 0, add-zero)
 
 pub two-at : (s : List ℕ) (i : ℕ) → value 256 2 (drop i s) ≡ twoAt s i
 two-at s i = two-bytes (drop i s) ∙ rw (getD-drop i s 0 0, getD-drop i s 1 0, add-zero)

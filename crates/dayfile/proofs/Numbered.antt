@@ -12,7 +12,7 @@ use types.Run.{OneOf, miss}
 use Rattle.text.specs.Place.{value}
 use Rattle.text.proofs.Logic.{and-left, and-right}
 use Rattle.shapes.specs.Picture.{startsAt}
-use Rattle.shapes.proofs.Laws.{part-part}
+use Rattle.shapes.proofs.Laws.{part-part, at-front}
 use Rattle.rules.specs.Frame.{lineFeed}
 use Rattle.dayfile.specs.DayFile.{trailerSize, linesText, startsFrom, mayKeep, eachMayKeep}
 use Rattle.dayfile.specs.Opening.{offsetsIn, openOf, linesBy, linesIn, numbered, placeOf}
@@ -55,7 +55,7 @@ module _ {t : Trailer} {file : List ℕ} {day : Contents} (o : IsOpen t file day
   index-long = length-take-le (4 * day .lines) (drop (day .start) file) (rw length-drop (omega (arith, size)))
 
   how-many : length (lined .run) ≡ day .lines
-  how-many = sym (length-starts 0 (lined .run)) ∙ ap length (sym (lined .starts)) ∙ length-offsets index (day .lines) index-long
+  how-many = omega (arith, length-starts 0 (lined .run), ap length (lined .starts), length-offsets index, index-long)
 
   text-long : length (linesText (lined .run)) ≡ day .start
   text-long = ap length (sym (lined .text)) ∙ length-take-le (day .start) file (omega (arith, size))
@@ -70,15 +70,12 @@ module _ {t : Trailer} {file : List ℕ} {day : Contents} (o : IsOpen t file day
 abbrev AtFront : ℕ × ℕ → List (List ℕ) → ℕ → Type 0
 AtFront p ls n = ([] ≡ numbered ls n) × (p ≡ startsAt p (placeOf ls n))
 
-at-front : (p : ℕ × ℕ) (i : ℕ) → i ≡ 0 → p ≡ startsAt p i
-at-front p i e = let z : p .1 ≡ i + p .1 = omega arith in ap (λ (n : ℕ). (p .0, n)) z
-
 past : (p : ℕ × ℕ) (ls : List (List ℕ)) (n : ℕ) → length ls < n → AtFront p ls n
 unfolding numbered placeOf
 past p ls n h =
     let k : length ls ≤ n - 1 = omega arith in
     let j : length (startsFrom 0 ls) ≤ n - 1 = omega (arith, length-starts 0 ls) in
-    (rw (ne-eqb n 0 (λ z. omega arith), List·getD-eq-default ls [] k), at-front p _ (List·getD-eq-default (startsFrom 0 ls) 0 j))
+    (rw (ne-eqb n 0 (λ z. omega arith), List·getD-eq-default ls [] k), at-front p (sym (List·getD-eq-default (startsFrom 0 ls) 0 j)))
 
 first-start : (ls : List (List ℕ)) → getD (startsFrom 0 ls) 0 0 ≡ 0
 unfolding startsFrom
@@ -87,7 +84,7 @@ first-start (l ∷ ls) = refl
 
 pub number-0 : {p : ℕ × ℕ} (ls : List (List ℕ)) (n : ℕ) → n ≡ 0 → AtFront p ls n
 unfolding numbered placeOf
-number-0 {p = p} ls n e = rw e (refl, at-front p _ (first-start ls))
+number-0 {p = p} ls n e = rw e (refl, at-front p (sym (first-start ls)))
 
 pub past-last : {p : ℕ × ℕ} {t : Trailer} {file : List ℕ} {day : Contents} (o : IsOpen t file day) (n : ℕ) → day .lines < n → AtFront p (linesIn t file) n
 past-last {p = p} o n h = rw (all-lines o) (past p (lined o .run) n (omega (arith, how-many o)))

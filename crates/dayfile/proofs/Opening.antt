@@ -187,7 +187,7 @@ module _ {t : Trailer} {file : List ℕ} {told : Opened} (v : Told t file told) 
     measured = omega arith
 
     lines-long : length (offsetsIn index) ≡ c .lines
-    lines-long = length-offsets index (c .lines) (front-long _ (4 * c .lines) (drop (c .start) file) measured (rw length-drop (omega (arith, day-inside))))
+    lines-long = omega (arith, length-offsets index, front-long _ (4 * c .lines) (drop (c .start) file) measured (rw length-drop (omega (arith, day-inside))))
 
     start-long : length (take (c .start) file) ≡ c .start
     start-long = length-take-le (c .start) file (omega (arith, day-inside))

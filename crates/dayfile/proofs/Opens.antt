@@ -210,7 +210,7 @@ module _ (t : Trailer) (sound : Sound t) (file : List ℕ) (bytes : isBytes file
   before-index = sym (index-offsets before count (bytes-take (4 * count) (drop start file) (bytes-drop start file bytes)) before-length) ∙ ap indexOf (d .lined .starts)
 
   how-many : length ls ≡ count
-  how-many = sym (length-starts 0 ls) ∙ ap length (sym (d .lined .starts)) ∙ length-offsets before count before-length
+  how-many = omega (arith, length-starts 0 ls, ap length (d .lined .starts), length-offsets before, before-length)
 
   rest-trailer : drop (start + 4 * count) file ≡ trailerOf t (length (linesText ls)) (length ls)
   rest-trailer =

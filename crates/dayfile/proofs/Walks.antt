@@ -24,6 +24,7 @@ use Rattle.dayfile.specs.DayFile.{linesText, startsFrom, mayKeep, eachMa
 use Rattle.dayfile.specs.Opening.{offsetsIn, agree}
 use Rattle.dayfile.specs.Walk.{lineSize, Stops, Walks}
 use Rattle.dayfile.specs.declared.walking.Walked.{Walked}
+use Rattle.dayfile.proofs.Bytes.{length-offsets}
 use Rattle.dayfile.proofs.Files.{feed-rest, lines-append, length-starts, starts-append, each-append, each-none, kept-line, line-kept, texts-lines, agree-lines, lines-agree}
 
 -- ---- the size of a line
@@ -145,14 +146,6 @@ module _ {from : ℕ} {s os : List ℕ} {i k : ℕ} (v : Walking from s os i k) 
 
 -- ---- the numbers of an index
 
-length-numbers : (s : List ℕ) → length (offsetsIn s) ≡ length s / 4
-unfolding offsetsIn
-length-numbers [] = omega arith
-length-numbers (a ∷ []) = omega arith
-length-numbers (a ∷ (b ∷ [])) = omega arith
-length-numbers (a ∷ (b ∷ (c ∷ []))) = omega arith
-length-numbers (a ∷ (b ∷ (c ∷ (d ∷ s)))) = omega (arith, length-numbers s)
-
 pub number-at : (s : List ℕ) (k : ℕ) → k < length s / 4 → getD (offsetsIn s) k 0 ≡ value 256 4 (take 4 (drop (4 * k) s))
 unfolding offsetsIn
 number-at [] k h = absurd (omega arith)
@@ -165,7 +158,7 @@ number-at (a ∷ (b ∷ (c ∷ (d ∷ s)))) (suc k) h =
     rw e (number-at s k (omega arith))
 
 pub k-past : (s : List ℕ) (k : ℕ) → length s / 4 ≤ k → length (offsetsIn s) ≤ k
-k-past s k h = omega (arith, length-numbers s)
+k-past s k h = omega (arith, length-offsets s)
 
 -- four bytes of an index, as a walk takes them
 module _ (s : List ℕ) (k : ℕ) (h : k < length s / 4) where
@@ -185,7 +178,7 @@ module _ (s : List ℕ) (k : ℕ) (h : k < length s / 4) where
   four-number n e = e ∙ rw (four-long, is-four) (sym (number-at s k h))
 
   pub k-inside : k < length (offsetsIn s)
-  k-inside = omega (arith, length-numbers s)
+  k-inside = omega (arith, length-offsets s)
 
 -- ---- what a walk tells: it used everything exactly if the bytes are these lines, each beginning at its offset
 

@@ -36,11 +36,14 @@ module _ (x : List ℕ) (m : ℕ) (there : 4 * m ≤ length x) where
   parted : offsetsIn x ≡ offsetsIn (take (4 * m) x) ++ offsetsIn (drop (4 * m) x)
   parted = ap offsetsIn (sym (take-append-drop (4 * m) x)) ∙ offsets-append (take (4 * m) x) (drop (4 * m) x) m front
 
+  front-many : length (offsetsIn (take (4 * m) x)) ≡ m
+  front-many = omega (arith, length-offsets (take (4 * m) x), front)
+
   pub offsets-take : take m (offsetsIn x) ≡ offsetsIn (take (4 * m) x)
-  offsets-take = ap (take m) parted ∙ take-at (offsetsIn (take (4 * m) x)) (offsetsIn (drop (4 * m) x)) m (length-offsets (take (4 * m) x) m front)
+  offsets-take = ap (take m) parted ∙ take-at (offsetsIn (take (4 * m) x)) (offsetsIn (drop (4 * m) x)) m front-many
 
   pub offsets-drop : drop m (offsetsIn x) ≡ offsetsIn (drop (4 * m) x)
-  offsets-drop = ap (drop m) parted ∙ drop-at (offsetsIn (take (4 * m) x)) (offsetsIn (drop (4 * m) x)) m (length-offsets (take (4 * m) x) m front)
+  offsets-drop = ap (drop m) parted ∙ drop-at (offsetsIn (take (4 * m) x)) (offsetsIn (drop (4 * m) x)) m front-many
 
 -- ---- what the last bytes tell measures the file
 
@@ -55,7 +58,7 @@ module _ (t : Trailer) (file : List ℕ) (c : Contents) (told : openBy t (length
   index-size = length-take-le (4 * c .lines) (drop (c .start) file) (omega (arith, file-size, length-drop (c .start) file))
 
   offsets-size : length (offsetsIn (indexPart c file)) ≡ c .lines
-  offsets-size = length-offsets (indexPart c file) (c .lines) index-size
+  offsets-size = omega (arith, length-offsets (indexPart c file), index-size)
 
   -- the first so many offsets stand in the first bytes of the index
   pub first-offsets : (m : ℕ) → m ≤ c .lines → take m (offsetsIn (indexPart c file)) ≡ offsetsIn (take (4 * m) (drop (c .start) file))
@@ -139,7 +142,7 @@ module _ (c : Contents) (w : Sweep) (s index : List ℕ) (wide : Wide c w s inde
   w′ = record { at = w .at + r .used; lines = w .lines + r .lines }
 
   in-window : length (offsetsIn index) ≡ wide .offsets
-  in-window = length-offsets index (wide .offsets) (wide .whole)
+  in-window = omega (arith, length-offsets index, wide .whole)
 
   -- any file that shows them
   module _ (t : Trailer) (file : List ℕ) (v : Swept t file c w) (shown : Shows file (w .at) s) (beside : Shows file (c .start + 4 * w .lines) index) where

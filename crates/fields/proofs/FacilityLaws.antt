@@ -3,10 +3,10 @@ use mathlib.Core.Path.{_≡_, refl, ap, _∙_}
 use mathlib.Core.Bool.{Bool, true, false, _&&_, _||_}
 use mathlib.Core.List.{List, [], _∷_}
 use Prim.Native.Char.{code}
-use Prim.Native.Nat.{ℕ, _+_, _*_, _/_, _%_, _^_, _≤_, _<_, zero-le}
+use Prim.Native.Nat.{ℕ, _/_, _%_, _^_, _≤_, _<_, zero-le}
 use native.Mathlib.Omega.{arith}
 use lib.Dec.{leb, ltb, eqb, lit≤}
-use lib.ListN.{length, getD}
+use lib.ListN.{length}
 use borrow.Author.Tests.{lt-ltb, ltb-true, leb-true, eqb-true}
 use Rattle.text.specs.Bytes.{bytes}
 use Rattle.text.specs.Class.{all, isDigit, isLetter, isAlnum}
@@ -62,16 +62,7 @@ facility-length s = each s (λ p l h e. fits-length p s e ∙ l)
 facility-bytes : (s : List ℕ) → isFacility s ≡ true → allIn 0 255 s ≡ true
 facility-bytes s = each s (λ p l h e. fits-small p s h e)
 
--- ---- four bytes and their number
-
-pub value-four : (s : List ℕ) → length s ≡ 4 → value 256 4 s ≡ getD s 0 0 * 16777216 + getD s 1 0 * 65536 + getD s 2 0 * 256 + getD s 3 0
-unfolding value
-value-four [] e = absurd (omega arith)
-value-four (a ∷ []) e = absurd (omega arith)
-value-four (a ∷ b ∷ []) e = absurd (omega arith)
-value-four (a ∷ b ∷ c ∷ []) e = absurd (omega arith)
-value-four (a ∷ b ∷ c ∷ d ∷ []) e = omega arith
-value-four (a ∷ b ∷ c ∷ d ∷ x ∷ s) e = absurd (omega arith)
+-- ---- the four bytes of a number
 
 pub places-four : (n : ℕ) → n < 256 ^ 4 → n / 16777216 % 256 ∷ n / 65536 % 256 ∷ n / 256 % 256 ∷ n % 256 ∷ [] ≡ facilityText n
 unfolding facilityText places

@@ -6,6 +6,7 @@ use mathlib.Core.List.{List, [], _∷_, _++_}
 use Prim.Native.Nat.{ℕ}
 use native.Mathlib.Omega.{arith}
 use lib.ListN.{length, take, drop}
+use lib.IntN.{pos}
 use denote.Ref.{now}
 use Rattle.text.specs.Bytes.{bytes}
 use Rattle.text.proofs.Logic.{not-holds, true-false}
@@ -81,12 +82,32 @@ live-and-nothing-came κs a r s p l e = omega (arith, p .some l .0, e)
 pub more-than-the-block : (κs : _) (a : _) (r : _) (s : _) → next.Post κs a r s → length (now (s .1 .1 .0)) ≡ 4 → a .0 .total ≡ 10 → r .total ≡ 15 → ⊥
 more-than-the-block κs a r s p h e f = omega (arith, p .most, h, e, f)
 
+-- one that failed brought nothing more, and the descriptor stays
+pub failed-and-live : (κs : _) (a : _) (r : _) (s : _) → next.Post κs a r s → r .failed ≡ true → r .live ≡ true → ⊥
+failed-and-live κs a r s p f l = true-false l (p .ends f)
+
+pub failed-with-bytes : (κs : _) (a : _) (r : _) (s : _) → next.Post κs a r s → r .failed ≡ true → r .total ≡ a .0 .total
+failed-with-bytes κs a r s p f = p .none (p .ends f)
+
+pub reads-another-descriptor : (κs : _) (a : _) (r : _) (s : _) → next.Post κs a r s → a .0 .fd ≡ pos 3 → r .fd ≡ pos 3
+reads-another-descriptor κs a r s p e = p .same ∙ e
+
+-- a block of one byte after as many bytes as a number holds is not read into
+pub fails-unread : (κs : _) (a : _) (r : _) (s : _) → next.Post κs a r s → length (now (s .1 .1 .0)) ≡ 1 → a .0 .total ≡ 18446744073709551615 → r .failed ≡ false
+fails-unread κs a r s p h e = p .unread (omega (arith, h, e)) .1
+
 -- a feed begins with no byte, and may bring some
 pub starts-with-a-byte : (κs : _) (a : _) (r : _) (s : _) → start.Post κs a r s → r .total ≡ 1 → ⊥
 starts-with-a-byte κs a r s p e = omega (arith, p .0, e)
 
 pub ended-at-its-start : (κs : _) (a : _) (r : _) (s : _) → start.Post κs a r s → r .live ≡ false → ⊥
 ended-at-its-start κs a r s p e = true-false (p .1) e
+
+pub failed-at-its-start : (κs : _) (a : _) (r : _) (s : _) → start.Post κs a r s → r .failed ≡ true → ⊥
+failed-at-its-start κs a r s p e = true-false e (p .2)
+
+pub starts-another-descriptor : (κs : _) (a : _) (r : _) (s : _) → start.Post κs a r s → a .0 ≡ pos 3 → r .fd ≡ pos 3
+starts-another-descriptor κs a r s p e = p .3 ∙ e
 
 -- what is told of a feed is what it holds
 pub another-total : (κs : _) (a : _) (r : _) (s : _) → total.Post κs a r s → a .0 .total ≡ 7 → r ≡ 7

@@ -1,12 +1,16 @@
 -- Two answers that a promise allows are equal. What the reads hand over is not the caller's to say, so two reports are equal where the same
--- bytes came; and of `input::next` there is no such law, since what a read brings is the system's to say. Assumes nothing.
+-- bytes came, and two answers of `input::next` where as many came and both reads failed, or neither. Assumes nothing.
 use mathlib.Core.Path.{_≡_, sym, ap, _∙_}
+use mathlib.Core.Bool.{true}
+use native.Mathlib.Omega.{arith}
 use lib.ListN.{length, take}
 use denote.Ref.{now}
 use Rattle.text.specs.Text.{spliced}
-use Rattle.text.proofs.Logic.{same-test}
+use Rattle.text.proofs.Logic.{same-test, not-fails}
+use Rattle.intake.specs.declared.input.Input.{Input}
 use Rattle.intake.proofs.input.is_barren.Reads as is-barren
 use Rattle.intake.proofs.input.is_live.Reads as is-live
+use Rattle.intake.proofs.input.next.Reads as next
 use Rattle.intake.proofs.input.start.Reads as start
 use Rattle.intake.proofs.input.total.Reads as total
 use Rattle.intake.proofs.is_torn.Reads as is-torn
@@ -28,9 +32,17 @@ is-help-one κs a r r′ s s′ p q = same-test r r′ (λ e. q .1 (p .0 e)) (λ
 pub is-option-one : (κs : _) (a : _) (r r′ : _) (s s′ : _) → is-option.Post κs a r s → is-option.Post κs a r′ s′ → r ≡ r′
 is-option-one κs a r r′ s s′ p q = p ∙ sym q
 
--- but for the descriptor and whether a read failed, which no promise speaks of
-pub start-one : (κs : _) (a : _) (r r′ : _) (s s′ : _) → start.Post κs a r s → start.Post κs a r′ s′ → (r .total ≡ r′ .total) × (r .live ≡ r′ .live)
-start-one κs a r r′ s s′ p q = (p .0 ∙ sym (q .0), p .1 ∙ sym (q .1))
+same-input : (i j : Input) → i .total ≡ j .total → i .live ≡ j .live → i .failed ≡ j .failed → i .fd ≡ j .fd → i ≡ j
+same-input i j e f g h = let z : record { fd = i .fd; total = i .total; live = i .live; failed = i .failed } ≡ j = rw (e, f, g, h) in z
+
+pub start-one : (κs : _) (a : _) (r r′ : _) (s s′ : _) → start.Post κs a r s → start.Post κs a r′ s′ → r ≡ r′
+start-one κs a r r′ s s′ p q = same-input r r′ (p .0 ∙ sym (q .0)) (p .1 ∙ sym (q .1)) (p .2 ∙ sym (q .2)) (p .3 ∙ sym (q .3))
+
+pub next-one : (κs : _) (a : _) (r r′ : _) (s s′ : _) → next.Post κs a r s → next.Post κs a r′ s′ → r .total ≡ r′ .total → r .failed ≡ r′ .failed → r ≡ r′
+next-one κs a r r′ s s′ p q e f =
+    let there : r .live ≡ true → r′ .live ≡ true = λ t. not-fails (r′ .live) (λ z. omega (arith, p .some t .0, q .none z, e)) in
+    let back : r′ .live ≡ true → r .live ≡ true = λ t. not-fails (r .live) (λ z. omega (arith, q .some t .0, p .none z, e)) in
+    same-input r r′ e (same-test (r .live) (r′ .live) there back) f (p .same ∙ sym (q .same))
 
 pub total-one : (κs : _) (a : _) (r r′ : _) (s s′ : _) → total.Post κs a r s → total.Post κs a r′ s′ → r ≡ r′
 total-one κs a r r′ s s′ p q = p ∙ sym q

@@ -17,7 +17,7 @@ pub struct Input {
 
 // What the descriptor gives, from the first read on.
 pub fn start(fd: i32) -> Input
-    ensures { λ r. ⌜ (r .total ≡ 0) × (r .live ≡ true) ⌝ }
+    ensures { λ r. ⌜ (r .total ≡ 0) × (r .live ≡ true) × (r .failed ≡ false) × (r .fd ≡ fd) ⌝ }
 {
     Input {
         fd,
@@ -29,7 +29,7 @@ pub fn start(fd: i32) -> Input
 
 // No more comes: the end, a read that failed, or a number of bytes that no feed has.
 fn closed(input: Input, failed: bool) -> Input
-    ensures { λ r. ⌜ (r .total ≡ input .total) × (r .live ≡ false) ⌝ }
+    ensures { λ r. ⌜ (r .total ≡ input .total) × (r .live ≡ false) × (r .failed ≡ failed) × (r .fd ≡ input .fd) ⌝ }
 {
     Input {
         fd: input.fd,

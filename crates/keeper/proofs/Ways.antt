@@ -1,9 +1,10 @@
--- What each way through `count_line`, `take_up`, `is_on` and `put_part` gives is what its definition says. Assumes nothing.
+-- What each way through `count_line`, `take_up`, `is_long`, `is_on` and `put_part` gives is what its definition says. Assumes nothing.
 use mathlib.Core.Path.{_≡_, refl, sym, ap, _∙_}
 use mathlib.Core.Bool.{true, false, not}
 use mathlib.Core.List.{List, [], _∷_, _++_}
 use Prim.Native.Nat.{ℕ, _+_, _≤_}
 use native.Mathlib.Omega.{arith}
+use lib.Dec.{eqb}
 use lib.ListN.{length, take, length-append}
 use denote.Enum.Declared.{tagOf}
 use types.Run.{OneOf, miss}
@@ -11,6 +12,7 @@ use Rattle.text.specs.Text.{spliced, writtenBytes}
 use Rattle.text.proofs.Laws.{has-room}
 use Rattle.text.proofs.Splice.{length-spliced, take-spliced}
 use Rattle.cutter.specs.Feed.{Whole, TooLong}
+use Rattle.cutter.specs.Calls.{cutNumber}
 use Rattle.cutter.specs.Cases.{toldBy}
 use Rattle.cutter.specs.declared.CutAnswer.{CutAnswer}
 use Rattle.cutter.specs.declared.CutAnswer.the-variants as cut
@@ -75,6 +77,20 @@ module _ (base : ℕ) (answer : CutAnswer) (l out offsets : List ℕ) (k : Keep)
   pub takes-none : OneOf (0 ∷ 4 ∷ []) (tagOf cut-answer.the-type answer) → TakesUp base (toldBy answer l) out offsets k out offsets k
   unfolding toldLeft
   takes-none h = rw (told-none answer l h)
+
+-- ---- `is_long`
+
+pub long-is : (a : CutAnswer) → a ≡ cut.TooLong → true ≡ eqb (cutNumber a) 2
+unfolding cutNumber
+long-is a e = rw e
+
+pub long-not : (a : CutAnswer) → OneOf (0 ∷ 1 ∷ 2 ∷ 4 ∷ []) (tagOf cut-answer.the-type a) → false ≡ eqb (cutNumber a) 2
+unfolding cutNumber
+long-not cut.Taken h = refl
+long-not (cut.InBuffer n) h = refl
+long-not (cut.InPart n) h = refl
+long-not cut.TooLong h = absurd (miss (0 ∷ 1 ∷ 2 ∷ 4 ∷ []) 3 tt h)
+long-not cut.NotAllowed h = refl
 
 -- ---- `is_on`
 

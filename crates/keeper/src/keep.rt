@@ -20,8 +20,10 @@ use rules::LONGEST_LINE;
 ghost use mathlib.Core.Path.{_≡_};
 ghost use mathlib.Core.Bool.{true, false};
 ghost use Prim.Native.Nat.{_+_, _-_, _≤_, _<_, _^_};
+ghost use lib.Dec.{eqb};
 ghost use lib.ListN.{length};
 ghost use Rattle.rules.specs.Frame.{longestLine};
+ghost use Rattle.cutter.specs.Calls.{cutNumber};
 ghost use Rattle.cutter.specs.Cases.{toldBy};
 ghost use Rattle.keeper.specs.Keep.{countedLine, TakesUp, Roomy, GoesOn, Steps};
 ghost use Rattle.keeper.specs.Work.{isOn, IsStored, Works, Whole, Led, Closes, Done};
@@ -113,8 +115,10 @@ fn take_up(
     }
 }
 
-// Whether a cut told of an overlong line.
-fn is_long(answer: CutAnswer) -> bool {
+// Whether a cut told of an overlong line, its answer being 2.
+fn is_long(answer: CutAnswer) -> bool
+    ensures { λ r. ⌜ r ≡ eqb (cutNumber answer) 2 ⌝ }
+{
     match answer {
         CutAnswer::TooLong => true,
         _ => false,

@@ -13,7 +13,7 @@ use lib.Seq.{take-all, take-take, drop-cons, drop-drop}
 use borrow.Author.Tests.{lt-ltb, le-ltb, eq-eqb, ne-eqb, eqb-true, leb-true}
 use Rattle.text.specs.Class.{all}
 use Rattle.text.proofs.Logic.{and-left, and-right, true-false, not-holds}
-use Rattle.shapes.specs.Picture.{isOf, fits, run, part}
+use Rattle.shapes.specs.Picture.{isOf, fits, run, part, startsAt}
 use Rattle.shapes.specs.Cut.{upTo, has, before, after, joins}
 
 -- the part `&s[a..]` is what is left
@@ -33,6 +33,10 @@ front-part (suc m) (suc i) k (b ∷ s) h = front-part m i k s (omega arith)
 
 pub part-part : (j m i k : ℕ) (s : List ℕ) → i + k ≤ m → part i k (part j m s) ≡ part (j + i) k s
 part-part j m i k s h = front-part m i k (drop j s) h ∙ rw drop-drop
+
+-- an empty part at the front of a text lies where the text does
+pub at-front : (s : ℕ × ℕ) {i : ℕ} → 0 ≡ i → s ≡ startsAt s i
+at-front s {i} e = let z : s .1 ≡ i + s .1 = omega arith in ap (λ (n : ℕ). (s .0, n)) z
 
 -- ---- the place of a byte
 

@@ -1,6 +1,6 @@
 -- The ways of the functions that read a body by its kinds: a walk from field to field, one field that is read or at fault, the
 -- values in their nineteen places, the refusals, and the route. Assumes nothing.
-use mathlib.Core.Path.{_≡_, refl, sym, ap, _∙_}
+use mathlib.Core.Path.{_≡_, refl, sym, _∙_}
 use mathlib.Core.Bool.{Bool, true}
 use mathlib.Core.List.{List, [], _∷_}
 use mathlib.Core.Logic.{⊎-elim}
@@ -23,7 +23,6 @@ use Rattle.table.specs.declared.kinds.FieldRead.{FieldRead}
 use Rattle.table.specs.declared.kinds.FieldRead.the-variants as field
 use Rattle.table.proofs.kinds.FieldRead.{the-type}
 use Rattle.table.specs.Read.{none, padded, more, valuesFrom, faultAt, orElse, answerFrom, counted, answers, values, answerOf, valuesOf, Ready, routeIn, routeOf, routeFrom, routeAt}
-use Rattle.shapes.specs.Picture.{startsAt}
 use Rattle.table.specs.declared.walk.Answer.{Answer}
 use Rattle.table.specs.declared.walk.Answer.the-variants.{Taken, Refused}
 use Rattle.table.specs.declared.walk.Fault.the-variants.{Spacing}
@@ -189,7 +188,3 @@ route-wrong ks body e = rw (count-wrong body e, route-no-fields)
 pub start-wrong : (ks body : List ℕ) → countOf body ≡ counting.Wrong → 0 ≡ routeAt ks body
 unfolding routeAt
 start-wrong ks body e = rw (count-wrong body e, start-no-fields)
-
--- an empty part at the front of a text lies where the text does
-pub at-front : (s : ℕ × ℕ) {i : ℕ} → 0 ≡ i → s ≡ startsAt s i
-at-front s {i} e = let z : s .1 ≡ i + s .1 = omega arith in ap (λ (n : ℕ). (s .0, n)) z

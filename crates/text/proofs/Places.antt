@@ -7,7 +7,7 @@ use native.Mathlib.Nat.{pow-zero, pow-suc, pow-succ', mod-eq-of-lt, one-mul, div
 use native.Mathlib.Omega.{arith}
 use lib.Arith.{mod-mul, digits-lt, digits-div, digits-mod}
 use lib.Dec.{leb, eqb}
-use lib.ListN.{length}
+use lib.ListN.{length, getD}
 use borrow.Author.Tests.{le-leb, ne-eqb, leb-true, eqb-true}
 use Rattle.text.specs.Class.{all}
 use Rattle.text.specs.Place.{value, places, digits, tight, allIn}
@@ -60,6 +60,15 @@ value-none B (suc w) = refl
 pub value-suc : (B w d : ℕ) (ds : List ℕ) → value B (suc w) (d ∷ ds) ≡ d * B ^ w + value B w ds
 unfolding value
 value-suc B w d ds = refl
+
+-- four bytes, high byte first; one that is not there counts as 0
+pub value-four : (s : List ℕ) → value 256 4 s ≡ getD s 0 0 * 16777216 + getD s 1 0 * 65536 + getD s 2 0 * 256 + getD s 3 0
+unfolding value
+value-four [] = refl
+value-four (a ∷ []) = omega arith
+value-four (a ∷ (b ∷ [])) = omega arith
+value-four (a ∷ (b ∷ (c ∷ []))) = omega arith
+value-four (a ∷ (b ∷ (c ∷ (d ∷ s)))) = omega arith
 
 module _ (B hi : ℕ) (hB : hi < B) where
   pub pow-pos : (w : ℕ) → 0 < B ^ w

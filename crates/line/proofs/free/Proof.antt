@@ -3,12 +3,11 @@ use mathlib.Core.Path.{_≡_, sym, ap, _∙_}
 use Prim.Native.Nat.{_+_}
 use denote.Ref.{now}
 use Rattle.text.proofs.Logic.{so, not-so}
-use Rattle.shapes.proofs.Laws.{rest-all}
+use Rattle.shapes.proofs.Laws.{rest-all, at-front}
 use Rattle.fields.specs.MessageType.{typeOf}
 use Rattle.fields.specs.declared.heads.TypeRead.the-variants as type
 use Rattle.table.specs.Table.{routeBy, routeAtBy}
 use Rattle.shapes.specs.Picture.{startsAt}
-use Rattle.table.proofs.WalkWays.{at-front}
 use Rattle.line.proofs.Ways.{free-short, free-none, free-whole, free-route, part-of-part}
 use borrow.Author.Needs.{needs}
 use Rattle.line.proofs.free.Statement.{statement}

@@ -8,14 +8,14 @@ use lib.ListN.{length, take, drop, getD, drop-of-length-le, length-drop}
 use lib.Seq.{length-take-le}
 use borrow.Author.Needs.{needs}
 use denote.Ref.{now}
-use Rattle.shapes.proofs.Laws.{next-byte}
+use Rattle.shapes.proofs.Laws.{next-byte, at-front}
 use Rattle.table.specs.Spacing.{countOf, endOf}
 use Rattle.table.specs.declared.spacing.Counted.the-variants as counting
 use Rattle.table.proofs.SpacingLaws.{end-from, end-le, count-known}
 use Rattle.table.specs.Field.{ROUTE, plain, traceOf}
 use Rattle.table.specs.Read.{routeIn, routeOf, routeFrom, routeAt}
 use Rattle.shapes.specs.Picture.{startsAt}
-use Rattle.table.proofs.WalkWays.{fieldsOn, At, at-start, fields, goes, inside, at-next, route-no-kinds, route-no-fields, route-here, route-later, route-wrong, start-no-kinds, start-no-fields, start-here, start-later, start-wrong, at-front}
+use Rattle.table.proofs.WalkWays.{fieldsOn, At, at-start, fields, goes, inside, at-next, route-no-kinds, route-no-fields, route-here, route-later, route-wrong, start-no-kinds, start-no-fields, start-here, start-later, start-wrong}
 use Rattle.table.proofs.walk.route.Statement.{statement}
 use Rattle.table.proofs.walk.route.Tie as tie
 

@@ -1,8 +1,9 @@
 -- `fields::heads::Facility::read` meets its contract. Assumes nothing.
 use native.Mathlib.Omega.{arith}
 use Rattle.text.proofs.Logic.{so, not-so}
+use Rattle.text.proofs.Places.{value-four}
 use Rattle.fields.specs.Facility.{facilityOf}
-use Rattle.fields.proofs.FacilityLaws.{facility-length, value-four}
+use Rattle.fields.proofs.FacilityLaws.{facility-length}
 use borrow.Author.Needs.{needs}
 use Rattle.fields.proofs.heads.Facility.read.Statement.{statement}
 use Rattle.fields.proofs.heads.Facility.read.Tie as tie
@@ -23,4 +24,4 @@ read-spec =
     (λ c κs. search needs)
     (λ c.
     let e = so (c .before .before .before .before .before .before .is-facility .ensures) (c .before .before .before .before .before .if1 .left) in
-    rw (e, value-four _ (facility-length _ e), c .joined .ensures)))
+    rw (e, value-four, c .joined .ensures)))
