@@ -92,6 +92,19 @@ module _ (s : List ℕ) where
       go true q false r = not-plain (rw (q, r, and-false))
       go true q true r = not-prefixed (blocked (not-holds (isPairForm MODEL LETTER (after slash s)) (λ e. omega (arith, tail-least (after slash s) e, letter-size (after slash s) r))))
 
+-- THE THEOREM (document 02, request h): no text has two different readings as an aircraft, over all ways of cutting it. Prefix, type and letter are
+-- the same in any two
+pub one-reading : (s : List ℕ) (a b : Aircraft) → Reading s a → Reading s b → (a .prefix ≡ b .prefix) × (a .model ≡ b .model) × (a .letter ≡ b .letter)
+one-reading s a b p q = go (aircraftOf s) refl
+  where
+    same : a ≡ b → (a .prefix ≡ b .prefix) × (a .model ≡ b .model) × (a .letter ≡ b .letter)
+    same e = (ap (λ (x : Aircraft). x .prefix) e, ap (λ (x : Aircraft). x .model) e, ap (λ (x : Aircraft). x .letter) e)
+
+    go : (r : AircraftRead) → aircraftOf s ≡ r → (a .prefix ≡ b .prefix) × (a .model ≡ b .model) × (a .letter ≡ b .letter)
+    go (Read c) e = let o = aircraft-one s c e .1 in same (o a p ∙ sym (o b q))
+    go Nothing e = absurd (aircraft-none s e a p)
+    go Two e = absurd (never-two s e)
+
 -- the text of every aircraft reads as it
 pub aircraft-complete : (a : Aircraft) → isAircraftValue a ≡ true → aircraftOf (aircraftText a) ≡ Read a
 aircraft-complete a e = go (aircraftOf (aircraftText a)) refl
