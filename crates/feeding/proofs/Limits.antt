@@ -12,7 +12,7 @@ use borrow.Author.Tests.{leb-true, leb-false}
 use Rattle.rules.specs.Frame.{longestLine}
 use Rattle.cutter.specs.Feed.{Whole, TooLong, lineOf}
 use Rattle.line.specs.Read.{readOf, lineNumber}
-use Rattle.line.specs.Cases.{Case, Taken, Short, Long, Unprintable, NoSequence, NoStamp, NoFacility, NoType, Spacing, Field, Number, LongPlan, Two}
+use Rattle.line.specs.Cases.{Case, Taken, Short, Long, Unprintable, NoSequence, NoStamp, NoFacility, NoType, Spacing, Field, Number, LongPlan}
 use Rattle.line.specs.declared.LineRead.the-variants as read
 use Rattle.line.specs.declared.Refusal.the-variants as refusal
 use Rattle.line.proofs.Cases.{case-of, case-only}
@@ -35,7 +35,6 @@ two-long s (Spacing t k l h d) e = absurd (omega arith)
 two-long s (Field t i k l f) e = absurd (omega arith)
 two-long s (Number t i k l f) e = absurd (omega arith)
 two-long s (LongPlan k h) e = absurd (omega arith)
-two-long s (Two t i k l f) e = absurd (omega arith)
 
 -- THE CUTTER SAYS "overlong" exactly where the reader says 2
 pub overlong-exactly : (s : List ℕ) → (lineOf s ≡ TooLong) ↔ (lineNumber (readOf s) ≡ 2)

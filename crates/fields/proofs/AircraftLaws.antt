@@ -1,4 +1,4 @@
--- THE LAWS of aircraft: the reader finds exactly the readings, and the ways of the functions. Assumes nothing.
+-- The ways of the functions of `aircraft`. Assumes nothing.
 use mathlib.Core.Path.{_≡_, refl, sym, ap, _∙_}
 use mathlib.Core.Bool.{Bool, true, false, _||_}
 use mathlib.Core.List.{List}
@@ -20,9 +20,9 @@ use Rattle.fields.specs.Word.{wordOf, isWord}
 use Rattle.fields.specs.Pair.{slash, pairOf, pairText, isPair, pairWord, isPairText}
 use Rattle.fields.proofs.WordLaws.{word-known, read-refused, word-packed, word-form}
 use Rattle.fields.proofs.PairLaws.{pair-writes, pair-too-long}
-use Rattle.fields.specs.Aircraft.{aircraftText, isAircraftValue, withPrefix, prefixedOf, aircraftWord}
+use Rattle.fields.specs.Aircraft.{aircraftText, isAircraftValue, withPrefix, plainOf, prefixedOf, aircraftOf, aircraftWord}
 use Rattle.fields.specs.declared.aircraft.Aircraft.{Aircraft}
-use Rattle.fields.specs.declared.aircraft.AircraftRead.the-variants.{Nothing}
+use Rattle.fields.specs.declared.aircraft.AircraftRead.the-variants.{Read, Nothing}
 use Rattle.fields.proofs.Slashes.{prefix-short, tail-short}
 
 -- ---- the ways of `read_prefixed`
@@ -42,6 +42,17 @@ module _ (s : List ℕ) (i : ℕ) (at : i ≡ upTo slash s) where
     with-prefix e =
         let w = word-known PREFIX (take i s) e in
         rw (is-cut slash s i at cut, cut-before slash s i at cut, cut-after slash s i at cut, w .0, w .1)
+
+-- ---- the ways of `read`
+
+module _ (s : List ℕ) where
+  pub without : {a : Aircraft} → plainOf s ≡ Read a → Read a ≡ aircraftOf s
+  unfolding aircraftOf
+  without e = rw e
+
+  pub with-one : plainOf s ≡ Nothing → prefixedOf s ≡ aircraftOf s
+  unfolding aircraftOf
+  with-one e = rw e
 
 -- ---- writing
 

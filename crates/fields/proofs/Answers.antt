@@ -9,7 +9,7 @@ use lib.Dec.{eqb}
 use Rattle.text.specs.Text.{hasRoom, writtenNext}
 use Rattle.rules.specs.Form.{isSequence, isStamp, isIdent, isTzIdent, isFacility}
 use Rattle.rules.specs.Kind.{SEQUENCE, STAMP, isForm}
-use Rattle.fields.specs.Aircraft.{Case, One, None, Different, aircraftOf, aircraftAnswer}
+use Rattle.fields.specs.Aircraft.{Case, One, None, aircraftOf, aircraftAnswer}
 use Rattle.fields.specs.Answer.{refusal, readAnswer, pairAnswer, writeAnswer}
 use Rattle.fields.specs.Facility.{facilityOf, facilityAnswer}
 use Rattle.fields.specs.Ident.{identFrom, identOf, tzIdentOf, identAnswer}
@@ -17,12 +17,12 @@ use Rattle.fields.specs.MessageType.{typeText, typeOf, typeAnswer}
 use Rattle.fields.specs.Pair.{isPairForm, pairOf}
 use Rattle.fields.specs.Word.{wordOf}
 use Rattle.fields.specs.declared.aircraft.AircraftRead.{AircraftRead}
-use Rattle.fields.specs.declared.aircraft.AircraftRead.the-variants.{Read as aircraft-Read, Nothing as aircraft-Nothing, Two}
+use Rattle.fields.specs.declared.aircraft.AircraftRead.the-variants.{Read as aircraft-Read, Nothing as aircraft-Nothing}
 use Rattle.fields.specs.declared.heads.MessageType.{MessageType}
 use Rattle.fields.specs.declared.heads.TypeRead.{TypeRead}
 use Rattle.fields.specs.declared.heads.TypeRead.the-variants.{Read as head-Read, Nothing as head-Nothing}
 use Rattle.fields.specs.declared.idents.IdentRead.the-variants.{Read, Nothing}
-use Rattle.fields.proofs.AircraftReadings.{aircraft-one, aircraft-none, aircraft-two}
+use Rattle.fields.proofs.Single.{aircraft-one, aircraft-none}
 use Rattle.fields.proofs.TypeLaws.{type-sound, type-complete}
 
 -- ---- fields held as their text
@@ -89,7 +89,6 @@ aircraft-answer s = go (aircraftOf s) refl
     go : (r : AircraftRead) → aircraftOf s ≡ r → Case s (aircraftAnswer r)
     go (aircraft-Read a) q = let p = aircraft-one s a q in One a (p .0) (p .1)
     go aircraft-Nothing q = None (aircraft-none s q)
-    go Two q = let p = aircraft-two s q in Different (p .0) (p .1) (p .2 .0) (p .2 .1) (p .2 .2)
 
 -- ---- facility and type
 

@@ -16,7 +16,7 @@ use Rattle.fields.specs.declared.words.Pair.{Pair}
 use Rattle.fields.specs.declared.words.Pair.the-variants as pair
 use Rattle.fields.specs.declared.aircraft.Aircraft.{Aircraft}
 use Rattle.fields.specs.declared.aircraft.AircraftRead.{AircraftRead}
-use Rattle.fields.specs.declared.aircraft.AircraftRead.the-variants.{Read, Nothing, Two}
+use Rattle.fields.specs.declared.aircraft.AircraftRead.the-variants.{Read, Nothing}
 
 -- ---- the rule
 
@@ -28,18 +28,17 @@ aircraftText a = cond (eqb (a .prefix) 0) (pairText (a .model) (a .letter)) (sla
 unfoldable pub isAircraftValue : Aircraft → Bool
 isAircraftValue a = isPair MODEL LETTER (a .model) (a .letter) && (eqb (a .prefix) 0 || isWord PREFIX (a .prefix))
 
--- a is a reading of s
+-- a is a reading of s, one way of cutting it into prefix, type and letter; no text has two different ones (`proofs/Single.one-reading`)
 pub record Reading (s : List ℕ) (a : Aircraft) : Type 0 where
   pub value : isAircraftValue a ≡ true
   pub text : aircraftText a ≡ s
 
--- the cases of document 01's answer numbers: 0 where an aircraft has one reading, 9 where it has none, 18 where it has two different ones, and no other
+-- the cases of document 01's answer numbers: 0 where a text has one reading, 9 where it has none, and no other
 pub data Case (s : List ℕ) : ℕ → Type 0 where
   One : (a : Aircraft) → Reading s a → ((b : Aircraft) → Reading s b → b ≡ a) → Case s 0
   None : ((a : Aircraft) → Reading s a → ⊥) → Case s 9
-  Different : (a b : Aircraft) → Reading s a → Reading s b → (a ≡ b → ⊥) → Case s 18
 
--- ---- what the reader answers: the readings without and with a prefix, and whether both are there
+-- ---- what the reader answers: the reading without a prefix, or else the one with a prefix
 
 abbrev pub withPrefix : ℕ → Pair → AircraftRead
 withPrefix p (pair.Both m l) = Read (record { prefix = p; model = m; letter = l })
@@ -51,22 +50,17 @@ plainOf s = withPrefix 0 (pairOf MODEL LETTER s)
 unfoldable pub prefixedOf : List ℕ → AircraftRead
 prefixedOf s = cond (has slash s && isForm PREFIX (before slash s)) (withPrefix (packed (before slash s)) (pairOf MODEL LETTER (after slash s))) Nothing
 
-abbrev pub only : AircraftRead → AircraftRead → AircraftRead
-only Nothing y = y
-only Two y = Two
-only (Read a) Nothing = Read a
-only (Read a) (Read b) = Two
-only (Read a) Two = Two
+abbrev pub orElse : AircraftRead → AircraftRead → AircraftRead
+orElse (Read a) y = Read a
+orElse Nothing y = y
 
--- the reading of s; or that it has none; or two different ones (answer 18)
 unfoldable pub aircraftOf : List ℕ → AircraftRead
-aircraftOf s = only (plainOf s) (prefixedOf s)
+aircraftOf s = orElse (plainOf s) (prefixedOf s)
 
 -- document 01's answer number
 abbrev pub aircraftAnswer : AircraftRead → ℕ
 aircraftAnswer (Read a) = 0
 aircraftAnswer Nothing = 9
-aircraftAnswer Two = 18
 
 -- ---- the word of the whole text
 

@@ -7,7 +7,7 @@ use text::Written;
 use text::writing;
 ghost use mathlib.Core.Path.{_≡_};
 ghost use Rattle.text.specs.Text.{writtenNext, writtenBytes};
-ghost use Rattle.fields.specs.Aircraft.{plainOf, prefixedOf, only, aircraftOf, aircraftText, isAircraftValue, aircraftWord};
+ghost use Rattle.fields.specs.Aircraft.{plainOf, prefixedOf, aircraftOf, aircraftText, isAircraftValue, aircraftWord};
 
 // The model is document 01's type. A prefix or a letter of 0 is none.
 pub struct Aircraft {
@@ -19,7 +19,6 @@ pub struct Aircraft {
 pub enum AircraftRead {
     Read(Aircraft),
     Nothing,
-    Two,
 }
 
 // The reading without a prefix.
@@ -60,21 +59,6 @@ fn read_prefixed(s: &[u8]) -> AircraftRead
     }
 }
 
-// The one reading of two ways, or that there are two: the only place that answers 18.
-fn only_one(a: AircraftRead, b: AircraftRead) -> AircraftRead
-    ensures { λ r. ⌜ r ≡ only a b ⌝ }
-{
-    match a {
-        AircraftRead::Nothing => b,
-        AircraftRead::Two => AircraftRead::Two,
-        AircraftRead::Read(x) => match b {
-            AircraftRead::Nothing => AircraftRead::Read(x),
-            AircraftRead::Read(_) => AircraftRead::Two,
-            AircraftRead::Two => AircraftRead::Two,
-        },
-    }
-}
-
 // The word of the whole text.
 fn word(a: Aircraft) -> Packed
     ensures { λ r. ⌜ r ≡ aircraftWord a ⌝ }
@@ -89,12 +73,14 @@ fn word(a: Aircraft) -> Packed
 }
 
 impl Aircraft {
+    // No text has two different readings (`proofs/Single.one-reading`), so the one that is found is enough.
     pub fn read(s: &[u8]) -> AircraftRead
         ensures { λ r. ⌜ r ≡ aircraftOf (now (s .entry)) ⌝ }
     {
-        let a = read_plain(s);
-        let b = read_prefixed(s);
-        only_one(a, b)
+        let AircraftRead::Read(plain) = read_plain(s) else {
+            return read_prefixed(s);
+        };
+        AircraftRead::Read(plain)
     }
 
     pub fn holds(self) -> bool

@@ -33,7 +33,7 @@ use Rattle.messages.specs.Read.{typedOf, bodyRead, bodyNumber}
 use Rattle.messages.specs.declared.typed.BodyRead.{BodyRead}
 use Rattle.messages.specs.declared.typed.BodyRead.the-variants as body
 use Rattle.messages.proofs.ReadWays.{by-table, kept-whole}
-use Rattle.line.specs.Cases.{Framed, Headed, Case, Taken, Short, Long, Unprintable, NoSequence, NoStamp, NoFacility, NoType, Spacing, Field, Number, LongPlan, Two}
+use Rattle.line.specs.Cases.{Framed, Headed, Case, Taken, Short, Long, Unprintable, NoSequence, NoStamp, NoFacility, NoType, Spacing, Field, Number, LongPlan}
 use Rattle.line.specs.Read.{headOf, withBody, restOf, byHead, readOf, headNumber, refusalNumber, refusalPlace, lineNumber, linePlace, freeOf}
 use Rattle.line.specs.declared.Head.{Head}
 use Rattle.line.specs.declared.HeadRead.{HeadRead}
@@ -43,7 +43,7 @@ use Rattle.line.specs.declared.LineRead.the-variants as read
 use Rattle.line.specs.declared.Refusal.{Refusal}
 use Rattle.line.specs.declared.Refusal.the-variants as refusal
 use Rattle.line.proofs.Ways.{line-short, line-long, line-byte, line-head, rest-long}
-use Rattle.line.proofs.Theorems.{reads-allowed, allowed-reads}
+use Rattle.line.proofs.Theorems.{reads-allowed, allowed-reads, line-numbers}
 use Rattle.line.proofs.CasesBodies.{faulty-fields, no-fields, fields-none, fault-faulty, faulty-fault}
 
 -- the line is in the case of the answer that it reads as
@@ -134,7 +134,6 @@ module _ (s : List ℕ) where
       refused h fault.Spacing q = Spacing t k l h (no-fields t (bodyPart s) q)
       refused h (fault.Field j) q = let (i, z, f) = fault-faulty t (bodyPart s) j field.Nothing refl q in placed 9 j i z (Field t i k l f)
       refused h (fault.Number j) q = let (i, z, f) = fault-faulty t (bodyPart s) j field.Number refl q in placed 10 j i z (Number t i k l f)
-      refused h (fault.Two j) q = let (i, z, f) = fault-faulty t (bodyPart s) j field.Two refl q in placed 18 j i z (Two t i k l f)
 
       by : hasFields t ≡ true → (a : Answer) → answerBy t (bodyPart s) ≡ a → Own s
       by h (answer.Taken u m) q = taken-at _ (table-reads t k l h q)
@@ -216,7 +215,6 @@ module _ (s : List ℕ) where
   case-only n p (Field t i k l f) = refused (refusal.Body (fault.Field (suc i))) (table-reads t k l (faulty-fields t (bodyPart s) i 9 f) (faulty-fault t (bodyPart s) i field.Nothing refl f))
   case-only n p (Number t i k l f) = refused (refusal.Body (fault.Number (suc i))) (table-reads t k l (faulty-fields t (bodyPart s) i 10 f) (faulty-fault t (bodyPart s) i field.Number refl f))
   case-only n p (LongPlan k h) = refused refusal.LongPlan (long-reads Fz k (lt-ltb 439 (length s - 16) h))
-  case-only n p (Two t i k l f) = refused (refusal.Body (fault.Two (suc i))) (table-reads t k l (faulty-fields t (bodyPart s) i 18 f) (faulty-fault t (bodyPart s) i field.Two refl f))
 
   -- so no line is in two cases with different numbers or places
   pub one-case : (n p m q : ℕ) → Case s n p → Case s m q → (n ≡ m) × (p ≡ q)
@@ -224,6 +222,10 @@ module _ (s : List ℕ) where
       let x = case-only n p c in
       let y = case-only m q d in
       (sym (x .0) ∙ y .0, sym (x .1) ∙ y .1)
+
+  -- and no line is in the case of a number above 11: 18 stays unused
+  pub case-to-11 : (n p : ℕ) → Case s n p → n ≤ 11
+  case-to-11 n p c = omega (arith, case-only n p c .0, line-numbers (readOf s))
 
   -- what `line::read` promises of its answer
   pub told : {r : LineRead} → r ≡ readOf s → (r ≡ readOf s) × Case s (lineNumber r) (linePlace r)

@@ -26,7 +26,7 @@ use Rattle.line.specs.declared.Refusal.{Refusal}
 use Rattle.line.specs.declared.Refusal.the-variants.{Short, Long, Unprintable, NoSequence, NoStamp, NoFacility, NoType, LongPlan, Body}
 use Rattle.table.specs.Table.{hasFields, freeIn, freeAtIn}
 use Rattle.table.proofs.RoutePlaces.{StandsAt, route-part-by}
-use Rattle.table.specs.declared.walk.Fault.the-variants.{Spacing, Field, Number, Two}
+use Rattle.table.specs.declared.walk.Fault.the-variants.{Spacing, Field, Number}
 use Rattle.line.proofs.Heads.{printable-left}
 use Rattle.rules.specs.Frame.{bodyPart, headLength, typePart}
 use Rattle.line.proofs.Steps.{reads-passes, passes-reads, passes-free, passes-text, passes-allows, allowed-allows, allows-allowed, allows-passes, text-body}
@@ -53,20 +53,24 @@ refused-exactly s = (
   λ none m e. none m (freeOf s) (reads-allowed s m e .0) (reads-allowed s m e .1),
 )
 
--- no refusal has the number 0, or the 12 of a full board
-pub no-refusal : (x : Refusal) → (refusalNumber x ≡ 0 → ⊥) × (refusalNumber x ≡ 12 → ⊥)
-no-refusal Short = (λ z. omega arith, λ z. omega arith)
-no-refusal Long = (λ z. omega arith, λ z. omega arith)
-no-refusal Unprintable = (λ z. omega arith, λ z. omega arith)
-no-refusal NoSequence = (λ z. omega arith, λ z. omega arith)
-no-refusal NoStamp = (λ z. omega arith, λ z. omega arith)
-no-refusal NoFacility = (λ z. omega arith, λ z. omega arith)
-no-refusal NoType = (λ z. omega arith, λ z. omega arith)
-no-refusal LongPlan = (λ z. omega arith, λ z. omega arith)
-no-refusal (Body Spacing) = (λ z. omega arith, λ z. omega arith)
-no-refusal (Body (Field i)) = (λ z. omega arith, λ z. omega arith)
-no-refusal (Body (Number i)) = (λ z. omega arith, λ z. omega arith)
-no-refusal (Body (Two i)) = (λ z. omega arith, λ z. omega arith)
+-- a refusal has one of the numbers 1 to 11: not the 0 of a line that reads, nor the 12 of a full board, nor 18, which stays unused
+pub refusal-numbers : (x : Refusal) → (1 ≤ refusalNumber x) × (refusalNumber x ≤ 11)
+refusal-numbers Short = (omega arith, omega arith)
+refusal-numbers Long = (omega arith, omega arith)
+refusal-numbers Unprintable = (omega arith, omega arith)
+refusal-numbers NoSequence = (omega arith, omega arith)
+refusal-numbers NoStamp = (omega arith, omega arith)
+refusal-numbers NoFacility = (omega arith, omega arith)
+refusal-numbers NoType = (omega arith, omega arith)
+refusal-numbers LongPlan = (omega arith, omega arith)
+refusal-numbers (Body Spacing) = (omega arith, omega arith)
+refusal-numbers (Body (Field i)) = (omega arith, omega arith)
+refusal-numbers (Body (Number i)) = (omega arith, omega arith)
+
+-- so a line is answered 0 to 11
+pub line-numbers : (r : LineRead) → lineNumber r ≤ 11
+line-numbers (Read m) = omega arith
+line-numbers (Refused x) = refusal-numbers x .1
 
 -- and its answer number is 0 exactly if it reads
 pub number-zero : (s : List ℕ) → lineNumber (readOf s) ≡ 0 → (m : Message) × (readOf s ≡ Read m)
@@ -74,7 +78,7 @@ number-zero s e = go (readOf s) e
   where
     go : (r : LineRead) → lineNumber r ≡ 0 → (m : Message) × (r ≡ Read m)
     go (Read m) e = (m, refl)
-    go (Refused x) e = absurd (no-refusal x .0 e)
+    go (Refused x) e = absurd (omega (arith, refusal-numbers x .0, e))
 
 pub zero-number : (s : List ℕ) (m : Message) → readOf s ≡ Read m → lineNumber (readOf s) ≡ 0
 zero-number s m e = ap lineNumber e

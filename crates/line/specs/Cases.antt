@@ -65,5 +65,3 @@ pub data Case (s : List ℕ) : ℕ → ℕ → Type 0 where
   Number : (t : MessageType) (i : ℕ) → Headed s t → isLongPlan t (length s) ≡ false → Faulty t (bodyPart s) i 10 → Case s 10 (suc i)
   -- 11: FZ over 439 bytes, counted from its type
   LongPlan : Headed s type.Fz → 439 < length s - 16 → Case s 11 0
-  -- 18: an aircraft field with two different readings; its place
-  Two : (t : MessageType) (i : ℕ) → Headed s t → isLongPlan t (length s) ≡ false → Faulty t (bodyPart s) i 18 → Case s 18 (suc i)

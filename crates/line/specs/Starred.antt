@@ -40,13 +40,12 @@ pub data Question : Type 0 where
   -- now, the last day of the previous month, the stamp
   Age : String → ℕ → String → Question
 
--- of a line its answer number, and its parts where it is read; of a field no reading, two readings, or a reading with these parts; two signed
+-- of a line its answer number, and its parts where it is read; of a field no reading, or a reading with these parts; two signed
 -- numbers; an age in seconds, or its word; refused with this number
 pub data Answer : Type 0 where
   Numbered : ℕ → List (List ℕ) → Answer
   Refused : ℕ → Answer
   None : Answer
-  Two : Answer
   Parts : List (List ℕ) → Answer
   Signed : ℤ → ℤ → Answer
   Seconds : ℕ → Answer
@@ -67,7 +66,6 @@ ofIdent ident.Nothing = None
 abbrev ofAircraft : AircraftRead → Answer
 ofAircraft (aircraft.Read a) = Parts (textOf (a .prefix) ∷ textOf (a .model) ∷ textOf (a .letter) ∷ [])
 ofAircraft aircraft.Nothing = None
-ofAircraft aircraft.Two = Two
 
 abbrev ofWord : Packed → Answer
 ofWord (word.Text t) = Parts (textOf t ∷ [])

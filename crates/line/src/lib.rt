@@ -27,7 +27,7 @@ ghost use Rattle.shapes.specs.Picture.{startsAt};
 ghost use Rattle.line.specs.Cases.{Case};
 ghost use Rattle.line.specs.Read.{headOf, restOf, readOf, refusalNumber, refusalPlace, lineNumber, linePlace, freeOf, freeAt};
 
-// Document 01's answers 1 to 7 and 11; and 8, 9, 10 and 18 as the body's fault.
+// Document 01's answers 1 to 7 and 11; and 8, 9 and 10 as the body's fault.
 pub enum Refusal {
     Short,
     Long,
@@ -48,7 +48,6 @@ fn fault_number(fault: Fault) -> u8
         Fault::Spacing => 8,
         Fault::Field(_) => 9,
         Fault::Number(_) => 10,
-        Fault::Two(_) => 18,
     }
 }
 
@@ -60,7 +59,6 @@ fn fault_place(fault: Fault) -> usize
         Fault::Spacing => 0,
         Fault::Field(i) => i,
         Fault::Number(i) => i,
-        Fault::Two(i) => i,
     }
 }
 

@@ -6,6 +6,7 @@ use mathlib.Core.Bool.{Bool, true, false, not, _&&_}
 use mathlib.Core.List.{List}
 use Prim.Native.Nat.{ℕ, _+_, _*_}
 use Prim.Native.Char.{code}
+use native.Mathlib.Omega.{arith}
 use lib.Dec.{eqb}
 use borrow.Author.Tests.{eq-eqb}
 use denote.Ref.{now}
@@ -37,7 +38,7 @@ use Rattle.line.specs.Placed.{Placed}
 use Rattle.line.specs.declared.LineRead.{LineRead}
 use Rattle.line.specs.declared.LineRead.the-variants as read
 use Rattle.line.proofs.Steps.{Allows, allowed-allows}
-use Rattle.line.proofs.Theorems.{reads-allowed, no-refusal}
+use Rattle.line.proofs.Theorems.{reads-allowed, refusal-numbers}
 use Rattle.line.proofs.Placed.{reads-placed}
 use Rattle.board.specs.declared.rows.Arrival.{Arrival}
 use Rattle.board.specs.declared.rows.Track.{Track}
@@ -177,7 +178,7 @@ known s = go (readOf s) refl
   where
     go : (r : LineRead) → readOf s ≡ r → Known s (eventOf (askedFrom r))
     go (read.Read m) e = known-body s m e (m .body) refl
-    go (read.Refused x) e = λ z. no-refusal x .0 (sym (ap lineNumber e) ∙ z)
+    go (read.Refused x) e = λ z. omega (arith, refusal-numbers x .0, ap lineNumber e, z)
 
 -- ---- and no other event says it
 

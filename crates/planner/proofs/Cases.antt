@@ -4,12 +4,13 @@ use mathlib.Core.Path.{_≡_, refl, sym, ap, _∙_, subst}
 use mathlib.Core.Bool.{Bool, true, false, cond}
 use mathlib.Core.List.{List}
 use Prim.Native.Nat.{ℕ}
+use native.Mathlib.Omega.{arith}
 use Rattle.text.specs.Text.{packed}
 use Rattle.text.proofs.Logic.{true-false}
 use Rattle.rules.specs.Kind.{KEY, isForm}
 use Rattle.line.specs.Read.{readOf, lineNumber, linePlace}
 use Rattle.line.specs.declared.Refusal.{Refusal}
-use Rattle.line.proofs.Theorems.{no-refusal}
+use Rattle.line.proofs.Theorems.{refusal-numbers}
 use Rattle.board.specs.Rows.{keyOf, lookRow, written, fits, struck, isListed}
 use Rattle.board.specs.declared.rows.Row.{Row}
 use Rattle.board.specs.Board.{rowsOf, wordsOf, isAllowed}
@@ -37,7 +38,7 @@ module _ (l s : List ℕ) where
   unfolding applyOf
   refused-own x e =
       let n = asks-number s x e in
-      let c : ApplyCase l s (lineNumber (readOf s)) (linePlace (readOf s)) l = Unread (λ z. no-refusal x .0 (n .0 ∙ z)) in
+      let c : ApplyCase l s (lineNumber (readOf s)) (linePlace (readOf s)) l = Unread (λ z. omega (arith, refusal-numbers x .0, n .0, z)) in
       rw (e, ← (stays l s x e), n .0, n .1) c
 
   -- a line that asks the row r of the flight k to be written

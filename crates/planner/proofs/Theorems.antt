@@ -17,7 +17,7 @@ use Rattle.history.specs.Steps.{Answer, Took, Refused, NoRoom, NotListed, rowsA
 use Rattle.history.specs.Promise.{Shows, Taken}
 use Rattle.history.proofs.Boards.{step-board}
 use Rattle.history.proofs.Demand.{demand3}
-use Rattle.line.proofs.Theorems.{no-refusal}
+use Rattle.line.proofs.Theorems.{refusal-numbers}
 use Rattle.planner.specs.Asked.{askedOf}
 use Rattle.planner.specs.declared.asks.Asked.{Asked}
 use Rattle.planner.specs.declared.asks.Asked.the-variants as asked
@@ -137,14 +137,14 @@ listed-took e = let z : _≡_ {A = ℕ} 0 1 = cc in omega arith
 line-zero : (r : LineAnswer) → (applyNumber r ≡ 0) ↔ (heardLine r ≡ Took)
 unfolding heardLine
 line-zero line.Taken = (λ e. refl, λ e. refl)
-line-zero (line.Line x) = (λ e. absurd (no-refusal x .0 e), λ e. absurd (refused-took e))
+line-zero (line.Line x) = (λ e. absurd (omega (arith, refusal-numbers x .0, e)), λ e. absurd (refused-took e))
 line-zero line.NotAllowed = (λ e. absurd (omega arith), λ e. absurd (refused-took e))
 line-zero line.Full = (λ e. absurd (omega arith), λ e. absurd (room-took e))
 
 line-twelve : (r : LineAnswer) → (applyNumber r ≡ 12) ↔ (heardLine r ≡ NoRoom)
 unfolding heardLine
 line-twelve line.Taken = (λ e. absurd (omega arith), λ e. absurd (room-took (sym e)))
-line-twelve (line.Line x) = (λ e. absurd (no-refusal x .1 e), λ e. absurd (refused-room e))
+line-twelve (line.Line x) = (λ e. absurd (omega (arith, refusal-numbers x .1, e)), λ e. absurd (refused-room e))
 line-twelve line.NotAllowed = (λ e. absurd (omega arith), λ e. absurd (refused-room e))
 line-twelve line.Full = (λ e. refl, λ e. refl)
 

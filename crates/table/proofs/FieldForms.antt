@@ -23,14 +23,13 @@ use Rattle.table.specs.Amends.{markOf, contentOf}
 use Rattle.table.specs.Fault.{hasForm, FormCase, Readings, Formed, Unformed}
 use Rattle.table.specs.Field.{IDENT, TZ-IDENT, AIRCRAFT, ROUTE, PLAN-TIME, AMENDMENT, CONTENT, traceOf, follows, plain, ofAircraft, readKind, readMark, barred, readIn}
 use Rattle.table.specs.Read.{fieldNumber}
-use Rattle.table.specs.declared.kinds.FieldRead.the-variants.{Read, Nothing, Two}
+use Rattle.table.specs.declared.kinds.FieldRead.the-variants.{Read, Nothing}
 
 -- ---- by its form
 
 aircraft-number : (x : AircraftRead) → aircraftAnswer x ≡ fieldNumber (ofAircraft x)
 aircraft-number (read.Read a) = refl
 aircraft-number read.Nothing = refl
-aircraft-number read.Two = refl
 
 -- of every kind but an aircraft
 kind-number : (k : ℕ) (s : List ℕ) → eqb k AIRCRAFT ≡ false → fieldNumber (readKind k s) ≡ cond (hasForm k s) 0 9
@@ -78,13 +77,8 @@ form-own k s = go (eqb k AIRCRAFT) refl (hasForm k s) refl
 aircraft-one : {s : List ℕ} {n m : ℕ} → aircraft.Case s n → aircraft.Case s m → n ≡ m
 aircraft-one (aircraft.One a r u) (aircraft.One a′ r′ u′) = refl
 aircraft-one (aircraft.One a r u) (aircraft.None f) = absurd (f a r)
-aircraft-one (aircraft.One a r u) (aircraft.Different b c p q d) = absurd (d (u b p ∙ sym (u c q)))
 aircraft-one (aircraft.None f) (aircraft.One a r u) = absurd (f a r)
 aircraft-one (aircraft.None f) (aircraft.None f′) = refl
-aircraft-one (aircraft.None f) (aircraft.Different b c p q d) = absurd (f b p)
-aircraft-one (aircraft.Different b c p q d) (aircraft.One a r u) = absurd (d (u b p ∙ sym (u c q)))
-aircraft-one (aircraft.Different b c p q d) (aircraft.None f) = absurd (f b p)
-aircraft-one (aircraft.Different b c p q d) (aircraft.Different b′ c′ p′ q′ d′) = refl
 
 -- and a text is in one case of a form
 pub form-one : {k : ℕ} {s : List ℕ} {n m : ℕ} → FormCase k s n → FormCase k s m → n ≡ m

@@ -36,8 +36,7 @@ use Rattle.fields.specs.declared.aircraft.AircraftRead.{AircraftRead}
 use Rattle.fields.specs.declared.aircraft.AircraftRead.the-variants as aircraft
 use Rattle.fields.proofs.IdentLaws.{asTz, tz-as, ident-sound, ident-complete, tz-sound, tz-complete, ident-writes}
 use Rattle.fields.proofs.AircraftLaws.{aircraft-writes, aircraft-word}
-use Rattle.fields.proofs.AircraftReadings.{aircraft-one}
-use Rattle.fields.proofs.Single.{aircraft-complete}
+use Rattle.fields.proofs.Single.{aircraft-one, aircraft-complete}
 use Rattle.table.specs.Field.{AMENDMENT, IDENT, TZ-IDENT, AIRCRAFT, ROUTE, markOf, markText, isMark, follows, plain, valued, identIn, aircraftIn, isOne, isTwo, ofIdent, ofAircraft, ofRoute, ofWord, readKind, readMark, barred, readIn, isKindValue, shownKind, isValue, shown}
 use Rattle.table.specs.declared.kinds.Value.{Value}
 use Rattle.table.specs.declared.kinds.FieldRead.the-variants.{Read, Nothing, Number}
@@ -57,7 +56,6 @@ aircraft-kept (aircraft.Read y) v e =
     let z : valued (y .prefix) (y .model) (y .letter) ≡ v = cc in
     ap (λ (w : Value). aircraft.Read (aircraftIn w)) z
 aircraft-kept aircraft.Nothing v e = cc
-aircraft-kept aircraft.Two v e = cc
 
 route-kept : (b : Bool) (v : Value) → ofRoute b ≡ Read v → (b ≡ true) × (eqb (v .a) 0 ≡ true) × (isOne v ≡ true)
 unfolding isOne

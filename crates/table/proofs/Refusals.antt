@@ -19,7 +19,7 @@ use Rattle.table.specs.Fault.{FieldCase, FirstFault}
 use Rattle.table.specs.Read.{faultAt, orElse, answerFrom, counted, answers, answerOf, fieldNumber, faultNumber, faultPlace, answerNumber, answerPlace}
 use Rattle.table.specs.declared.walk.Answer.{Answer}
 use Rattle.table.specs.declared.walk.Answer.the-variants.{Taken, Refused}
-use Rattle.table.specs.declared.walk.Fault.the-variants.{Spacing, Field, Number, Two}
+use Rattle.table.specs.declared.walk.Fault.the-variants.{Spacing, Field, Number}
 use Rattle.table.proofs.FieldCases.{traceAt, marksAt, readAt, tied, field-own, field-one}
 use Rattle.table.proofs.Theorems.{counted-known, counted-is, parted, not-taken}
 
@@ -34,7 +34,6 @@ no-spacing i t (k ∷ ks) p m (f ∷ fs) e = go (readIn k p m f) refl (no-spacin
     go (field.Read v) q ih = ih (rw q at e)
     go field.Nothing q ih = let d : Refused (Field i) ≡ Refused Spacing = rw q at e in let z : _≡_ {A = ℕ} 0 1 = cc in omega arith
     go field.Number q ih = let d : Refused (Number i) ≡ Refused Spacing = rw q at e in let z : _≡_ {A = ℕ} 0 1 = cc in omega arith
-    go field.Two q ih = let d : Refused (Two i) ≡ Refused Spacing = rw q at e in let z : _≡_ {A = ℕ} 0 1 = cc in omega arith
 
 -- 3. the spacing is refused exactly if no right number of fields has this text
 pub spacing : (ks body : List ℕ) → length ks ≤ 19 → answerOf ks body ≡ Refused Spacing → (fs : List (List ℕ)) (t : Bool) → allFields fs ≡ true → length fs ≡ length ks → bodyOf fs t ≡ body → ⊥
@@ -60,13 +59,11 @@ abbrev pub isFault : FieldRead → Bool
 isFault (field.Read v) = false
 isFault field.Nothing = true
 isFault field.Number = true
-isFault field.Two = true
 
 -- A FAULT AT A FIELD has the number of the field's answer, and its place
 pub fault-number : (i : ℕ) (a : FieldRead) → isFault a ≡ true → (faultNumber (faultAt i a) ≡ fieldNumber a) × (faultPlace (faultAt i a) ≡ i)
 fault-number i field.Nothing h = (refl, refl)
 fault-number i field.Number h = (refl, refl)
-fault-number i field.Two h = (refl, refl)
 fault-number i (field.Read v) h = true-false h refl
 
 -- two faults are one only with one place
@@ -75,41 +72,31 @@ fault-same n j (field.Read v) b h g e = true-false h refl
 fault-same n j field.Nothing (field.Read v) h g e = true-false g refl
 fault-same n j field.Nothing field.Nothing h g e = ((cc), refl)
 fault-same n j field.Nothing field.Number h g e = ((cc), (cc))
-fault-same n j field.Nothing field.Two h g e = ((cc), (cc))
 fault-same n j field.Number (field.Read v) h g e = true-false g refl
 fault-same n j field.Number field.Nothing h g e = ((cc), (cc))
 fault-same n j field.Number field.Number h g e = ((cc), refl)
-fault-same n j field.Number field.Two h g e = ((cc), (cc))
-fault-same n j field.Two (field.Read v) h g e = true-false g refl
-fault-same n j field.Two field.Nothing h g e = ((cc), (cc))
-fault-same n j field.Two field.Number h g e = ((cc), (cc))
-fault-same n j field.Two field.Two h g e = ((cc), refl)
 
 -- and none is the spacing
 pub fault-spacing : (j : ℕ) (a : FieldRead) → isFault a ≡ true → Refused Spacing ≡ Refused (faultAt j a) → ⊥
 fault-spacing j (field.Read v) h e = true-false h refl
 fault-spacing j field.Nothing h e = let z : _≡_ {A = ℕ} 0 1 = cc in omega arith
 fault-spacing j field.Number h e = let z : _≡_ {A = ℕ} 0 1 = cc in omega arith
-fault-spacing j field.Two h e = let z : _≡_ {A = ℕ} 0 1 = cc in omega arith
 
 or-fault : (n : ℕ) (a : FieldRead) (rest : Answer) → isFault a ≡ true → orElse n a rest ≡ Refused (faultAt n a)
 or-fault n (field.Read v) rest h = true-false h refl
 or-fault n field.Nothing rest h = refl
 or-fault n field.Number rest h = refl
-or-fault n field.Two rest h = refl
 
 -- a field is read, and fieldNumber 0, or it is at fault
 read-or-fault : (a : FieldRead) → (fieldNumber a ≡ 0) ⊎ (isFault a ≡ true)
 read-or-fault (field.Read v) = inl refl
 read-or-fault field.Nothing = inr refl
 read-or-fault field.Number = inr refl
-read-or-fault field.Two = inr refl
 
 or-read : (n : ℕ) (a : FieldRead) (rest : Answer) → fieldNumber a ≡ 0 → orElse n a rest ≡ rest
 or-read n (field.Read v) rest h = refl
 or-read n field.Nothing rest h = absurd (omega arith)
 or-read n field.Number rest h = absurd (omega arith)
-or-read n field.Two rest h = absurd (omega arith)
 
 -- faults have numbers of their own
 number-fault : (a b : FieldRead) → isFault a ≡ true → fieldNumber b ≡ fieldNumber a → b ≡ a
@@ -117,15 +104,9 @@ number-fault (field.Read v) b h e = true-false h refl
 number-fault field.Nothing (field.Read v) h e = absurd (omega arith)
 number-fault field.Nothing field.Nothing h e = refl
 number-fault field.Nothing field.Number h e = absurd (omega arith)
-number-fault field.Nothing field.Two h e = absurd (omega arith)
 number-fault field.Number (field.Read v) h e = absurd (omega arith)
 number-fault field.Number field.Nothing h e = absurd (omega arith)
 number-fault field.Number field.Number h e = refl
-number-fault field.Number field.Two h e = absurd (omega arith)
-number-fault field.Two (field.Read v) h e = absurd (omega arith)
-number-fault field.Two field.Nothing h e = absurd (omega arith)
-number-fault field.Two field.Number h e = absurd (omega arith)
-number-fault field.Two field.Two h e = refl
 
 -- 4. a fault is that of the first field that is not right
 module _ (u : Bool) (ks : List ℕ) (fs : List (List ℕ)) (same : length fs ≡ length ks) where

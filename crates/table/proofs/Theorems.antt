@@ -155,7 +155,6 @@ taken-more i t k ks p m f fs u n e = go (readIn k p m f) refl
     go (field.Read v) q = (v, q, rw q at e)
     go field.Nothing q = not-taken u n _ (rw q at e)
     go field.Number q = not-taken u n _ (rw q at e)
-    go field.Two q = not-taken u n _ (rw q at e)
 
 pub answer-taken : (i : ℕ) (t : Bool) (ks : List ℕ) (p m : ℕ) (fs : List (List ℕ)) (u : Bool) (n : ℕ) → length fs ≡ length ks → answerFrom i t ks p m fs ≡ Taken u n → (u ≡ t) × Reads ks p m fs n
 unfolding answerFrom valuesFrom allowedFrom textsFrom marksFrom allVisible

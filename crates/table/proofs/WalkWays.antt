@@ -3,13 +3,12 @@
 use mathlib.Core.Path.{_≡_, refl, sym, _∙_}
 use mathlib.Core.Bool.{Bool, true}
 use mathlib.Core.List.{List, [], _∷_}
-use mathlib.Core.Logic.{⊎-elim}
 use Prim.Native.Nat.{ℕ, zero, suc, _+_, _-_, _≤_, _<_}
 use native.Mathlib.Nat.{zero-add, sub-zero, zero-sub, suc-sub-suc}
 use native.Mathlib.Numerals.{add-one}
 use native.Mathlib.Omega.{arith}
 use denote.Enum.Declared.{tagOf}
-use types.Run.{OneOf}
+use types.Run.{OneOf, miss}
 use lib.Dec.{eqb, leb}
 use lib.ListN.{length, drop, getD, replicate}
 use lib.Seq.{sets, sets-eq, drop-cons}
@@ -62,10 +61,6 @@ pub values-done : (p m : ℕ) (fs : List (List ℕ)) → valuesFrom [] p m fs �
 unfolding valuesFrom
 values-done p m fs = refl
 
--- the first variant is none of the later three
-not-one : OneOf (1 ∷ 2 ∷ 3 ∷ []) 0 → ⊥
-not-one h = ⊎-elim (λ e. omega arith) (⊎-elim (λ e. omega arith) (λ e. omega arith)) h
-
 module _ (k : ℕ) (ks : List ℕ) (p m : ℕ) (f : List ℕ) (fs : List (List ℕ)) where
   -- it is read: the walk goes on
   pub answer-read : {v : Value} → readIn k p m f ≡ field.Read v → (i : ℕ) (t : Bool)
@@ -78,25 +73,23 @@ module _ (k : ℕ) (ks : List ℕ) (p m : ℕ) (f : List ℕ) (fs : List (List �
   values-read e = rw e
 
   -- it is not read, of which the code tells only the variant's number: its fault is the answer
-  pub answer-stop : (x : FieldRead) → readIn k p m f ≡ x → OneOf (1 ∷ 2 ∷ 3 ∷ []) (tagOf the-type x) → (i : ℕ) (t : Bool) → Refused (faultAt i x) ≡ answerFrom i t (k ∷ ks) p m (f ∷ fs)
+  pub answer-stop : (x : FieldRead) → readIn k p m f ≡ x → OneOf (1 ∷ 2 ∷ []) (tagOf the-type x) → (i : ℕ) (t : Bool) → Refused (faultAt i x) ≡ answerFrom i t (k ∷ ks) p m (f ∷ fs)
   unfolding answerFrom
   answer-stop x e h i t = rw e (go x h (answerFrom (suc i) t ks (traceOf k f) (marksOf k m f) fs))
     where
-      go : (x : FieldRead) → OneOf (1 ∷ 2 ∷ 3 ∷ []) (tagOf the-type x) → (r : Answer) → Refused (faultAt i x) ≡ orElse i x r
-      go (field.Read v) h r = absurd (not-one h)
+      go : (x : FieldRead) → OneOf (1 ∷ 2 ∷ []) (tagOf the-type x) → (r : Answer) → Refused (faultAt i x) ≡ orElse i x r
+      go (field.Read v) h r = absurd (miss (1 ∷ 2 ∷ []) 0 tt h)
       go field.Nothing h r = refl
       go field.Number h r = refl
-      go field.Two h r = refl
 
-  pub values-stop : (x : FieldRead) → readIn k p m f ≡ x → OneOf (1 ∷ 2 ∷ 3 ∷ []) (tagOf the-type x) → valuesFrom (k ∷ ks) p m (f ∷ fs) ≡ []
+  pub values-stop : (x : FieldRead) → readIn k p m f ≡ x → OneOf (1 ∷ 2 ∷ []) (tagOf the-type x) → valuesFrom (k ∷ ks) p m (f ∷ fs) ≡ []
   unfolding valuesFrom
   values-stop x e h = rw e (go x h (valuesFrom ks (traceOf k f) (marksOf k m f) fs))
     where
-      go : (x : FieldRead) → OneOf (1 ∷ 2 ∷ 3 ∷ []) (tagOf the-type x) → (vs : List Value) → more x vs ≡ []
-      go (field.Read v) h vs = absurd (not-one h)
+      go : (x : FieldRead) → OneOf (1 ∷ 2 ∷ []) (tagOf the-type x) → (vs : List Value) → more x vs ≡ []
+      go (field.Read v) h vs = absurd (miss (1 ∷ 2 ∷ []) 0 tt h)
       go field.Nothing h vs = refl
       go field.Number h vs = refl
-      go field.Two h vs = refl
 
 -- ---- the values in their places
 
@@ -110,7 +103,6 @@ values-few (k ∷ ks) p m (f ∷ fs) = go (readIn k p m f) (valuesFrom ks (trace
     go (field.Read v) vs h = omega arith
     go field.Nothing vs h = omega arith
     go field.Number vs h = omega arith
-    go field.Two vs h = omega arith
 
 drop-replicate : {A : Type 0} (n i : ℕ) (a : A) → drop i (replicate n a) ≡ replicate (n - i) a
 drop-replicate n zero a = rw sub-zero

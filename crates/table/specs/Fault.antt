@@ -27,7 +27,7 @@ fieldAt fs i = getD fs i []
 unfoldable pub hasForm : ℕ → List ℕ → Bool
 hasForm k s = cond (eqb k IDENT) (isIdent s) (cond (eqb k TZ-IDENT) (isTzIdent s) (cond (eqb k ROUTE) (isRoute s) (isForm k s)))
 
--- 0: a reading; 9: "a field without a reading"; 18: "an aircraft field with two different readings"
+-- 0: a reading; 9: "a field without a reading"
 pub data FormCase (k : ℕ) (s : List ℕ) : ℕ → Type 0 where
   Readings : {n : ℕ} → k ≡ AIRCRAFT → aircraft.Case s n → FormCase k s n
   Formed : (k ≡ AIRCRAFT → ⊥) → hasForm k s ≡ true → FormCase k s 0
@@ -63,7 +63,7 @@ module _ (ks : List ℕ) (fs : List (List ℕ)) where
 
   -- FieldCase i n: the field i is in the case of the number n, 0 where nothing is wrong with it
   pub data FieldCase (i : ℕ) : ℕ → Type 0 where
-    -- 0, 9, 18: by its form
+    -- 0, 9: by its form
     ByForm : {k n : ℕ} → Asked i k → FormCase k (fieldAt fs i) n → (n ≡ 0 → NoPosition i → ⊥) → FieldCase i n
     -- 9: "Of the E rule, the time's own form comes first"; then "the fix must be a position, else the time field is at fault"
     ERule : FormCase TIME (fieldAt fs i) 0 → NoPosition i → FieldCase i 9

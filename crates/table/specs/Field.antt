@@ -25,7 +25,7 @@ unfoldable pub use Rattle.table.specs.FieldKind.{IDENT, TZ-IDENT, AIRCRA
 unfoldable pub use Rattle.table.specs.Amends.{markOf, markText, isMark, contentOf}
 use Rattle.table.specs.declared.kinds.Value.{Value}
 use Rattle.table.specs.declared.kinds.FieldRead.{FieldRead}
-use Rattle.table.specs.declared.kinds.FieldRead.the-variants.{Read, Nothing, Number, Two}
+use Rattle.table.specs.declared.kinds.FieldRead.the-variants.{Read, Nothing, Number}
 
 -- ---- what one field leaves for the next
 
@@ -73,7 +73,6 @@ ofIdent ident.Nothing = Nothing
 abbrev pub ofAircraft : AircraftRead → FieldRead
 ofAircraft (aircraft.Read x) = Read (valued (x .prefix) (x .model) (x .letter))
 ofAircraft aircraft.Nothing = Nothing
-ofAircraft aircraft.Two = Two
 
 abbrev pub ofRoute : Bool → FieldRead
 ofRoute b = cond b (Read (valued 0 0 0)) Nothing

@@ -13,7 +13,7 @@ use Rattle.table.specs.declared.kinds.FieldRead.the-variants as field
 use Rattle.table.specs.declared.walk.Answer.{Answer}
 use Rattle.table.specs.declared.walk.Answer.the-variants.{Taken, Refused}
 use Rattle.table.specs.declared.walk.Fault.{Fault}
-use Rattle.table.specs.declared.walk.Fault.the-variants.{Spacing, Field, Number, Two}
+use Rattle.table.specs.declared.walk.Fault.the-variants.{Spacing, Field, Number}
 
 -- ---- the values
 
@@ -28,7 +28,6 @@ abbrev pub more : FieldRead → List Value → List Value
 more (field.Read v) vs = v ∷ vs
 more field.Nothing vs = []
 more field.Number vs = []
-more field.Two vs = []
 
 -- the values of the fields, until one is not read; p is what the field before left, m the marks set so far
 unfoldable pub valuesFrom : List ℕ → ℕ → ℕ → List (List ℕ) → List Value
@@ -42,14 +41,12 @@ valuesFrom (k ∷ ks) p m (f ∷ fs) = more (readIn k p m f) (valuesFrom ks (tra
 abbrev pub faultAt : ℕ → FieldRead → Fault
 faultAt i field.Nothing = Field i
 faultAt i field.Number = Number i
-faultAt i field.Two = Two i
 faultAt i (field.Read v) = Spacing
 
 abbrev pub orElse : ℕ → FieldRead → Answer → Answer
 orElse i (field.Read v) rest = rest
 orElse i field.Nothing rest = Refused (Field i)
 orElse i field.Number rest = Refused (Number i)
-orElse i field.Two rest = Refused (Two i)
 
 -- "then fields from the left": the first field that is not read; else taken, with the marks that are set in the end
 unfoldable pub answerFrom : ℕ → Bool → List ℕ → ℕ → ℕ → List (List ℕ) → Answer
@@ -83,24 +80,21 @@ pub record Ready (ks body : List ℕ) (trailing : Bool) : Type 0 where
 
 -- ---- document 01's numbers, and the place that it gives; 0 where it gives none
 
--- of one field: 9, 10, 18
+-- of one field: 9, 10
 abbrev pub fieldNumber : FieldRead → ℕ
 fieldNumber (field.Read v) = 0
 fieldNumber field.Nothing = 9
 fieldNumber field.Number = 10
-fieldNumber field.Two = 18
 
 abbrev pub faultNumber : Fault → ℕ
 faultNumber Spacing = 8
 faultNumber (Field i) = 9
 faultNumber (Number i) = 10
-faultNumber (Two i) = 18
 
 abbrev pub faultPlace : Fault → ℕ
 faultPlace Spacing = 0
 faultPlace (Field i) = i
 faultPlace (Number i) = i
-faultPlace (Two i) = i
 
 abbrev pub answerNumber : Answer → ℕ
 answerNumber (Taken t m) = 0

@@ -61,16 +61,14 @@ fn read_tz_ident(s: &[u8]) -> FieldRead
 fn read_aircraft(s: &[u8]) -> FieldRead
     ensures { λ r. ⌜ r ≡ ofAircraft (aircraftOf (now (s .entry))) ⌝ }
 {
-    let read = Aircraft::read(s);
-    match read {
-        AircraftRead::Read(aircraft) => FieldRead::Read(Value {
-            a: aircraft.prefix,
-            b: aircraft.model,
-            c: aircraft.letter,
-        }),
-        AircraftRead::Nothing => FieldRead::Nothing,
-        AircraftRead::Two => FieldRead::Two,
-    }
+    let AircraftRead::Read(aircraft) = Aircraft::read(s) else {
+        return FieldRead::Nothing;
+    };
+    FieldRead::Read(Value {
+        a: aircraft.prefix,
+        b: aircraft.model,
+        c: aircraft.letter,
+    })
 }
 
 // A route is not kept: it stays a part of the line.

@@ -62,13 +62,11 @@ pub struct Value {
     pub c: u64,
 }
 
-// A field that is read; one without a reading (answer 9); a number that is none of the eight or came before (10); an
-// aircraft with two different readings (18).
+// A field that is read; one without a reading (answer 9); a number that is none of the eight or came before (10).
 pub enum FieldRead {
     Read(Value),
     Nothing,
     Number,
-    Two,
 }
 
 // The mark of an amendment's number, one of eight bits, or 0 for what is none of the eight.

@@ -14,12 +14,11 @@ ghost use Rattle.table.specs.declared.walk.Answer.the-variants.{Refused}
 ghost use Rattle.table.specs.declared.walk.Fault.the-variants.{Spacing};
 
 // What is wrong with a body: its spacing or its count of fields (answer 8), or the first field that is at fault, with its
-// place (9, 10, 18).
+// place (9, 10).
 pub enum Fault {
     Spacing,
     Field(usize),
     Number(usize),
-    Two(usize),
 }
 
 // A body that is taken, whether a space stands at its end, and the marks of its amendments; or its fault.
@@ -41,7 +40,6 @@ fn as_fault(read: FieldRead, place: usize) -> Fault
     match read {
         FieldRead::Nothing => Fault::Field(place),
         FieldRead::Number => Fault::Number(place),
-        FieldRead::Two => Fault::Two(place),
         FieldRead::Read(_) => Fault::Spacing,
     }
 }

@@ -90,40 +90,33 @@ fn is_prefix(text: &[u8]) -> bool {
     }
 }
 
+/// "type of 2 to 4 alnum; optional slash and letter", after this prefix.
+fn type_and_letter<'a>(prefix: Option<&'a [u8]>, text: &'a [u8]) -> Option<Aircraft<'a>> {
+    let (aircraft_type, letter) = match text {
+        [front @ .., b'/', last] if is_letter(*last) => (front, Some(*last)),
+        _ => (text, None),
+    };
+    alnums(aircraft_type, 2, 4).then_some(Aircraft {
+        prefix,
+        aircraft_type,
+        letter,
+    })
+}
+
+fn prefixed(text: &[u8]) -> Option<Aircraft<'_>> {
+    let (prefix, rest) = around(text, b'/')?;
+    if is_prefix(prefix) {
+        type_and_letter(Some(prefix), rest)
+    } else {
+        None
+    }
+}
+
 /// aircraft: "optional prefix and slash; type of 2 to 4 alnum; optional slash and letter".
-/// All its readings, each once: every cut of the field is tried (docs/DECISIONS.md). None is
-/// answer 9, and two different ones are answer 18.
-pub fn aircraft_readings(text: &[u8]) -> Vec<Aircraft<'_>> {
-    // Each way to begin: no prefix, or a prefix of one or two bytes and a slash.
-    let mut beginnings: Vec<(Option<&[u8]>, &[u8])> = vec![(None, text)];
-    for width in [1, 2] {
-        if text.len() > width && text[width] == b'/' && is_prefix(&text[..width]) {
-            beginnings.push((Some(&text[..width]), &text[width + 1..]));
-        }
-    }
-    let mut readings = Vec::new();
-    for (prefix, rest) in beginnings {
-        // Each way to end: no letter, or a slash and a letter.
-        let mut endings: Vec<(&[u8], Option<u8>)> = vec![(rest, None)];
-        if let [front @ .., b'/', last] = rest {
-            if is_letter(*last) {
-                endings.push((front, Some(*last)));
-            }
-        }
-        for (middle, letter) in endings {
-            if alnums(middle, 2, 4) {
-                let reading = Aircraft {
-                    prefix,
-                    aircraft_type: middle,
-                    letter,
-                };
-                if !readings.contains(&reading) {
-                    readings.push(reading);
-                }
-            }
-        }
-    }
-    readings
+/// None is answer 9. No text reads both ways (document 02, request h), so it is the same which of
+/// them is tried first.
+pub fn read_aircraft(text: &[u8]) -> Option<Aircraft<'_>> {
+    prefixed(text).or_else(|| type_and_letter(None, text))
 }
 
 // ---- speeds ----
@@ -377,24 +370,22 @@ mod tests {
     /// Also the error of the trade: taking C172 of C172/A for a prefix.
     #[test]
     fn known_reading_aircraft() {
-        assert_eq!(aircraft_readings(b"C172/A"), [reading("", "C172", "A")]);
-        assert_eq!(aircraft_readings(b"T/AB"), [reading("T", "AB", "")]);
-        assert_eq!(aircraft_readings(b"AB/CD"), []);
-        assert_eq!(aircraft_readings(b"T/B73S/F"), [reading("T", "B73S", "F")]);
+        assert_eq!(read_aircraft(b"C172/A"), Some(reading("", "C172", "A")));
+        assert_eq!(read_aircraft(b"T/AB"), Some(reading("T", "AB", "")));
+        assert_eq!(read_aircraft(b"AB/CD"), None);
+        assert_eq!(read_aircraft(b"T/B73S/F"), Some(reading("T", "B73S", "F")));
     }
 
     #[test]
     fn aircraft_forms() {
-        assert_eq!(aircraft_readings(b"SW2/A"), [reading("", "SW2", "A")]);
-        assert_eq!(aircraft_readings(b"B747"), [reading("", "B747", "")]);
-        assert_eq!(aircraft_readings(b"2H/B747"), [reading("2H", "B747", "")]);
-        assert_eq!(
-            aircraft_readings(b"22/B747/R"),
-            [reading("22", "B747", "R")]
-        );
-        assert_eq!(aircraft_readings(b"1/23/A"), [reading("1", "23", "A")]);
+        assert_eq!(read_aircraft(b"SW2/A"), Some(reading("", "SW2", "A")));
+        assert_eq!(read_aircraft(b"B747"), Some(reading("", "B747", "")));
+        assert_eq!(read_aircraft(b"2H/B747"), Some(reading("2H", "B747", "")));
+        let all_three = Some(reading("22", "B747", "R"));
+        assert_eq!(read_aircraft(b"22/B747/R"), all_three);
+        assert_eq!(read_aircraft(b"1/23/A"), Some(reading("1", "23", "A")));
         // Two characters and a letter: the prefix would leave a type of one character.
-        assert_eq!(aircraft_readings(b"2H/A"), [reading("", "2H", "A")]);
+        assert_eq!(read_aircraft(b"2H/A"), Some(reading("", "2H", "A")));
         for none in [
             "",
             "A",
@@ -418,14 +409,14 @@ mod tests {
             "T/ABCDE",
             "1/2/3/4",
         ] {
-            assert_eq!(aircraft_readings(none.as_bytes()), [], "{none}");
+            assert_eq!(read_aircraft(none.as_bytes()), None, "{none}");
         }
     }
 
-    /// docs/DECISIONS.md: two different readings never happen. All texts of a letter, a digit and a
-    /// slash, up to ten bytes; an aircraft field has at most nine.
+    /// Document 02, request h: no text has two different readings. All texts of a letter, a digit and
+    /// a slash, up to ten bytes; an aircraft field has at most nine.
     #[test]
-    fn aircraft_never_has_two_readings() {
+    fn aircraft_never_reads_both_ways() {
         let mut texts: Vec<Vec<u8>> = vec![Vec::new()];
         for _ in 0..10 {
             let mut longer = Vec::new();
@@ -435,7 +426,7 @@ mod tests {
                 }
             }
             for text in &longer {
-                assert!(aircraft_readings(text).len() < 2);
+                assert!(prefixed(text).is_none() || type_and_letter(None, text).is_none());
             }
             texts = longer;
         }

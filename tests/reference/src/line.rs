@@ -104,7 +104,7 @@ impl Form {
                 // What stands after the key and a slash, if anything does.
                 [Some(key), text.get(key.len() + 1..), None]
             }
-            Form::Aircraft => match field::aircraft_readings(text).first() {
+            Form::Aircraft => match field::read_aircraft(text) {
                 Some(reading) => [
                     reading.prefix,
                     Some(reading.aircraft_type),
@@ -186,7 +186,7 @@ impl<'a> Message<'a> {
             }
             _ => return None,
         };
-        field::aircraft_readings(text).first().copied()
+        field::read_aircraft(text)
     }
 
     /// "In FZ and UZ the level is requested when the time has P and assigned otherwise."
@@ -327,18 +327,12 @@ fn part(body: &[u8]) -> Option<(Vec<&[u8]>, bool)> {
     Some((texts, space_at_end))
 }
 
-/// Whether a field has a reading (else 9), and an aircraft field only one (else 18).
+/// Whether a field has a reading (else 9).
 fn read_field(form: Form, text: &[u8], place: usize) -> Result<(), Refusal> {
     let reads = match form {
         Form::Ident => field::is_ident(text),
         Form::TrackIdent => field::is_track_ident(text),
-        Form::Aircraft => {
-            let readings = field::aircraft_readings(text).len();
-            if readings > 1 {
-                return refused(18, place);
-            }
-            readings == 1
-        }
+        Form::Aircraft => field::read_aircraft(text).is_some(),
         Form::FiledSpeed => field::is_filed_speed(text),
         Form::GroundSpeed => field::is_ground_speed(text),
         Form::Point => field::is_point(text),

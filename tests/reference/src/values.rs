@@ -2,7 +2,7 @@
 //! text, held as one number", "A facility is four bytes to the base 256", "AF holds eight slots in
 //! order"). A route and the body of RT, TO and HB are no values: they are the free text beside them.
 
-use crate::field::{aircraft_readings, key_of_ident};
+use crate::field::{key_of_ident, read_aircraft};
 use crate::line::{read, Amendment, Message, Type};
 use crate::text::{number, text};
 use crate::write::put;
@@ -142,7 +142,7 @@ fn ident(text: &[u8]) -> Value {
 }
 
 fn aircraft(text: &[u8]) -> Value {
-    let Some(reading) = aircraft_readings(text).first().copied() else {
+    let Some(reading) = read_aircraft(text) else {
         return Value::Aircraft(0, 0, 0);
     };
     Value::Aircraft(

@@ -9,7 +9,6 @@ pub read-aircraft-spec : {M : Type 1} → statement M
 read-aircraft-spec =
     tie.close
     (tie.spec
-    (λ c κs. search needs) (λ c. search needs) (λ c. search needs) (λ c. search needs)
-    (λ c. ap ofAircraft (sym (c .before .read2 .given .1) ∙ c .before .before .before .read .ensures))
+    (λ c κs. search needs) (λ c. search needs) (λ c. search needs)
     (λ c. ap ofAircraft (sym (c .enum-told .given .1) ∙ c .before .before .read .ensures))
-    (λ c. ap ofAircraft (sym (c .enum-told2 .given .1) ∙ c .before .before .read .ensures)))
+    (λ c. ap ofAircraft (sym (c .before .aircraft .given .1) ∙ c .before .before .before .read .ensures)))

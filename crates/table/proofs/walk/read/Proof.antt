@@ -71,7 +71,7 @@ module _ {ks body : List ℕ} {t : Bool} {values : List Value} {at k p m : ℕ} 
       is-read : readIn (getD ks k 0) p m (getD (fieldsOn body) k []) ≡ x
       is-read = rw is-field at (sym reads)
 
-      stops : (r : Fault) → OneOf (1 ∷ 2 ∷ 3 ∷ []) (tagOf the-type x) → r ≡ faultAt (k + 1) x → Filled ks body t (Refused r) values
+      stops : (r : Fault) → OneOf (1 ∷ 2 ∷ []) (tagOf the-type x) → r ≡ faultAt (k + 1) x → Filled ks body t (Refused r) values
       stops r h g =
           let f = getD (fieldsOn body) k [] in
           let s = values-stop (getD ks k 0) (drop (k + 1) ks) p m f (drop (k + 1) (fieldsOn body)) x is-read h in
