@@ -61,9 +61,12 @@ module _ (a : Aircraft) (e : isAircraftValue a ≡ true) where
   unfolding isAircraftValue
   tail-value = and-left (isPair MODEL LETTER (a .model) (a .letter)) (eqb (a .prefix) 0 || isWord PREFIX (a .prefix)) e
 
-  pub prefix-value : eqb (a .prefix) 0 ≡ false → isWord PREFIX (a .prefix) ≡ true
+  pub prefix-part : (eqb (a .prefix) 0 || isWord PREFIX (a .prefix)) ≡ true
   unfolding isAircraftValue
-  prefix-value q = rw q at (and-right (isPair MODEL LETTER (a .model) (a .letter)) (eqb (a .prefix) 0 || isWord PREFIX (a .prefix)) e)
+  prefix-part = and-right (isPair MODEL LETTER (a .model) (a .letter)) (eqb (a .prefix) 0 || isWord PREFIX (a .prefix)) e
+
+  pub prefix-value : eqb (a .prefix) 0 ≡ false → isWord PREFIX (a .prefix) ≡ true
+  prefix-value q = rw q at prefix-part
 
   tail-writes : isPairText MODEL LETTER (a .model) (a .letter) ≡ true
   unfolding isPairText

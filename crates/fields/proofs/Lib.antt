@@ -5,6 +5,7 @@ pub mod PairLaws
 pub mod IdentLaws
 pub mod AircraftLaws
 pub mod AircraftReadings
+pub mod Cuttings
 pub mod Single
 pub mod TypeLaws
 pub mod FacilityLaws

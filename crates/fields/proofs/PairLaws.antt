@@ -145,13 +145,16 @@ module _ (k l : ℕ) (no-slash : (s : List ℕ) → isForm k s ≡ true → upTo
 -- ---- writing
 
 module _ (k l a b : ℕ) (e : isPair k l a b ≡ true) where
-  first-word : isWord k a ≡ true
+  pub first-word : isWord k a ≡ true
   unfolding isPair
   first-word = and-left (isWord k a) (eqb b 0 || isWord l b) e
 
-  second-word : eqb b 0 ≡ false → isWord l b ≡ true
+  pub second-part : (eqb b 0 || isWord l b) ≡ true
   unfolding isPair
-  second-word q = rw q at (and-right (isWord k a) (eqb b 0 || isWord l b) e)
+  second-part = and-right (isWord k a) (eqb b 0 || isWord l b) e
+
+  second-word : eqb b 0 ≡ false → isWord l b ≡ true
+  second-word q = rw q at second-part
 
   pub pair-writes : {t : ℕ} → pairWord a b ≡ packing.Text t → (isPacked t ≡ isPairText k l a b) × (textOf t ≡ pairText a b)
   unfolding pairWord pairText isPairText

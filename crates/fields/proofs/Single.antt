@@ -11,16 +11,18 @@ use lib.Dec.{eqb}
 use lib.ListN.{length, take}
 use lib.Seq.{length-take-le}
 use Rattle.text.specs.Bytes.{bytes}
+use Rattle.text.specs.Text.{textOf}
 use Rattle.text.proofs.Logic.{and-left, not-holds}
 use Rattle.shapes.specs.Cut.{upTo, has, before, after}
 use Rattle.shapes.proofs.Laws.{upTo-le, fits-length, run-least}
 use Rattle.rules.specs.Kind.{PREFIX, MODEL, LETTER, isForm}
 use Rattle.fields.specs.Pair.{slash, isPairForm, pairOf}
-use Rattle.fields.specs.Aircraft.{aircraftText, isAircraftValue, Reading, plainOf, prefixedOf, aircraftOf}
+use Rattle.fields.specs.Aircraft.{CutInto, aircraftText, isAircraftValue, Reading, plainOf, prefixedOf, aircraftOf}
 use Rattle.fields.specs.declared.aircraft.Aircraft.{Aircraft}
 use Rattle.fields.specs.declared.aircraft.AircraftRead.{AircraftRead}
 use Rattle.fields.specs.declared.aircraft.AircraftRead.the-variants.{Read, Nothing}
 use Rattle.fields.proofs.AircraftLaws.{without, with-one}
+use Rattle.fields.proofs.Cuttings.{reading-cut, words, cut-texts, cut-reading}
 use Rattle.fields.proofs.AircraftReadings.{plain-reading, reading-plain, prefixed-reading, reading-prefixed}
 
 model-least : (s : List ℕ) → isForm MODEL s ≡ true → 2 ≤ length s
@@ -74,14 +76,6 @@ module _ (s : List ℕ) where
       go true q = sym (without s (reading-plain s a r q))
       go false q = second one-way (reading-prefixed s a r q)
 
-  -- THE THEOREM (document 02, request h): no text has two different readings as an aircraft, over all ways of cutting it. Prefix, type and letter
-  -- are the same in any two
-  pub one-reading : (a b : Aircraft) → Reading s a → Reading s b → (a .prefix ≡ b .prefix) × (a .model ≡ b .model) × (a .letter ≡ b .letter)
-  one-reading a b p q =
-      let z : Read a ≡ Read b = sym (found a p) ∙ found b q in
-      let e : a ≡ b = cc in
-      (ap (λ (x : Aircraft). x .prefix) e, ap (λ (x : Aircraft). x .model) e, ap (λ (x : Aircraft). x .letter) e)
-
   -- what is read is a reading, and the only one
   pub aircraft-one : (a : Aircraft) → aircraftOf s ≡ Read a → Reading s a × ((b : Aircraft) → Reading s b → b ≡ a)
   unfolding aircraftOf
@@ -94,6 +88,23 @@ module _ (s : List ℕ) where
   -- where nothing is read there is no reading
   pub aircraft-none : aircraftOf s ≡ Nothing → (a : Aircraft) → Reading s a → ⊥
   aircraft-none e a r = let z : Read a ≡ Nothing = sym (found a r) ∙ e in let y : _≡_ {A = ℕ} 0 1 = cc in omega arith
+
+  -- in bytes: what is read is the text cut by document 01's rule, and where nothing is read no way cuts it
+  pub read-cut : (a : Aircraft) → aircraftOf s ≡ Read a → CutInto s (textOf (a .prefix)) (textOf (a .model)) (textOf (a .letter))
+  read-cut a e = reading-cut s a (aircraft-one a e .0)
+
+  pub none-cut : aircraftOf s ≡ Nothing → (p t l : List ℕ) → CutInto s p t l → ⊥
+  none-cut e p t l c = aircraft-none e (words p t l) (cut-reading c)
+
+  -- THE THEOREM (document 02, request h): no text has two different readings as an aircraft, over all ways of cutting it. Prefix, type and letter
+  -- are the same in any two
+  pub one-reading : (p t l p′ t′ l′ : List ℕ) → CutInto s p t l → CutInto s p′ t′ l′ → (p ≡ p′) × (t ≡ t′) × (l ≡ l′)
+  one-reading p t l p′ t′ l′ c d =
+      let z : Read (words p t l) ≡ Read (words p′ t′ l′) = sym (found (words p t l) (cut-reading c)) ∙ found (words p′ t′ l′) (cut-reading d) in
+      let e : words p t l ≡ words p′ t′ l′ = cc in
+      let x = cut-texts c in
+      let y = cut-texts d in
+      (sym (x .0) ∙ ap (λ (a : Aircraft). textOf (a .prefix)) e ∙ y .0, sym (x .1) ∙ ap (λ (a : Aircraft). textOf (a .model)) e ∙ y .1, sym (x .2) ∙ ap (λ (a : Aircraft). textOf (a .letter)) e ∙ y .2)
 
 -- the text of every aircraft reads as it
 pub aircraft-complete : (a : Aircraft) → isAircraftValue a ≡ true → aircraftOf (aircraftText a) ≡ Read a

@@ -3,12 +3,15 @@
 use Prim.Native.Nat.{ℕ}
 use mathlib.Core.Path.{_≡_}
 use mathlib.Core.Bool.{Bool, true, cond, _&&_, _||_}
-use mathlib.Core.List.{List}
+use mathlib.Core.List.{List, []}
+use mathlib.Core.Logic.{_⊎_}
 use lib.Dec.{eqb}
+use lib.ListN.{length}
 use Rattle.text.specs.Text.{packed, textOf, slashed, joinOf}
 use Rattle.text.specs.declared.Packed.{Packed}
 use Rattle.text.specs.declared.Packed.the-variants as word
 use Rattle.shapes.specs.Cut.{has, before, after}
+use Rattle.rules.specs.Form.{isPrefix, isModel, isOneLetter}
 use Rattle.rules.specs.Kind.{PREFIX, MODEL, LETTER, isForm}
 use Rattle.fields.specs.Word.{isWord}
 use Rattle.fields.specs.Pair.{slash, pairOf, pairText, isPair, pairWord}
@@ -20,6 +23,22 @@ use Rattle.fields.specs.declared.aircraft.AircraftRead.the-variants.{Rea
 
 -- ---- the rule
 
+-- "optional prefix and slash" before y, "optional slash and letter" after x; a part that is not there is empty
+abbrev pub leading : List ℕ → List ℕ → List ℕ
+leading p y = cond (eqb (length p) 0) y (slashed p y)
+
+abbrev pub trailing : List ℕ → List ℕ → List ℕ
+trailing x l = cond (eqb (length l) 0) x (slashed x l)
+
+-- the text s is cut into a prefix, a type and a letter; no text is cut so in two different ways (`proofs/Single.one-reading`)
+pub record CutInto (s prefix type letter : List ℕ) : Type 0 where
+  pub prefixed : (prefix ≡ []) ⊎ (isPrefix prefix ≡ true)
+  pub typed : isModel type ≡ true
+  pub lettered : (letter ≡ []) ⊎ (isOneLetter letter ≡ true)
+  pub text : leading prefix (trailing type letter) ≡ s
+
+-- ---- the same of the words that are kept; a prefix or a letter of 0 is none
+
 -- the text of an aircraft
 unfoldable pub aircraftText : Aircraft → List ℕ
 aircraftText a = cond (eqb (a .prefix) 0) (pairText (a .model) (a .letter)) (slashed (textOf (a .prefix)) (pairText (a .model) (a .letter)))
@@ -28,7 +47,7 @@ aircraftText a = cond (eqb (a .prefix) 0) (pairText (a .model) (a .letter)) (sla
 unfoldable pub isAircraftValue : Aircraft → Bool
 isAircraftValue a = isPair MODEL LETTER (a .model) (a .letter) && (eqb (a .prefix) 0 || isWord PREFIX (a .prefix))
 
--- a is a reading of s, one way of cutting it into prefix, type and letter; no text has two different ones (`proofs/Single.one-reading`)
+-- a is a reading of s
 pub record Reading (s : List ℕ) (a : Aircraft) : Type 0 where
   pub value : isAircraftValue a ≡ true
   pub text : aircraftText a ≡ s
