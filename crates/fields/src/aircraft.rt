@@ -7,7 +7,9 @@ use text::Written;
 use text::writing;
 ghost use mathlib.Core.Path.{_≡_};
 ghost use Rattle.text.specs.Text.{writtenNext, writtenBytes};
-ghost use Rattle.fields.specs.Aircraft.{plainOf, prefixedOf, aircraftOf, aircraftText, isAircraftValue, aircraftWord};
+ghost use Rattle.rules.specs.Kind.{MODEL, LETTER};
+ghost use Rattle.fields.specs.Pair.{pairOf};
+ghost use Rattle.fields.specs.Aircraft.{withPrefix, prefixedOf, aircraftOf, aircraftText, isAircraftValue, aircraftWord};
 
 // The model is document 01's type. A prefix or a letter of 0 is none.
 pub struct Aircraft {
@@ -21,14 +23,14 @@ pub enum AircraftRead {
     Nothing,
 }
 
-// The reading without a prefix.
-fn read_plain(s: &[u8]) -> AircraftRead
-    ensures { λ r. ⌜ r ≡ plainOf (now (s .entry)) ⌝ }
+// The type, and optionally a slash and a letter, after this prefix.
+fn read_after(prefix: u64, s: &[u8]) -> AircraftRead
+    ensures { λ r. ⌜ r ≡ withPrefix prefix (pairOf MODEL LETTER (now (s .entry))) ⌝ }
 {
     let pair = pairs::read_pair(rules::MODEL, rules::LETTER, s);
     match pair {
         Pair::Both(model, letter) => AircraftRead::Read(Aircraft {
-            prefix: 0,
+            prefix,
             model,
             letter,
         }),
@@ -48,15 +50,7 @@ fn read_prefixed(s: &[u8]) -> AircraftRead
         return AircraftRead::Nothing;
     };
     let j = i + 1;
-    let pair = pairs::read_pair(rules::MODEL, rules::LETTER, &s[j..]);
-    match pair {
-        Pair::Both(model, letter) => AircraftRead::Read(Aircraft {
-            prefix,
-            model,
-            letter,
-        }),
-        Pair::Nothing => AircraftRead::Nothing,
-    }
+    read_after(prefix, &s[j..])
 }
 
 // The word of the whole text.
@@ -77,7 +71,7 @@ impl Aircraft {
     pub fn read(s: &[u8]) -> AircraftRead
         ensures { λ r. ⌜ r ≡ aircraftOf (now (s .entry)) ⌝ }
     {
-        let AircraftRead::Read(plain) = read_plain(s) else {
+        let AircraftRead::Read(plain) = read_after(0, s) else {
             return read_prefixed(s);
         };
         AircraftRead::Read(plain)

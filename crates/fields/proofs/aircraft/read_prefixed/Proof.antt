@@ -1,8 +1,7 @@
 -- `fields::aircraft::read_prefixed` meets its contract. Assumes nothing.
-use mathlib.Core.Path.{sym, ap, _∙_}
+use mathlib.Core.Path.{sym, _∙_}
 use native.Mathlib.Nat.{le-of-lt}
 use lib.Seq.{length-take-le}
-use Rattle.fields.specs.Aircraft.{withPrefix}
 use Rattle.fields.proofs.AircraftLaws.{no-prefix, bad-prefix, with-prefix}
 use borrow.Author.Needs.{needs}
 use Rattle.fields.proofs.aircraft.read_prefixed.Statement.{statement}
@@ -24,20 +23,10 @@ returns-2 c =
 returns-3 : tie.Need-returns-3
 returns-3 c =
     let c₃ = c .before .before .before in
-    let c₆ = c₃ .before .before .before in
-    let c₈ = c₆ .before .before in
-    let c₁₀ = c₈ .before .before in
-    let c₁₁ = c₁₀ .before in
-    ap (withPrefix _) (sym (c .before .pair .given .1) ∙ c₃ .read-pair .ensures) ∙ with-prefix _ _ (c₁₁ .find .ensures) (c₁₀ .if1 .left) (sym (c₈ .read .ensures) ∙ c₆ .prefix .given .1)
-
-returns-4 : tie.Need-returns-4
-returns-4 c =
-    let c₂ = c .before .before in
-    let c₅ = c₂ .before .before .before in
+    let c₅ = c₃ .before .before in
     let c₇ = c₅ .before .before in
-    let c₉ = c₇ .before .before in
-    let c₁₀ = c₉ .before in
-    ap (withPrefix _) (sym (c .enum-told2 .given .1) ∙ c₂ .read-pair .ensures) ∙ with-prefix _ _ (c₁₀ .find .ensures) (c₉ .if1 .left) (sym (c₇ .read .ensures) ∙ c₅ .prefix .given .1)
+    let c₈ = c₇ .before in
+    c .read-after .ensures ∙ with-prefix _ _ (c₈ .find .ensures) (c₇ .if1 .left) (sym (c₅ .read .ensures) ∙ c₃ .prefix .given .1)
 
 pub read-prefixed-spec : {M : Type 1} → statement M
 read-prefixed-spec =
@@ -55,7 +44,4 @@ read-prefixed-spec =
     (λ c. search needs)
     (λ c. search needs)
     (λ c κs. search needs)
-    (λ c. search needs)
-    (λ c. search needs)
-    returns-3
-    returns-4)
+    returns-3)

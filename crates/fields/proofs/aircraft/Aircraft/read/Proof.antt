@@ -1,15 +1,18 @@
 -- `fields::aircraft::Aircraft::read` meets its contract. Assumes nothing.
 use mathlib.Core.Path.{sym, _∙_}
+use Rattle.fields.specs.Aircraft.{plainOf}
 use Rattle.fields.proofs.AircraftLaws.{without, with-one}
 use borrow.Author.Needs.{needs}
 use Rattle.fields.proofs.aircraft.Aircraft.read.Statement.{statement}
 use Rattle.fields.proofs.aircraft.Aircraft.read.Tie as tie
 
 returns : tie.Need-returns
-returns c = c .read-prefixed .ensures ∙ with-one _ (sym (c .before .before .before .read-plain .ensures) ∙ c .before .enum-told .given .1)
+unfolding plainOf
+returns c = c .read-prefixed .ensures ∙ with-one _ (sym (c .before .before .before .read-after .ensures) ∙ c .before .enum-told .given .1)
 
 returns-2 : tie.Need-returns-2
-returns-2 c = without _ (sym (c .before .before .before .read-plain .ensures) ∙ c .before .plain .given .1)
+unfolding plainOf
+returns-2 c = without _ (sym (c .before .before .before .read-after .ensures) ∙ c .before .plain .given .1)
 
 pub read-spec : {M : Type 1} → statement M
 read-spec =
