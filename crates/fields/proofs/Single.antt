@@ -17,7 +17,7 @@ use Rattle.shapes.specs.Cut.{upTo, has, before, after}
 use Rattle.shapes.proofs.Laws.{upTo-le, fits-length, run-least}
 use Rattle.rules.specs.Kind.{PREFIX, MODEL, LETTER, isForm}
 use Rattle.fields.specs.Pair.{slash, isPairForm, pairOf}
-use Rattle.fields.specs.Aircraft.{CutInto, aircraftText, isAircraftValue, Reading, plainOf, prefixedOf, aircraftOf}
+use Rattle.fields.specs.Aircraft.{CutInto, Told, Parts, Uncut, aircraftText, isAircraftValue, Reading, plainOf, prefixedOf, aircraftOf}
 use Rattle.fields.specs.declared.aircraft.Aircraft.{Aircraft}
 use Rattle.fields.specs.declared.aircraft.AircraftRead.{AircraftRead}
 use Rattle.fields.specs.declared.aircraft.AircraftRead.the-variants.{Read, Nothing}
@@ -90,11 +90,13 @@ module _ (s : List ℕ) where
   aircraft-none e a r = let z : Read a ≡ Nothing = sym (found a r) ∙ e in let y : _≡_ {A = ℕ} 0 1 = cc in omega arith
 
   -- in bytes: what is read is the text cut by document 01's rule, and where nothing is read no way cuts it
-  pub read-cut : (a : Aircraft) → aircraftOf s ≡ Read a → CutInto s (textOf (a .prefix)) (textOf (a .model)) (textOf (a .letter))
-  read-cut a e = reading-cut s a (aircraft-one a e .0)
+  told-cut : (r : AircraftRead) → r ≡ aircraftOf s → Told s r
+  told-cut (Read a) e = Parts a (reading-cut s a (aircraft-one a (sym e) .0))
+  told-cut Nothing e = Uncut (λ p t l c. aircraft-none (sym e) (words p t l) (cut-reading c))
 
-  pub none-cut : aircraftOf s ≡ Nothing → (p t l : List ℕ) → CutInto s p t l → ⊥
-  none-cut e p t l c = aircraft-none e (words p t l) (cut-reading c)
+  -- what `Aircraft::read` promises of its answer
+  pub told : {r : AircraftRead} → r ≡ aircraftOf s → (r ≡ aircraftOf s) × Told s r
+  told {r} e = (e, told-cut r e)
 
   -- THE THEOREM (document 02, request h): no text has two different readings as an aircraft, over all ways of cutting it. Prefix, type and letter
   -- are the same in any two

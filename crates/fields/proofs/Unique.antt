@@ -76,7 +76,7 @@ arrival-clock-holds-one κs a r r′ s s′ p q = p ∙ sym q
 -- ---- aircraft
 
 pub aircraft-read-one : (κs : _) (a : _) (r r′ : _) (s s′ : _) → aircraft-read.Post κs a r s → aircraft-read.Post κs a r′ s′ → r ≡ r′
-aircraft-read-one κs a r r′ s s′ p q = p ∙ sym q
+aircraft-read-one κs a r r′ s s′ p q = p .0 ∙ sym (q .0)
 
 pub aircraft-holds-one : (κs : _) (a : _) (r r′ : _) (s s′ : _) → aircraft-holds.Post κs a r s → aircraft-holds.Post κs a r′ s′ → r ≡ r′
 aircraft-holds-one κs a r r′ s s′ p q = p ∙ sym q

@@ -37,6 +37,11 @@ pub record CutInto (s prefix type letter : List ℕ) : Type 0 where
   pub lettered : (letter ≡ []) ⊎ (isOneLetter letter ≡ true)
   pub text : leading prefix (trailing type letter) ≡ s
 
+-- what may be told of s: its parts where it is cut so, and nothing where no way cuts it
+pub data Told (s : List ℕ) : AircraftRead → Type 0 where
+  Parts : (a : Aircraft) → CutInto s (textOf (a .prefix)) (textOf (a .model)) (textOf (a .letter)) → Told s (Read a)
+  Uncut : ((prefix type letter : List ℕ) → CutInto s prefix type letter → ⊥) → Told s Nothing
+
 -- ---- the same of the words that are kept; a prefix or a letter of 0 is none
 
 -- the text of an aircraft

@@ -9,7 +9,7 @@ ghost use mathlib.Core.Path.{_≡_};
 ghost use Rattle.text.specs.Text.{writtenNext, writtenBytes};
 ghost use Rattle.rules.specs.Kind.{MODEL, LETTER};
 ghost use Rattle.fields.specs.Pair.{pairOf};
-ghost use Rattle.fields.specs.Aircraft.{withPrefix, prefixedOf, aircraftOf, aircraftText, isAircraftValue, aircraftWord};
+ghost use Rattle.fields.specs.Aircraft.{Told, withPrefix, prefixedOf, aircraftOf, aircraftText, isAircraftValue, aircraftWord};
 
 // The model is document 01's type. A prefix or a letter of 0 is none.
 pub struct Aircraft {
@@ -70,6 +70,7 @@ impl Aircraft {
     // No text has two different readings (`proofs/Single.one-reading`), so the one that is found is enough.
     pub fn read(s: &[u8]) -> AircraftRead
         ensures { λ r. ⌜ r ≡ aircraftOf (now (s .entry)) ⌝ }
+        ensures { λ r. ⌜ Told (now (s .entry)) r ⌝ }
     {
         let AircraftRead::Read(plain) = read_after(0, s) else {
             return read_prefixed(s);

@@ -42,15 +42,15 @@ told = (refl, refl, refl, refl, refl, refl, refl, refl)
 
 -- C172 of C172/A is the type, and there is no prefix
 pub type-as-prefix : (κs : _) (a : _) (r : _) (s : _) → aircraft-read.Post κs a r s → now (a .0) ≡ bytes "C172/A" → r ≡ Read plain
-type-as-prefix κs a r s p e = p ∙ rw (e, told .0)
+type-as-prefix κs a r s p e = p .0 ∙ rw (e, told .0)
 
 -- T/B73S/F has all three
 pub all-three-refused : (κs : _) (a : _) (r : _) (s : _) → aircraft-read.Post κs a r s → now (a .0) ≡ bytes "T/B73S/F" → r ≡ Read prefixed
-all-three-refused κs a r s p e = p ∙ rw (e, told .1)
+all-three-refused κs a r s p e = p .0 ∙ rw (e, told .1)
 
 -- a prefix of two begins with a digit, and CD is no letter
 pub two-letters-as-prefix : (κs : _) (a : _) (r : _) (s : _) → aircraft-read.Post κs a r s → now (a .0) ≡ bytes "AB/CD" → r ≡ Nothing
-two-letters-as-prefix κs a r s p e = p ∙ rw (e, told .2)
+two-letters-as-prefix κs a r s p e = p .0 ∙ rw (e, told .2)
 
 -- a type is no prefix
 pub any-prefix-holds : (κs : _) (a : _) (r : _) (s : _) → aircraft-holds.Post κs a r s → a .0 ≡ misprefixed → r ≡ false

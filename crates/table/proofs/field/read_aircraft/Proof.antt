@@ -10,5 +10,5 @@ read-aircraft-spec =
     tie.close
     (tie.spec
     (λ c κs. search needs) (λ c. search needs) (λ c. search needs)
-    (λ c. ap ofAircraft (sym (c .enum-told .given .1) ∙ c .before .before .read .ensures))
-    (λ c. ap ofAircraft (sym (c .before .aircraft .given .1) ∙ c .before .before .before .read .ensures)))
+    (λ c. ap ofAircraft (sym (c .enum-told .given .1) ∙ c .before .before .read .ensures .0))
+    (λ c. ap ofAircraft (sym (c .before .aircraft .given .1) ∙ c .before .before .before .read .ensures .0)))
