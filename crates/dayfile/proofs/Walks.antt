@@ -125,10 +125,6 @@ module _ {from : ℕ} {s os : List ℕ} {i k : ℕ} (v : Walking from s os i k) 
       next : Sized (drop i s) n
       next = sized (drop i s) n (rw rest-all at size) some
 
-      pub next-inside : i + n ≤ length s
-      next-inside =
-          omega (arith, v .inside, next .size, ap length (next .whole), length-drop i s, length-append (next .line) (lineFeed ∷ next .rest))
-
       -- one line more
       pub turn : k < length os → getD os k 0 ≡ from + i → Walking from s os (i + n) (k + 1)
       unfolding startsFrom eachMayKeep feedOf
@@ -136,7 +132,7 @@ module _ {from : ℕ} {s os : List ℕ} {i k : ℕ} (v : Walking from s os i k) 
           let w : length (linesText (v .run)) ≡ i = ap length (sym (v .text)) ∙ length-take-le i s (v .inside) in
           record {
             run = v .run ++ next .line ∷ [];
-            inside = next-inside;
+            inside = omega (arith, v .inside, next .size, ap length (next .whole), length-drop i s, length-append (next .line) (lineFeed ∷ next .rest));
             text = take-add i n s ∙ rw (v .text, lines-append, sized-text next);
             each = rw (each-append, v .each, next .kept);
             many = rw (length-append) (omega (arith, v .many));

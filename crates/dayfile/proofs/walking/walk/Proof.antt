@@ -5,7 +5,7 @@ use native.Mathlib.Omega.{arith}
 use lib.ListN.{length}
 use borrow.Author.Needs.{needs}
 use Rattle.dayfile.specs.Opening.{offsetsIn}
-use Rattle.dayfile.proofs.Walks.{Walking, begin, no-more, other-start, no-next, next-inside, turn, k-past, k-inside, four-few, four-number}
+use Rattle.dayfile.proofs.Walks.{Walking, begin, no-more, other-start, no-next, turn, k-past, k-inside, four-few, four-number}
 use Rattle.dayfile.proofs.walking.walk.Statement.{statement}
 use Rattle.dayfile.proofs.walking.walk.Tie as tie
 
@@ -14,10 +14,6 @@ Inv-loop from s index i₀ k₀ i k = Walking from s (offsetsIn index) i k
 
 abbrev μ-loop : tie.MeasureT-loop
 μ-loop from s index i₀ k₀ i k = length index / 4 - k
-
-add-i : tie.Need-add-i Inv-loop μ-loop
-add-i c =
-    omega (arith, next-inside (c .before .before .before .before .before .before .before .loop .inv) _ (c .before .line-size .ensures) (c .if2 .left))
 
 loop-again : tie.Need-loop-again Inv-loop μ-loop
 loop-again c =
@@ -40,5 +36,5 @@ walk-spec =
     tie.close
     (tie.spec Inv-loop μ-loop (λ c. begin _ _ _) (λ c. omega arith) (λ c. omega arith) (λ c. omega arith) (λ c. omega arith) (λ c. omega arith)
     (λ c κs. four-few _ _ (c .before .loop-test .taken)) (λ c. omega arith) (λ c. omega arith) (λ c. omega arith) (λ c. omega arith)
-    (λ c κs. search needs) add-i (λ c. omega arith) (λ c. omega arith) loop-again
+    (λ c κs. search needs) (λ c. omega (arith, loop-again c .inside)) (λ c. omega arith) (λ c. omega arith) loop-again
     (λ c. no-more (c .before .loop .inv) (k-past _ _ (c .loop-test .left))) returns-2 returns-3)
