@@ -113,7 +113,7 @@ fn say_ended(ended: Ended) {
 
 fn end(out: &mut [u8], offsets: &mut [u32], words: &[u64], place: Place) {
     narrow(words, offsets);
-    let ended = dayfile::end_file(out, &offsets[..], place);
+    let ended = dayfile::ending::end_file(out, &offsets[..], place);
     say_ended(ended);
     say_bytes(&out[..]);
 }
@@ -163,7 +163,7 @@ fn end_lines(out: &mut [u8], offsets: &mut [u32], shifted: usize) {
         at: lines,
         count: lines,
     };
-    let ended = dayfile::end_file(out, &offsets[..], place);
+    let ended = dayfile::ending::end_file(out, &offsets[..], place);
     say_ended(ended);
     say_after(&out[..], lines);
 }

@@ -28,7 +28,7 @@ use Rattle.dayfile.proofs.walking.least.Reads as least
 use Rattle.dayfile.proofs.«open».Reads as opening
 use Rattle.dayfile.proofs.line.Reads as line
 use Rattle.dayfile.proofs.keep_line.Reads as keep-line
-use Rattle.dayfile.proofs.end_file.Reads as end-file
+use Rattle.dayfile.proofs.ending.end_file.Reads as end-file
 use Rattle.dayfile.proofs.Files.{kept-line, each-at, lines-run, length-starts}
 use Rattle.dayfile.proofs.Opens.{lines-is}
 use Rattle.dayfile.proofs.KeptCases.{disagree-is}

@@ -23,7 +23,7 @@ use Rattle.dayfile.specs.declared.Ended.the-variants.{Whole}
 use Rattle.dayfile.proofs.«open».Reads as opening
 use Rattle.dayfile.proofs.line.Reads as line
 use Rattle.dayfile.proofs.keep_line.Reads as keep-line
-use Rattle.dayfile.proofs.end_file.Reads as end-file
+use Rattle.dayfile.proofs.ending.end_file.Reads as end-file
 use Rattle.dayfile.proofs.Bytes.{fourAt, twoAt, four-at}
 use Rattle.dayfile.proofs.Files.{kept-line, line-kept, each-at, each-all, numbered-at, numbered-none, length-file, run-parts, parts-run, sound-1, start-bytes, count-bytes, version-bytes}
 use Rattle.dayfile.proofs.Opens.{open-case, case-open, contents, is-day, is-told, opens-file, lines-file, opened-file, same-file, one-run, no-lines, line-there, offset-there}

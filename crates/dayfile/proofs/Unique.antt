@@ -7,7 +7,7 @@ use Rattle.dayfile.proofs.walking.least.Reads as least
 use Rattle.dayfile.proofs.«open».Reads as opening
 use Rattle.dayfile.proofs.line.Reads as line
 use Rattle.dayfile.proofs.keep_line.Reads as keep-line
-use Rattle.dayfile.proofs.end_file.Reads as end-file
+use Rattle.dayfile.proofs.ending.end_file.Reads as end-file
 
 pub version-1-one : (κs : _) (a : _) (r r′ : _) (s s′ : _) → version-1.Post κs a r s → version-1.Post κs a r′ s′ → r ≡ r′
 version-1-one κs a r r′ s s′ p q = p ∙ sym q

@@ -1,30 +1,26 @@
 // The day file (document 02, a): the lines of a day, each with its line feed, then an index of their offsets, then a trailer. A file is opened whatever its bytes
-// are, a line is handed back as a part of it; lines are kept one by one in a buffer and a run of offsets that the caller lends, and then the file is ended.
+// are, a line is handed back as a part of it; lines are kept one by one in a buffer and a run of offsets that the caller lends, and then the file is ended (`ending`).
 
+pub mod ending;
 pub mod numbers;
 pub mod walking;
 
-use crate::numbers::put_index;
-use crate::numbers::put_number;
 use crate::numbers::read_number;
 use crate::walking::line_size;
 use crate::walking::walk;
-use crate::walking::walk_run;
 use rules::LINE_FEED;
 use rules::LONGEST_LINE;
 use shapes::sweeps::find_far;
 use text::writing::has_room;
 use text::writing::put_bytes;
 ghost use mathlib.Core.Path.{_≡_};
-ghost use mathlib.Core.Bool.{true, false};
-ghost use Prim.Native.Nat.{_+_, _*_, _-_, _≤_, _<_};
+ghost use Prim.Native.Nat.{_-_, _≤_, _<_};
 ghost use lib.ListN.{length, drop};
-ghost use Rattle.text.specs.Text.{spliced};
 ghost use Rattle.shapes.specs.Picture.{startsAt};
-ghost use Rattle.dayfile.specs.DayFile.{version1, Sound, trailerSize, trailerOf};
+ghost use Rattle.dayfile.specs.DayFile.{version1, Sound, trailerSize};
 ghost use Rattle.dayfile.specs.declared.Opened.the-variants.{Day};
 ghost use Rattle.dayfile.specs.Opening.{openBy, openOf, linesIn, numbered, placeOf};
-ghost use Rattle.dayfile.specs.Keeping.{isFull, keptOf, outAfter, runAfter, isAgreed, isOver, endedOf, outEnded};
+ghost use Rattle.dayfile.specs.Keeping.{isFull, keptOf, outAfter, runAfter};
 
 // "at most 65,535 of them"
 pub const MOST_LINES: usize = 65535;
@@ -257,78 +253,4 @@ pub fn keep_line(line: &[u8], out: &mut [u8], offsets: &mut [u32], place: Place)
 {
     let trailer = version_1();
     keep_from(trailer.most, 0, line, out, offsets, place)
-}
-
-// Whether what was kept is so many lines, each beginning at its offset.
-fn is_agreed(out: &[u8], offsets: &[u32], place: Place) -> bool
-    ensures { λ r. ⌜ r ≡ isAgreed (now (out .entry)) (now (offsets .entry)) place ⌝ }
-{
-    let at = place.at;
-    let count = place.count;
-    if at > out.len() {
-        return false;
-    }
-    if count > offsets.len() {
-        return false;
-    }
-    let walked = walk_run(&out[..at], &offsets[..count]);
-    if walked.lines != count {
-        return false;
-    }
-    walked.used == at
-}
-
-// 24: more lines than there may be, or an index that starts too far.
-fn is_over(trailer: Trailer, place: Place) -> bool
-    ensures { λ r. ⌜ r ≡ isOver trailer place ⌝ }
-{
-    if place.count > trailer.most {
-        return true;
-    }
-    place.at >= TOO_FAR
-}
-
-// Puts the trailer from place `from`, where there is room.
-pub fn put_trailer(trailer: Trailer, place: Place, out: &mut [u8], from: usize)
-    requires { ⌜ Sound trailer ⌝ }
-    requires { ⌜ isOver trailer place ≡ false ⌝ }
-    requires { ⌜ from + trailerSize trailer ≤ length (now out) ⌝ }
-    ensures { λ _. ⌜ now (out .exit) ≡ spliced (now (out .entry)) from (trailerOf trailer (place .at) (place .count)) ⌝ }
-{
-    let wide = trailer.wide;
-    put_number(place.at, 4, out, from);
-    put_number(place.count, wide, out, from + 4);
-    put_number(trailer.version, 2, out, from + 4 + wide);
-}
-
-// Ends a file with this trailer.
-fn end_as(trailer: Trailer, out: &mut [u8], offsets: &[u32], place: Place) -> Ended
-    requires { ⌜ Sound trailer ⌝ }
-    ensures { λ r. ⌜ r ≡ endedOf trailer (now (out .entry)) (now (offsets .entry)) place ⌝ }
-    ensures { λ r. ⌜ now (out .exit) ≡ outEnded r trailer (now (out .entry)) (now (offsets .entry)) place ⌝ }
-{
-    if !is_agreed(&out[..], offsets, place) {
-        return Ended::Disagree;
-    }
-    if is_over(trailer, place) {
-        return Ended::TooMany;
-    }
-    let at = place.at;
-    let count = place.count;
-    let after = at + 4 * count;
-    let size = after + trailer_size(trailer);
-    if size > out.len() {
-        return Ended::NoRoom;
-    }
-    put_index(&offsets[..count], out, at);
-    put_trailer(trailer, place, out, after);
-    Ended::Whole(size)
-}
-
-// Ends the file: its index and its trailer from the given place on; where it refuses it writes nothing.
-pub fn end_file(out: &mut [u8], offsets: &[u32], place: Place) -> Ended
-    ensures { λ r. ⌜ r ≡ endedOf version1 (now (out .entry)) (now (offsets .entry)) place ⌝ }
-    ensures { λ r. ⌜ now (out .exit) ≡ outEnded r version1 (now (out .entry)) (now (offsets .entry)) place ⌝ }
-{
-    end_as(version_1(), out, offsets, place)
 }

@@ -1,10 +1,10 @@
--- `is_agreed` meets its contract. Assumes nothing.
+-- `ending::is_agreed` meets its contract. Assumes nothing.
 use mathlib.Core.Path.{sym}
 use lib.Seq.{length-take-le}
 use borrow.Author.Needs.{needs}
 use Rattle.dayfile.proofs.Keeps.{no-bytes, no-offsets, other-lines, agreed-by}
-use Rattle.dayfile.proofs.is_agreed.Statement.{statement}
-use Rattle.dayfile.proofs.is_agreed.Tie as tie
+use Rattle.dayfile.proofs.ending.is_agreed.Statement.{statement}
+use Rattle.dayfile.proofs.ending.is_agreed.Tie as tie
 
 returns-3 : tie.Need-returns-3
 returns-3 c =

@@ -1,4 +1,4 @@
--- `end_as` meets its contract. Assumes nothing.
+-- `ending::end_as` meets its contract. Assumes nothing.
 use mathlib.Core.Path.{sym, _∙_}
 use native.Mathlib.Omega.{arith}
 use lib.ListN.{length-take}
@@ -6,8 +6,8 @@ use lib.Seq.{length-take-le}
 use borrow.Author.Needs.{needs}
 use Rattle.dayfile.specs.DayFile.{trailerSize}
 use Rattle.dayfile.proofs.Keeps.{not-over, agreed-within, not-agreed, ended-over, ended-full, ended-whole}
-use Rattle.dayfile.proofs.end_as.Statement.{statement}
-use Rattle.dayfile.proofs.end_as.Tie as tie
+use Rattle.dayfile.proofs.ending.end_as.Statement.{statement}
+use Rattle.dayfile.proofs.ending.end_as.Tie as tie
 
 returns-2 : tie.Need-returns-2
 returns-2 c = let e = c .before .before in ended-over _ _ _ _ (e .before .is-agreed .ensures) (e .if1 .left) (c .before .is-over .ensures) (c .if2 .taken)

@@ -1,8 +1,8 @@
--- `end_file` meets its contract. Assumes nothing.
+-- `ending::end_file` meets its contract. Assumes nothing.
 use borrow.Author.Needs.{needs}
 use Rattle.dayfile.proofs.Files.{sound-1}
-use Rattle.dayfile.proofs.end_file.Statement.{statement}
-use Rattle.dayfile.proofs.end_file.Tie as tie
+use Rattle.dayfile.proofs.ending.end_file.Statement.{statement}
+use Rattle.dayfile.proofs.ending.end_file.Tie as tie
 
 end-as-requires : tie.Need-end-as-requires
 end-as-requires c κs = rw (c .before .version-1 .ensures) sound-1

@@ -1,11 +1,11 @@
--- `put_trailer` meets its contract. Assumes nothing.
+-- `ending::put_trailer` meets its contract. Assumes nothing.
 use native.Mathlib.Omega.{arith}
 use borrow.Author.Needs.{needs}
 use Rattle.dayfile.specs.DayFile.{trailerSize}
 use Rattle.dayfile.proofs.Keeps.{not-over}
 use Rattle.dayfile.proofs.Puts.{trailer-put}
-use Rattle.dayfile.proofs.put_trailer.Statement.{statement}
-use Rattle.dayfile.proofs.put_trailer.Tie as tie
+use Rattle.dayfile.proofs.ending.put_trailer.Statement.{statement}
+use Rattle.dayfile.proofs.ending.put_trailer.Tie as tie
 
 put-number-requires-2 : tie.Need-put-number-requires-2
 unfolding trailerSize
