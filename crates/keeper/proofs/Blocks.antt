@@ -23,7 +23,7 @@ use Rattle.intake.specs.declared.input.Input.{Input}
 use Rattle.keeper.specs.Keep.{keptAfter, isPast, lookedAt, keptIn, Keeping, GoesOn, Roomy}
 use Rattle.keeper.specs.Work.{Piece, Lines, PutAway, isOn, IsStored}
 use Rattle.keeper.specs.declared.keep.Keep.{Keep}
-use Rattle.keeper.specs.declared.keep.Work.{Work}
+use Rattle.keeper.specs.declared.work.Work.{Work}
 use Rattle.keeper.specs.declared.shelf.Shelf.{Shelf}
 use Rattle.keeper.proofs.Kept.{looked-few}
 use Rattle.keeper.proofs.Told.{held-most}

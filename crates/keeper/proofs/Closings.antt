@@ -26,7 +26,7 @@ use Rattle.intake.specs.Day.{isTorn}
 use Rattle.keeper.specs.Keep.{keptIn, dayFileOf, Keeping}
 use Rattle.keeper.specs.Work.{Piece, Closing, PutAway, Stored, Whole, Led, Closes, Done}
 use Rattle.keeper.specs.declared.keep.Keep.{Keep}
-use Rattle.keeper.specs.declared.keep.Work.{Work}
+use Rattle.keeper.specs.declared.work.Work.{Work}
 use Rattle.keeper.specs.declared.shelf.Shelf.{Shelf}
 use Rattle.keeper.proofs.Kept.{kept-run, kept-few}
 use Rattle.keeper.proofs.Blocks.{off-is, lines-inside}

@@ -1,5 +1,5 @@
 -- What the promises of `keeper` require on feeds and files written out, and so wrong files and answers that they do not allow. `Pre` is what `shelf::put_day` and
--- `shelf::put_lines` ask for, `Post` what `keep::keep_feed` and `lists::look` promise. Assumes nothing.
+-- `shelf::put_lines` ask for, `Post` what `work::keep_feed` and `lists::look` promise. Assumes nothing.
 use Prim.Native.Nat.{ℕ, _+_}
 use mathlib.Core.Bool.{true}
 use mathlib.Core.List.{List, [], _∷_, _++_}
@@ -20,7 +20,7 @@ use Rattle.keeper.specs.Keep.{keptAfter, lookedAt, keptIn, dayFileOf}
 use Rattle.keeper.specs.Work.{Piece, Lines, Closing}
 use Rattle.keeper.proofs.shelf.put_day.Reads as put-day
 use Rattle.keeper.proofs.shelf.put_lines.Reads as put-lines
-use Rattle.keeper.proofs.keep.keep_feed.Reads as keep-feed
+use Rattle.keeper.proofs.work.keep_feed.Reads as keep-feed
 use Rattle.keeper.proofs.lists.look.Reads as look
 
 -- ---- the day file of the lines AB and an empty one, and of a C that no line feed ends, byte for byte

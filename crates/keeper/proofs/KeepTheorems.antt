@@ -1,4 +1,4 @@
--- THE THEOREMS OF A KEPT FEED, about the promises as they stand in the source: `Pre` is what `shelf::put_day` asks for, `Post` what `keep::keep_feed` promises. The
+-- THE THEOREMS OF A KEPT FEED, about the promises as they stand in the source: `Pre` is what `shelf::put_day` asks for, `Post` what `work::keep_feed` promises. The
 -- numbers in the statements are document 02's. Assumes nothing.
 use mathlib.Core.Path.{_≡_, refl, sym, ap, _∙_}
 use mathlib.Core.Bool.{Bool, true, false}
@@ -24,12 +24,12 @@ use Rattle.dayfile.proofs.Files.{lines-append, sound-1}
 use Rattle.dayfile.proofs.Opens.{opens-file, lines-file}
 use Rattle.keeper.specs.Keep.{isPast, lookedAt, keptIn, dayFileOf}
 use Rattle.keeper.specs.Work.{Piece, Lines, Closing}
-use Rattle.keeper.specs.declared.keep.Outcome.{Outcome}
+use Rattle.keeper.specs.declared.work.Outcome.{Outcome}
 use Rattle.keeper.proofs.Kept.{goes-on, stops, grows, kept-run}
 use Rattle.keeper.proofs.Parts.{more-lines}
 use Rattle.keeper.proofs.Wholes.{wholes, the-first, keeps-all, texts-run}
 use Rattle.keeper.proofs.shelf.put_day.Reads as put-day
-use Rattle.keeper.proofs.keep.keep_feed.Reads as keep-feed
+use Rattle.keeper.proofs.work.keep_feed.Reads as keep-feed
 
 -- ---- what comes later changes nothing of what is kept already
 

@@ -26,7 +26,7 @@ use Rattle.dayfile.proofs.Puts.{then-put}
 use Rattle.keeper.specs.Keep.{countedLine, toldLeft, TakesUp}
 use Rattle.keeper.specs.Work.{isOn}
 use Rattle.keeper.specs.declared.keep.Keep.{Keep}
-use Rattle.keeper.specs.declared.keep.Work.{Work}
+use Rattle.keeper.specs.declared.work.Work.{Work}
 
 -- ---- `count_line`
 

@@ -12,8 +12,8 @@ use Rattle.dayfile.specs.DayFile.{linesText}
 use Rattle.intake.specs.Edge.{Came}
 use Rattle.keeper.specs.Keep.{isPast, lookedAt, keptIn, dayFileOf, Keeping}
 use Rattle.keeper.specs.declared.shelf.Shelf.{Shelf}
-use Rattle.keeper.specs.declared.keep.Work.{Work}
-use Rattle.keeper.specs.declared.keep.Outcome.{Outcome}
+use Rattle.keeper.specs.declared.work.Work.{Work}
+use Rattle.keeper.specs.declared.work.Outcome.{Outcome}
 
 -- ---- the edge
 

@@ -5,3 +5,4 @@ pub mod lists;
 pub mod shelf;
 pub mod store;
 pub mod volume;
+pub mod work;

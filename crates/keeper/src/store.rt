@@ -1,8 +1,8 @@
 // The work of `desk keep NAME`: standard input kept as a day file, which appears under its name only when it is whole, and takes no other's place.
-use crate::keep::Outcome;
-use crate::keep::keep_feed;
 use crate::keep::tell;
 use crate::shelf;
+use crate::work::Outcome;
+use crate::work::keep_feed;
 use intake::input;
 use intake::say;
 use libc::STDERR_FILENO;

@@ -1,11 +1,11 @@
--- `keep::keep_feed` meets its contract. Assumes nothing.
+-- `work::keep_feed` meets its contract. Assumes nothing.
 use Prim.Native.Nat.{ℕ}
 use native.Mathlib.Omega.{arith}
 use borrow.Author.Needs.{needs}
 use lib.ListN.{length-replicate}
 use Rattle.keeper.proofs.Closings.{done}
-use Rattle.keeper.proofs.keep.keep_feed.Statement.{statement}
-use Rattle.keeper.proofs.keep.keep_feed.Tie as tie
+use Rattle.keeper.proofs.work.keep_feed.Statement.{statement}
+use Rattle.keeper.proofs.work.keep_feed.Tie as tie
 
 pub keep-feed-spec : {M : Type 1} → statement M
 keep-feed-spec =

@@ -1,12 +1,12 @@
--- `keep::keep_block` meets its contract: what came is kept, and that put away. Assumes nothing.
+-- `work::keep_block` meets its contract: what came is kept, and that put away. Assumes nothing.
 use borrow.Author.Needs.{needs}
 use native.Mathlib.Omega.{arith}
 use mathlib.Core.Path.{sym}
 use lib.Seq.{length-take-le}
 use Rattle.intake.proofs.Desks.{came-inside, came-size, came-total}
 use Rattle.keeper.proofs.Blocks.{block-roomy, block-piece, block-stored}
-use Rattle.keeper.proofs.keep.keep_block.Statement.{statement}
-use Rattle.keeper.proofs.keep.keep_block.Tie as tie
+use Rattle.keeper.proofs.work.keep_block.Statement.{statement}
+use Rattle.keeper.proofs.work.keep_block.Tie as tie
 
 pub keep-block-spec : {M : Type 1} → statement M
 keep-block-spec =

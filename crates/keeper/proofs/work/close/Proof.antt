@@ -1,4 +1,4 @@
--- `keep::close` meets its contract. Assumes nothing.
+-- `work::close` meets its contract. Assumes nothing.
 use Prim.Native.Nat.{ℕ}
 use native.Mathlib.Omega.{arith}
 use mathlib.Core.Path.{sym, _∙_}
@@ -7,8 +7,8 @@ use lib.ListN.{length-replicate}
 use lib.Seq.{length-take-le}
 use Rattle.text.proofs.Logic.{so, not-so}
 use Rattle.keeper.proofs.Closings.{closes-shut, few, index-size, index-room, trailer-ready, closing-piece, closes}
-use Rattle.keeper.proofs.keep.close.Statement.{statement}
-use Rattle.keeper.proofs.keep.close.Tie as tie
+use Rattle.keeper.proofs.work.close.Statement.{statement}
+use Rattle.keeper.proofs.work.close.Tie as tie
 
 pub close-spec : {M : Type 1} → statement M
 close-spec =

@@ -1,4 +1,4 @@
--- `keep::keep_all` meets its contract: what is stored stays so, block after block, until no more comes, fits or is taken. Assumes nothing.
+-- `work::keep_all` meets its contract: what is stored stays so, block after block, until no more comes, fits or is taken. Assumes nothing.
 use mathlib.Core.Path.{_≡_, refl, sym, _∙_}
 use native.Mathlib.Omega.{arith}
 use lib.ListN.{length}
@@ -6,8 +6,8 @@ use borrow.Author.Needs.{needs}
 use Rattle.intake.proofs.Desks.{stillToCome, less-still}
 use Rattle.keeper.specs.Work.{isOn, IsStored}
 use Rattle.keeper.proofs.Blocks.{on-first, on-is, first-stored}
-use Rattle.keeper.proofs.keep.keep_all.Statement.{statement}
-use Rattle.keeper.proofs.keep.keep_all.Tie as tie
+use Rattle.keeper.proofs.work.keep_all.Statement.{statement}
+use Rattle.keeper.proofs.work.keep_all.Tie as tie
 
 abbrev Inv-loop : tie.InvT-loop
 Inv-loop fd name block₀ held₀ out₀ offsets₀ work₀ on₀ block held out offsets work on =

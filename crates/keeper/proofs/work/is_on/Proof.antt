@@ -1,9 +1,9 @@
--- `keep::is_on` meets its contract. Assumes nothing.
+-- `work::is_on` meets its contract. Assumes nothing.
 use borrow.Author.Needs.{needs}
 use Rattle.text.proofs.Logic.{so, not-so}
 use Rattle.keeper.proofs.Ways.{on-ended, on-shut, on-free}
-use Rattle.keeper.proofs.keep.is_on.Statement.{statement}
-use Rattle.keeper.proofs.keep.is_on.Tie as tie
+use Rattle.keeper.proofs.work.is_on.Statement.{statement}
+use Rattle.keeper.proofs.work.is_on.Tie as tie
 
 pub is-on-spec : {M : Type 1} → statement M
 is-on-spec =
