@@ -22,14 +22,14 @@ use Rattle.dayfile.proofs.Files.{each-append, each-at, kept-line, texts-lines}
 use Rattle.dayfile.proofs.Opens.{open-case}
 use Rattle.dayfile.proofs.Windows.{swept-first, swept-size, swept-all}
 use Rattle.keeper.specs.Lists.{ReadFrom, Turns, linesWindow, indexWindow, goesOn, verdictOf, Over, begun, turned}
-use Rattle.keeper.specs.declared.lists.Pass.{Pass}
+use Rattle.keeper.specs.declared.pass.Pass.{Pass}
 use Rattle.keeper.proofs.Passes.{too-few, last-told, day-end, goes-no-further}
 use Rattle.keeper.proofs.shelf.put_lines.Reads as put-lines
 use Rattle.keeper.proofs.lists.open_end.Reads as open-end
 use Rattle.keeper.proofs.lists.look_at_end.Reads as look-at-end
-use Rattle.keeper.proofs.lists.judge.Reads as judge
-use Rattle.keeper.proofs.lists.turn.Reads as turn
-use Rattle.keeper.proofs.lists.go_over.Reads as go-over
+use Rattle.keeper.proofs.pass.judge.Reads as judge
+use Rattle.keeper.proofs.pass.turn.Reads as turn
+use Rattle.keeper.proofs.pass.go_over.Reads as go-over
 use Rattle.keeper.proofs.lists.look.Reads as look
 use Rattle.keeper.proofs.lists.list.Reads as list
 

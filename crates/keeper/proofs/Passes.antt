@@ -23,7 +23,7 @@ use Rattle.dayfile.proofs.Patches.{patched, patched-size, patched-swept, patche
 use Rattle.keeper.specs.Work.{PutAway}
 use Rattle.keeper.specs.Lists.{LinesPiece, AfterLines, Puts, Judged, Told, Passing, unreadOf, Judges, Turns, goesOn, Passed, verdictOf}
 use Rattle.keeper.specs.declared.shelf.Shelf.{Shelf}
-use Rattle.keeper.specs.declared.lists.Pass.{Pass}
+use Rattle.keeper.specs.declared.pass.Pass.{Pass}
 
 -- ---- what a pass says
 

@@ -15,7 +15,7 @@ use Rattle.dayfile.specs.declared.Opened.the-variants.{Day, WrongLines}
 use Rattle.keeper.specs.Work.{PutAway}
 use Rattle.keeper.specs.declared.shelf.Shelf.{Shelf}
 use Rattle.keeper.specs.declared.volume.Filled.{Filled}
-use Rattle.keeper.specs.declared.lists.Pass.{Pass}
+use Rattle.keeper.specs.declared.pass.Pass.{Pass}
 
 -- ---- the edge
 

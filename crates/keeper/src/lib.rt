@@ -2,6 +2,7 @@
 
 pub mod keep;
 pub mod lists;
+pub mod pass;
 pub mod shelf;
 pub mod store;
 pub mod volume;

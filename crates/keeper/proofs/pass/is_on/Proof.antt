@@ -3,8 +3,8 @@ use borrow.Author.Needs.{needs}
 use borrow.Author.Tests.{not-true, not-false}
 use Rattle.text.proofs.Logic.{so, not-so}
 use Rattle.keeper.proofs.Passes.{not-read, not-live, no-further, further}
-use Rattle.keeper.proofs.lists.is_on.Statement.{statement}
-use Rattle.keeper.proofs.lists.is_on.Tie as tie
+use Rattle.keeper.proofs.pass.is_on.Statement.{statement}
+use Rattle.keeper.proofs.pass.is_on.Tie as tie
 
 pub is-on-spec : {M : Type 1} → statement M
 is-on-spec =

@@ -3,8 +3,8 @@ use mathlib.Core.Path.{_≡_, refl, _∙_}
 use lib.ListN.{length}
 use borrow.Author.Needs.{needs}
 use Rattle.keeper.proofs.Passes.{Going, toGo, going-first, going-on, less-to-go, pass-ended}
-use Rattle.keeper.proofs.lists.go_on.Statement.{statement}
-use Rattle.keeper.proofs.lists.go_on.Tie as tie
+use Rattle.keeper.proofs.pass.go_on.Statement.{statement}
+use Rattle.keeper.proofs.pass.go_on.Tie as tie
 
 abbrev Inv-loop : tie.InvT-loop
 Inv-loop volume name day writes lines₀ index₀ pass₀ on₀ lines index pass on =

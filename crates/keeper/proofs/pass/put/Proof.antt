@@ -2,8 +2,8 @@
 use borrow.Author.Needs.{needs}
 use borrow.Author.Tests.{not-true, not-false}
 use Rattle.keeper.proofs.Passes.{no-put, one-put}
-use Rattle.keeper.proofs.lists.put.Statement.{statement}
-use Rattle.keeper.proofs.lists.put.Tie as tie
+use Rattle.keeper.proofs.pass.put.Statement.{statement}
+use Rattle.keeper.proofs.pass.put.Tie as tie
 
 pub put-spec : {M : Type 1} → statement M
 put-spec =

@@ -5,8 +5,8 @@ use lib.Seq.{length-take-le, length-front}
 use borrow.Author.Needs.{needs}
 use Rattle.text.proofs.Logic.{so}
 use Rattle.keeper.proofs.Passes.{pass-size, turn-unread, after-lines, s-same, i-same, windows-wide, turn-read}
-use Rattle.keeper.proofs.lists.turn.Statement.{statement}
-use Rattle.keeper.proofs.lists.turn.Tie as tie
+use Rattle.keeper.proofs.pass.turn.Statement.{statement}
+use Rattle.keeper.proofs.pass.turn.Tie as tie
 
 fill-requires : tie.Need-fill-requires
 fill-requires c κs =

@@ -3,8 +3,8 @@ use mathlib.Core.Path.{sym}
 use lib.Seq.{length-take-le}
 use borrow.Author.Needs.{needs}
 use Rattle.keeper.proofs.Passes.{used-inside, next-piece, judges}
-use Rattle.keeper.proofs.lists.judge.Statement.{statement}
-use Rattle.keeper.proofs.lists.judge.Tie as tie
+use Rattle.keeper.proofs.pass.judge.Statement.{statement}
+use Rattle.keeper.proofs.pass.judge.Tie as tie
 
 pub judge-spec : {M : Type 1} → statement M
 judge-spec =
