@@ -42,7 +42,7 @@ impl Time {
     }
 }
 
-// A level: 2 or 3 digits, or two such with B between.
+// A level: 2 or 3 digits, or two such with B between, the second no smaller than the first.
 pub struct Level(pub u64);
 
 // The number of an amendment: 02, 03, 05, 06, 07, 08, 09 or 10.

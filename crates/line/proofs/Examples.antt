@@ -12,7 +12,7 @@ use Rattle.text.specs.Place.{value, allIn}
 use Rattle.shapes.specs.Cut.{upTo, has, before, after, joins}
 use Rattle.shapes.specs.Picture.{isOf, fits, fitsAny, oneOf, run, within, startsAt}
 use Rattle.shapes.specs.Pieces.{pieces}
-use Rattle.rules.specs.Form.{isStamp, isKey, isIdent, isTzIdent, isFix, isClock, isTime, isPosition}
+use Rattle.rules.specs.Form.{isStamp, isKey, isIdent, isTzIdent, isFix, isClock, isTime, isBlock, isLevel, isPosition}
 use Rattle.rules.specs.Kind.{isForm}
 use Rattle.fields.specs.Aircraft.{aircraftOf, plainOf, prefixedOf}
 use Rattle.fields.specs.Ident.{identOf, tzIdentOf}
@@ -71,14 +71,15 @@ an-equal-field-for-the-route κs a r s p e = (p .0 ∙ ap freeOf e, p .1 ∙ ap 
 abbrev at : String → ℕ × ℕ
 at s = (lineNumber (readOf (bytes s)), linePlace (readOf (bytes s)))
 
--- an AF with 08 twice, one with 04, and an FZ whose time has E after a fix that is no position
+-- an AF with 08 twice, one with 04, and an FZ whose time has E after a fix that is no position; a block that falls in a UZ, and in an AF's 09
 told : (at "000106081500KZAAAF QQX12 ABC DEF 08 050 08 060" ≡ (10, 6)) × (at "000106081500KZAAAF QQX12 ABC DEF 04 050" ≡ (10, 4))
     × (at "000106081500KZAAFZ QQX12 C172/A 0120 ABC E0816 050 ABC..DEF" ≡ (9, 5))
+    × (at "000106081500KZAAUZ QQX12 C172/A 0120 ABC P0816 350B310 ABC..DEF" ≡ (9, 6)) × (at "000106081500KZAAAF QQX12 ABC DEF 08 99B100 09 100B99" ≡ (9, 7))
 unfolding readOf headOf restOf bodyRead typeOf allIn isStamp isOf fits pieces within isDigit isLetter isAlnum all isNumeral isDigitTo codeOf number value digitOf answerBy
     isCount countIn fieldsOf ended countWith answerOf answers counted kindsOf answerFrom readIn readKind plain isTzIdent isForm isPairForm pairOf tzIdentOf upTo has joins
-    oneOf fitsAny follows identOf isIdent isKey run readMark markOf traceOf marksOf contentOf barred aircraftOf plainOf prefixedOf wordOf isTime isClock isFix isPosition
+    oneOf fitsAny follows identOf isIdent isKey run readMark markOf traceOf marksOf contentOf barred aircraftOf plainOf prefixedOf wordOf isTime isClock isFix isBlock isLevel isPosition
     before after
-told = (refl, refl, refl)
+told = (refl, refl, refl, refl, refl)
 
 -- "never 9", and the place is the second 08's
 pub a-number-twice-has-no-reading : (κs : _) (a : _) (r : _) (s : _) → read.Post κs a r s → now (a .0) ≡ bytes "000106081500KZAAAF QQX12 ABC DEF 08 050 08 060"
@@ -99,6 +100,20 @@ pub the-fix-is-at-fault : (κs : _) (a : _) (r : _) (s : _) → read.Post κs a 
 the-fix-is-at-fault κs a r s p e =
     let z = p .0 ∙ ap readOf e in
     (ap lineNumber z ∙ ap (λ x. x .0) (told .2), ap linePlace z ∙ ap (λ x. x .1) (told .2))
+
+-- 350B310 is no level in a UZ either
+pub falling-block-in-fz-alone : (κs : _) (a : _) (r : _) (s : _) → read.Post κs a r s → now (a .0) ≡ bytes "000106081500KZAAUZ QQX12 C172/A 0120 ABC P0816 350B310 ABC..DEF"
+    → (lineNumber r ≡ 9) × (linePlace r ≡ 6)
+falling-block-in-fz-alone κs a r s p e =
+    let z = p .0 ∙ ap readOf e in
+    (ap lineNumber z ∙ ap (λ x. x .0) (told .3), ap linePlace z ∙ ap (λ x. x .1) (told .3))
+
+-- nor is 100B99 the content of an 09, though 99B100 is that of an 08: "as numbers", and the place is the content's
+pub falling-block-as-texts : (κs : _) (a : _) (r : _) (s : _) → read.Post κs a r s → now (a .0) ≡ bytes "000106081500KZAAAF QQX12 ABC DEF 08 99B100 09 100B99"
+    → (lineNumber r ≡ 9) × (linePlace r ≡ 7)
+falling-block-as-texts κs a r s p e =
+    let z = p .0 ∙ ap readOf e in
+    (ap lineNumber z ∙ ap (λ x. x .0) (told .4), ap linePlace z ∙ ap (λ x. x .1) (told .4))
 
 -- ---- the number and the place of a refusal
 

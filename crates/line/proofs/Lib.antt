@@ -5,6 +5,7 @@ pub mod Theorems
 pub mod Placed
 pub mod CasesBodies
 pub mod Cases
+pub mod Levels
 pub mod Starred
 pub mod Unique
 pub mod Examples

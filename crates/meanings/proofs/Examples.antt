@@ -10,10 +10,9 @@ use Rattle.text.specs.Code.{codeOf, byteOf}
 use Rattle.text.specs.Number.{isDigitTo, digitOf, isNumeral, numberOf, readNumber}
 use Rattle.text.specs.Place.{value, digits, tight}
 use Rattle.text.specs.Text.{packed, textOf, isPacked}
-use Rattle.shapes.specs.Cut.{upTo, has, before, after}
-use Rattle.shapes.specs.Picture.{isOf, fits, fitsAny, oneOf, within}
-use Rattle.shapes.specs.Pieces.{pieces}
-use Rattle.rules.specs.Form.{isStamp, isPosition}
+use Rattle.shapes.specs.Cut.{upTo, has, before, after, joins}
+use Rattle.shapes.specs.Picture.{isOf, fits, run, within}
+use Rattle.rules.specs.Form.{isStamp, isBlock, isLevel, isPosition}
 use Rattle.meanings.specs.Age.{isLastDay, dayBefore, ageOf, ageIn}
 use Rattle.meanings.specs.Meaning.{decimalOf, inMinutes, momentOf, momentIn, minutesOf, minutesIn, levelsOf, levelsIn}
 use Rattle.meanings.specs.declared.Levels.the-variants as levels
@@ -57,14 +56,13 @@ longitude-cut κs a r s p e = p ∙ ap minutesIn e
 
 -- a block is cut at its B
 pub level-cut-at-c : (κs : _) (a : _) (r : _) (s : _) → level-numbers.Post κs a r s → a .0 .0 ≡ packed (bytes "120B140") → r ≡ levels.Block 120 140
-unfolding levelsIn levelsOf oneOf fitsAny pieces fits isOf isDigit isLetter has upTo before after decimalOf readNumber isNumeral all isDigitTo digitOf numberOf value isPacked tight textOf digits byteOf packed codeOf
+unfolding levelsIn levelsOf isLevel isBlock joins run isOf isDigit isLetter has upTo before after decimalOf readNumber isNumeral all isDigitTo digitOf numberOf value isPacked tight textOf digits byteOf packed codeOf
 level-cut-at-c κs a r s p e = p ∙ ap levelsIn e
 
--- its numbers stand in the order of the text, whichever is greater
-pub block-turned-round : (κs : _) (a : _) (r : _) (s : _) → level-numbers.Post κs a r s
-    → a .0 .0 ≡ packed (bytes "140B120") → r ≡ levels.Block 140 120
-unfolding levelsIn levelsOf oneOf fitsAny pieces fits isOf isDigit isLetter has upTo before after decimalOf readNumber isNumeral all isDigitTo digitOf numberOf value isPacked tight textOf digits byteOf packed codeOf
-block-turned-round κs a r s p e = p ∙ ap levelsIn e
+-- and has its lower end first: one that falls has no numbers, neither as they stand nor turned round
+pub falling-block-told : (κs : _) (a : _) (r : _) (s : _) → level-numbers.Post κs a r s → a .0 .0 ≡ packed (bytes "140B120") → r ≡ levels.NotOne
+unfolding levelsIn levelsOf isLevel isBlock joins run isOf isDigit isLetter has upTo before after decimalOf readNumber isNumeral all isDigitTo digitOf numberOf value isPacked tight textOf digits byteOf packed codeOf
+falling-block-told κs a r s p e = p ∙ ap levelsIn e
 
 -- ---- ages
 

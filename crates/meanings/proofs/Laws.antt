@@ -18,11 +18,12 @@ use Rattle.text.specs.Bytes.{bytes}
 use Rattle.text.specs.Text.{textOf, isPacked}
 use Rattle.text.specs.Number.{isNumeral, numberOf, readNumber}
 use Rattle.text.proofs.Logic.{and-left, and-right}
-use Rattle.shapes.specs.Picture.{fits, fitsAny, oneOf, within, part}
+use Rattle.shapes.specs.Picture.{fits, within, part}
 use Rattle.shapes.specs.Cut.{upTo}
-use Rattle.shapes.specs.Pieces.{pieces}
 use Rattle.shapes.proofs.Laws.{fits-length, not-cut, is-cut, cut-before, cut-after}
 use Rattle.rules.specs.Form.{isStamp, isPosition, isLevel}
+use Rattle.rules.specs.Kind.{STAMP, LEVEL, POSITION, isForm}
+use Rattle.rules.proofs.Held.{no-bytes}
 use Rattle.meanings.specs.Meaning.{decimalOf, shownOf, signedBy, momentOf, momentIn, minutesOf, minutesIn, levelsOf, levelsIn}
 use Rattle.meanings.specs.declared.Levels.the-variants as levels
 
@@ -114,22 +115,22 @@ module _ (s : List ℕ) (i : ℕ) (at : i ≡ upTo (code "B") s) (e : isLevel s 
 
 -- ---- what is asked of the bytes that `show` left: no bytes are no field
 
-asked : {A : Type 0} (f : List ℕ → A) (t : ℕ) {s : List ℕ} → s ≡ shownOf t → f s ≡ cond (isPacked t) (f (textOf t)) (f [])
+asked : {A : Type 0} (f : List ℕ → A) (t : ℕ) {s : List ℕ} {none : A} → f [] ≡ none → s ≡ shownOf t → f s ≡ cond (isPacked t) (f (textOf t)) none
 unfolding shownOf
-asked f t e = ap f e ∙ go (isPacked t)
+asked f t {s} {none} h e = ap f e ∙ go (isPacked t)
   where
-    go : (b : Bool) → f (cond b (textOf t) []) ≡ cond b (f (textOf t)) (f [])
+    go : (b : Bool) → f (cond b (textOf t) []) ≡ cond b (f (textOf t)) none
     go true = refl
-    go false = refl
+    go false = h
 
 pub moment-in : (t : ℕ) {s : List ℕ} → s ≡ shownOf t → momentOf s ≡ momentIn t
-unfolding momentOf momentIn isStamp fits
-moment-in t e = asked momentOf t e
+unfolding momentOf momentIn isForm
+moment-in t e = asked momentOf t (rw (no-bytes STAMP)) e
 
 pub minutes-in : (t : ℕ) {s : List ℕ} → s ≡ shownOf t → minutesOf s ≡ minutesIn t
-unfolding minutesOf minutesIn isPosition fits
-minutes-in t e = asked minutesOf t e
+unfolding minutesOf minutesIn isForm
+minutes-in t e = asked minutesOf t (rw (no-bytes POSITION)) e
 
 pub levels-in : (t : ℕ) {s : List ℕ} → s ≡ shownOf t → levelsOf s ≡ levelsIn t
-unfolding levelsOf levelsIn oneOf fitsAny pieces fits
-levels-in t e = asked levelsOf t e
+unfolding levelsOf levelsIn isForm
+levels-in t e = asked levelsOf t (rw (no-bytes LEVEL)) e

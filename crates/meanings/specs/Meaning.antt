@@ -1,5 +1,5 @@
 -- What the text of a field means (document 01, "The line" and "Fields"). Assumes nothing.
-use Prim.Native.Nat.{ℕ, _+_, _*_, _/_, _%_}
+use Prim.Native.Nat.{ℕ, _+_, _*_, _/_, _%_, _≤_}
 use Prim.Native.Char.{code}
 use mathlib.Core.Bool.{Bool, true, false, cond}
 use mathlib.Core.List.{List, []}
@@ -13,6 +13,7 @@ use Rattle.text.specs.declared.Numeral.the-variants as numeral
 use Rattle.shapes.specs.Picture.{part}
 use Rattle.shapes.specs.Cut.{has, before, after}
 use Rattle.rules.specs.Form.{isStamp, isPosition, isLevel}
+use Rattle.rules.specs.Level.{Digits, Block, Level}
 use Rattle.meanings.specs.declared.Moment.{Moment}
 use Rattle.meanings.specs.declared.When.{When}
 use Rattle.meanings.specs.declared.When.the-variants as when
@@ -73,3 +74,9 @@ levelsOf s =
 
 unfoldable pub levelsIn : ℕ → Levels
 levelsIn t = cond (isPacked t) (levelsOf (textOf t)) levels.NotOne
+
+-- what is told of a text, in the numbers of the rule; `proofs/Blocks` shows that it is so
+abbrev pub Tells : List ℕ → Levels → Type 0
+Tells s (levels.One n) = Digits n s
+Tells s (levels.Block n m) = Block n m s × (n ≤ m)
+Tells s levels.NotOne = Level s → ⊥

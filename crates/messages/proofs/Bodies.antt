@@ -333,23 +333,39 @@ take-pairs zero xs = refl
 take-pairs (suc j) [] = refl
 take-pairs (suc j) (x ∷ xs) = ap (λ (l : List Value). valueOfWord (x .mark) ∷ x .content ∷ l) (take-pairs j xs)
 
+-- the fields of an AF: its ident, two points, and as many amendments as marks are set
+module _ (a : Af) (c : isCount type.Af (fieldCount (body.Af a)) ≡ true) where
+  abbrev pub some : ℕ
+  some = ones (a .marks)
+
+  count : (fieldCount (body.Af a) ≡ suc (suc (suc (double some)))) × (some ≤ 8)
+  unfolding fieldCount countWith
+  count = (omega (arith, double-is some), omega (arith, count-pairs (3 + 2 * some) c .1))
+
+  pub af-kinds : kindsOf type.Af (fieldCount (body.Af a)) ≡ IDENT ∷ POINT ∷ POINT ∷ amendments some
+  unfolding kindsOf
+  af-kinds = rw (count .0) (ap (λ (ks : List ℕ). IDENT ∷ POINT ∷ POINT ∷ ks) (take-amendments some 8 (count .1)))
+
+  pub af-values : valuesIn (body.Af a) ≡ valueOfIdent (a .ident) ∷ valueOfWord (a .from .0) ∷ valueOfWord (a .to .0) ∷ pairsOf (take some (slotsOf a))
+  unfolding valuesIn slots
+  af-values = rw (count .0) (ap (λ (vs : List Value). valueOfIdent (a .ident) ∷ valueOfWord (a .from .0) ∷ valueOfWord (a .to .0) ∷ vs) (take-pairs some (slotsOf a)))
+
+  -- what the first three leave may be anything
+  pub af-amendments : (r : List ℕ) → allowedFrom (kindsOf type.Af (fieldCount (body.Af a))) 0 0 r (valuesIn (body.Af a)) ≡ true
+      → (p : ℕ) × (m : ℕ) × (allowedFrom (amendments some) p m r (pairsOf (take some (slotsOf a))) ≡ true)
+  af-amendments r e =
+      let f = valueOfWord (a .from .0) in
+      let t = valueOfWord (a .to .0) in
+      let ps = pairsOf (take some (slotsOf a)) in
+      let x = allowed-rest IDENT (POINT ∷ POINT ∷ amendments some) 0 0 r (valueOfIdent (a .ident)) (f ∷ t ∷ ps) (rw (af-kinds, af-values) at e) in
+      (_, _, allowed-rest POINT (amendments some) _ _ r t ps (allowed-rest POINT (POINT ∷ amendments some) _ _ r f (t ∷ ps) x))
+
 -- THE LAW of typed amendments: those of an AF that a line can have are what their types keep
 pub amendments-kept : (a : Af) (r : List ℕ) → isCount type.Af (fieldCount (body.Af a)) ≡ true → allowedFrom (kindsOf type.Af (fieldCount (body.Af a))) 0 0 r (valuesIn (body.Af a)) ≡ true
     → map (λ (x : Amendment). heldOf (amendedIn x)) (take (ones (a .marks)) (slotsOf a)) ≡ take (ones (a .marks)) (slotsOf a)
-unfolding fieldCount countWith kindsOf valuesIn slots
 amendments-kept a r c e =
-    let o = ones (a .marks) in
-    let n : 3 + 2 * o ≡ suc (suc (suc (double o))) = omega (arith, double-is o) in
-    let l : o ≤ 8 = omega (arith, count-pairs (3 + 2 * o) c .1) in
-    let i = valueOfIdent (a .ident) in
-    let f = valueOfWord (a .from .0) in
-    let t = valueOfWord (a .to .0) in
-    let x = subst (λ (k : ℕ). allowedFrom (take k (IDENT ∷ POINT ∷ POINT ∷ amendments 8)) 0 0 r (take k (i ∷ f ∷ t ∷ pairsOf (slotsOf a))) ≡ true) n e in
-    let y = subst (λ (ks : List ℕ). allowedFrom (IDENT ∷ POINT ∷ POINT ∷ ks) 0 0 r (i ∷ f ∷ t ∷ take (double o) (pairsOf (slotsOf a))) ≡ true) (take-amendments o 8 l) x in
-    let z = subst (λ (vs : List Value). allowedFrom (IDENT ∷ POINT ∷ POINT ∷ amendments o) 0 0 r (i ∷ f ∷ t ∷ vs) ≡ true) (take-pairs o (slotsOf a)) y in
-    let ps = pairsOf (take o (slotsOf a)) in
-    let u = allowed-rest POINT (POINT ∷ amendments o) _ _ r f (t ∷ ps) (allowed-rest IDENT (POINT ∷ POINT ∷ amendments o) 0 0 r i (f ∷ t ∷ ps) z) in
-    amended-all o _ _ r (take o (slotsOf a)) (allowed-rest POINT (amendments o) _ _ r t ps u)
+    let (p, m, x) = af-amendments a c r e in
+    amended-all (ones (a .marks)) p m r (take (ones (a .marks)) (slotsOf a)) x
 
 -- of values by the kinds of three fields and j pairs
 af-slots : (j m : ℕ) (r : List ℕ) (vs : List Value) → j ≤ 8 → allowedFrom (IDENT ∷ POINT ∷ POINT ∷ amendments j) 0 0 r vs ≡ true → slots (body.Af (afFrom m (padded vs))) ≡ padded vs

@@ -16,7 +16,7 @@ use Rattle.text.specs.Text.{textOf, packed}
 use Rattle.shapes.specs.Cut.{upTo, has, before, after, joins}
 use Rattle.shapes.specs.Picture.{isOf, fits, fitsAny, oneOf, run, within}
 use Rattle.shapes.specs.Pieces.{pieces}
-use Rattle.rules.specs.Form.{isKey, isIdent, isTzIdent, isFix, isTime, isClock, isPosition}
+use Rattle.rules.specs.Form.{isKey, isIdent, isTzIdent, isFix, isTime, isClock, isBlock, isLevel, isPosition}
 use Rattle.rules.specs.Kind.{isForm}
 use Rattle.fields.specs.Aircraft.{aircraftOf, plainOf, prefixedOf}
 use Rattle.fields.specs.Ident.{identFrom, identOf, tzIdentOf}
@@ -118,7 +118,7 @@ abbrev answered : BodyRead
 answered = read.Read (bodyFrom type.Af (markOf (bytes "08")) (padded (word "NVL88" ∷ word "BOS" ∷ word "ALB" ∷ valueOfWord (markOf (bytes "08")) ∷ word "290" ∷ []))) false
 
 read-as : (bodyRead type.Rz (bytes " NVL88 BOS A-B") ≡ read.Refused (fault.Field 3)) × (bodyRead type.Af (bytes " NVL88 BOS ALB 08 290") ≡ answered)
-unfolding bodyRead padded answerBy valuesBy countIn kindsOf isCount countWith answerOf answers answerFrom valuesOf values valuesFrom counted fieldsOf ended readIn readKind readMark barred plain traceOf marksOf contentOf follows markOf identOf identFrom wordOf isForm isKey isIdent has before after upTo oneOf fitsAny fits pieces run isOf isAlnum isDigit isLetter all allIn packed value codeOf
+unfolding bodyRead padded answerBy valuesBy countIn kindsOf isCount countWith answerOf answers answerFrom valuesOf values valuesFrom counted fieldsOf ended readIn readKind readMark barred plain traceOf marksOf contentOf follows markOf identOf identFrom wordOf isForm isKey isIdent isLevel has before after upTo oneOf fitsAny fits pieces run isOf isAlnum isDigit isLetter all allIn packed value codeOf
 read-as = (refl, refl)
 
 -- a point has no dash: 9 with its place, not 10
@@ -164,7 +164,7 @@ refuses t s (x ∷ l) e = ((λ p q. rw (p, q) (ap (λ bs. getD bs 0 (read.Refuse
 
 pub speeds-and-levels : (κs : _) (a : _) (r : _) (s : _) → read-body.Post κs a r s → Refuses (a .0) (now (a .1 .0)) r notHandedOn
 unfolding bodyRead answerBy valuesBy countIn kindsOf isCount answerOf answers answerFrom counted fieldsOf ended readIn readKind readMark barred plain traceOf marksOf
-    contentOf follows markOf identOf tzIdentOf wordOf aircraftOf plainOf prefixedOf pairOf isPairForm isForm isKey isIdent isTzIdent isFix isTime isClock isPosition
+    contentOf follows markOf identOf tzIdentOf wordOf aircraftOf plainOf prefixedOf pairOf isPairForm isForm isKey isIdent isTzIdent isFix isTime isClock isBlock isLevel isPosition
     joins has before after upTo oneOf fitsAny fits pieces run isOf isAlnum isDigit isLetter all within isNumeral isDigitTo digitOf numberOf value codeOf
 speeds-and-levels κs a r s p = rw p (refuses (a .0) (now (a .1 .0)) notHandedOn refl)
 

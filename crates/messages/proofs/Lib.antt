@@ -5,5 +5,7 @@ pub mod ReadWays
 pub mod Theorems
 pub mod Named
 pub mod Keys
+pub mod InOrder
+pub mod Levels
 pub mod Unique
 pub mod Examples

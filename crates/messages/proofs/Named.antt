@@ -1,9 +1,9 @@
 -- THE LAW of named parts: of a body that reads each named part is the field at document 01's place, and no field is left out. Assumes
 -- nothing.
-use mathlib.Core.Path.{_≡_, refl, sym, ap, _∙_, subst}
+use mathlib.Core.Path.{_≡_, refl, sym, ap, _∙_}
 use mathlib.Core.Bool.{Bool, true}
 use mathlib.Core.List.{List, [], _∷_, map}
-use Prim.Native.Nat.{ℕ, zero, suc, _+_, _*_, _-_, _≤_}
+use Prim.Native.Nat.{ℕ, zero, suc, _+_, _*_, _-_}
 use native.Mathlib.Omega.{arith}
 use lib.Count.{ones}
 use lib.ListN.{length, getD, take, drop, length-take}
@@ -28,7 +28,7 @@ use Rattle.messages.specs.declared.Af.{Af}
 use Rattle.messages.specs.declared.Body.{Body}
 use Rattle.messages.specs.declared.Body.the-variants as body
 use Rattle.messages.specs.declared.typed.BodyRead.the-variants as read
-use Rattle.messages.proofs.Bodies.{allowed-first, allowed-rest, double, double-is, take-amendments, take-pairs, mark-value, count-pairs}
+use Rattle.messages.proofs.Bodies.{allowed-first, allowed-rest, double, double-is, mark-value, count-pairs, af-kinds, af-values}
 use Rattle.messages.proofs.ReadWays.{by-table}
 use Rattle.messages.proofs.Theorems.{fields-held, counted, allowed, parts}
 
@@ -93,18 +93,7 @@ Texts ps r ks vs = allowedFrom ks 0 0 r vs ≡ true → textsFrom ks 0 r vs ≡ 
 
 named-texts : (b : Body) (r : List ℕ) → isCount (typeIn b) (fieldCount b) ≡ true → Texts (named b r) r (kindsIn b) (valuesIn b)
 unfolding named textsFrom shown shownKind plain kindsIn kindsOf valuesIn fieldCount countWith slots
-named-texts (body.Af a) r c =
-    let o = ones (a .marks) in
-    let n : 3 + 2 * o ≡ suc (suc (suc (double o))) = omega (arith, double-is o) in
-    let l : o ≤ 8 = omega (arith, count-pairs (3 + 2 * o) c .1) in
-    let i = valueOfIdent (a .ident) in
-    let f = valueOfWord (a .from .0) in
-    let t = valueOfWord (a .to .0) in
-    let w = named (body.Af a) r in
-    let ps = pairsOf (slotsOf a) in
-    let x = subst (λ (vs : List Value). Texts w r (IDENT ∷ POINT ∷ POINT ∷ amendments o) (i ∷ f ∷ t ∷ vs)) (sym (take-pairs o (slotsOf a))) (af-texts a o r (take o (slotsOf a))) in
-    let y = subst (λ (ks : List ℕ). Texts w r (IDENT ∷ POINT ∷ POINT ∷ ks) (i ∷ f ∷ t ∷ take (double o) ps)) (sym (take-amendments o 8 l)) x in
-    subst (λ (k : ℕ). Texts w r (take k (IDENT ∷ POINT ∷ POINT ∷ amendments 8)) (take k (i ∷ f ∷ t ∷ ps))) (sym n) y
+named-texts (body.Af a) r c = rw (af-kinds a c, af-values a c) (af-texts a (ones (a .marks)) r (take (ones (a .marks)) (slotsOf a)))
 named-texts (body.Az m) r c = λ e. refl
 named-texts (body.Dz m) r c = λ e. refl
 named-texts (body.Fz p) r c = λ e. refl

@@ -2,3 +2,4 @@ pub mod Body
 pub mod Allowed
 pub mod Read
 pub mod Named
+pub mod Levels

@@ -1,37 +1,30 @@
 -- The fields of a DZ, AZ or TZ that a line can have: each word that the board keeps is of its kind. Assumes nothing.
-use mathlib.Core.Path.{_≡_, refl, sym, _∙_}
-use mathlib.Core.Bool.{Bool, true, false, not, _&&_, _||_}
+use mathlib.Core.Path.{_≡_, refl}
+use mathlib.Core.Bool.{Bool, true, not, _&&_, _||_}
 use mathlib.Core.List.{List, [], _∷_}
 use Prim.Native.Nat.{ℕ}
 use lib.Dec.{eqb}
-use lib.ListN.{length}
 use Rattle.text.specs.Text.{textOf}
-use Rattle.text.proofs.Logic.{and-left, and-right}
+use Rattle.text.proofs.Logic.{and-left}
 use Rattle.rules.specs.Form.{isClock, isArrival}
 use Rattle.rules.specs.Kind.{KEY, NUMBER, POINT, TIME, CLOCK, ARRIVAL, GROUND-SPEED, TRACK-LEVEL, POSITION, isForm}
 use Rattle.fields.specs.Word.{isWord}
 use Rattle.fields.specs.Pair.{isPair}
 use Rattle.fields.proofs.WordLaws.{word-packed, word-form}
 use Rattle.fields.specs.Ident.{isIdentValue}
-use Rattle.table.specs.Field.{IDENT, TZ-IDENT, AIRCRAFT, identIn, isOne, isTwo, plain, traceOf, marksOf, isKindValue, isValue, shown}
+use Rattle.table.specs.Field.{IDENT, TZ-IDENT, AIRCRAFT, identIn, isTwo, plain, isKindValue, isValue}
 use Rattle.table.specs.declared.kinds.Value.{Value}
 use Rattle.table.specs.Read.{padded}
-use Rattle.table.specs.Show.{allowedFrom, marksFrom}
-use Rattle.table.specs.Table.{countWith, isCount, kindsOf}
-use Rattle.messages.specs.Body.{typeIn, valueOfWord, valueOfIdent, valueOfAircraft, slots, fieldCount, valuesIn, spare, marksIn}
-use Rattle.messages.specs.Allowed.{isWhole, hasRoute, kindsIn, allNone, isFielded, isBody}
+use Rattle.table.specs.Table.{countWith, kindsOf}
+use Rattle.messages.specs.Body.{valueOfWord, valueOfIdent, valueOfAircraft, slots, fieldCount, valuesIn}
+use Rattle.messages.specs.Allowed.{isWhole, kindsIn, isBody}
 use Rattle.messages.specs.declared.Az.{Az}
 use Rattle.messages.specs.declared.Dz.{Dz}
 use Rattle.messages.specs.declared.Tz.{Tz}
-use Rattle.messages.specs.declared.Body.{Body}
 use Rattle.messages.specs.declared.Body.the-variants as body
-use Rattle.messages.proofs.Bodies.{allowed-first, allowed-rest}
+use Rattle.messages.proofs.InOrder.{First, first, next, word-in, body-values}
 
 -- ---- one value
-
--- a kind that is held as its text; q says that k is such a kind
-word-in : (k p : ℕ) (r : List ℕ) (v : Value) → isValue k p r v ≡ (isWord k (v .a) && isOne v) → isValue k p r v ≡ true → isWord k (v .a) ≡ true
-word-in k p r v q e = and-left (isWord k (v .a)) (isOne v) (sym q ∙ e)
 
 pair-key : (v : Value) → isIdentValue (identIn v) ≡ true → isWord KEY (v .a) ≡ true
 unfolding isPair
@@ -54,54 +47,6 @@ unfolding isWord isForm isArrival
 clock-arrival t e =
     let f : isClock (textOf t) ≡ true = word-form CLOCK t e in
     rw (word-packed CLOCK t e, f)
-
--- ---- the values of a body
-
-module _ (b : Body) (r : List ℕ) where
-  abbrev a₁ : Bool
-  a₁ = isCount (typeIn b) (fieldCount b)
-
-  abbrev a₂ : Bool
-  a₂ = allowedFrom (kindsIn b) 0 0 r (valuesIn b)
-
-  abbrev a₃ : Bool
-  a₃ = eqb (marksFrom (kindsIn b) 0 0 r (valuesIn b)) (marksIn b)
-
-  abbrev a₄ : Bool
-  a₄ = allNone (spare b)
-
-  abbrev a₅ : Bool
-  a₅ = hasRoute b || eqb (length r) 0
-
-  fielded-values : isFielded b r ≡ true → allowedFrom (kindsIn b) 0 0 r (valuesIn b) ≡ true
-  unfolding isFielded
-  fielded-values e = and-right a₁ a₂ (and-left (a₁ && a₂) a₃ (and-left (a₁ && a₂ && a₃) a₄ (and-left (a₁ && a₂ && a₃ && a₄) a₅ e)))
-
-  body-values : (t : Bool) → isWhole b ≡ false → isBody b r t ≡ true → allowedFrom (kindsIn b) 0 0 r (valuesIn b) ≡ true
-  unfolding isBody
-  body-values t q e = fielded-values (rw q at e)
-
--- ---- one value after the other: what the values before it left may be anything
-
-pub record First (k : ℕ) (ks : List ℕ) (r : List ℕ) (v : Value) (vs : List Value) : Type 0 where
-  pub left : ℕ
-  pub value : isValue k left r v ≡ true
-  pub left-after : ℕ
-  pub marks-after : ℕ
-  pub others : allowedFrom ks left-after marks-after r vs ≡ true
-
-first : (k : ℕ) (ks : List ℕ) (p m : ℕ) (r : List ℕ) (v : Value) (vs : List Value) → allowedFrom (k ∷ ks) p m r (v ∷ vs) ≡ true → First k ks r v vs
-first k ks p m r v vs e =
-    record {
-      left = p;
-      value = allowed-first k ks p m r v vs e;
-      left-after = traceOf k (shown k p r v);
-      marks-after = marksOf k m (shown k p r v);
-      others = allowed-rest k ks p m r v vs e;
-    }
-
-next : {k j : ℕ} {ks r : List ℕ} {v w : Value} {vs : List Value} → First k (j ∷ ks) r v (w ∷ vs) → First j ks r w vs
-next {k} {j} {ks} {r} {v} {w} {vs} f = first j ks (f .left-after) (f .marks-after) r w vs (f .others)
 
 -- ---- by type
 

@@ -16,7 +16,7 @@ use Rattle.text.specs.Place.{value}
 use Rattle.shapes.specs.Cut.{upTo, has, before, after, joins}
 use Rattle.shapes.specs.Picture.{isOf, fits, fitsAny, oneOf, within, run}
 use Rattle.shapes.specs.Pieces.{pieces}
-use Rattle.rules.specs.Form.{isFacility, isPosition, isRoute, isStamp, isKey, isFix, isClock, isTime, isArrival}
+use Rattle.rules.specs.Form.{isFacility, isPosition, isRoute, isStamp, isKey, isFix, isClock, isTime, isArrival, isBlock, isLevel}
 use Rattle.rules.specs.Kind as kinds
 use Rattle.rules.specs.Kind.{isForm}
 use Rattle.rules.proofs.clocks.is_stamp.Reads as is-stamp
@@ -96,10 +96,12 @@ table =
     ++ (rows kinds.TIME ("D1200" ∷ "E0000" ∷ "P2359" ∷ []) ("D12000" ∷ "A1200" ∷ [])  -- time_6, time_any_letter
     ++ (rows kinds.CLOCK ("0000" ∷ "2359" ∷ []) ("2400" ∷ "1260" ∷ "A1200" ∷ [])  -- clock_2400, clock_minute_60, clock_with_a_letter
     ++ (rows kinds.ARRIVAL ("1200" ∷ "A1200" ∷ "E2359" ∷ []) ("P1200" ∷ "A2400" ∷ [])  -- arrival_p, arrival_2400
-    ++ (rows kinds.LEVEL ("35" ∷ "350" ∷ "35B350" ∷ "350B35" ∷ []) ("3" ∷ "35C350" ∷ [])  -- level_1, level_c_between
-    ++ (rows kinds.TRACK-LEVEL ("350" ∷ "350C" ∷ []) ("35" ∷ "350CC" ∷ [])  -- track_level_2, track_level_two_letters
+    ++ (rows kinds.LEVEL ("35" ∷ "350" ∷ "35B350" ∷ []) ("3" ∷ "35C350" ∷ "0350" ∷ "35B3500" ∷ [])  -- level_1, level_c_between, level_4, block_4
+    -- block_falls, block_as_texts, block_equal_refused: of every pair of widths the second below, at and above the first
+    ++ (rows kinds.LEVEL ("34B35" ∷ "35B35" ∷ "34B035" ∷ "99B100" ∷ "05B005" ∷ "034B35" ∷ "005B05" ∷ "349B350" ∷ "350B350" ∷ []) ("36B35" ∷ "36B035" ∷ "036B35" ∷ "100B99" ∷ "351B350" ∷ "350B310" ∷ [])
+    ++ (rows kinds.TRACK-LEVEL ("350" ∷ "350C" ∷ "350B" ∷ []) ("35" ∷ "350CC" ∷ "110B130" ∷ [])  -- track_level_2, track_level_two_letters, track_level_block
     ++ (rows kinds.POSITION ("9000N/18000W" ∷ "0000S/00000E" ∷ []) ("9001N/00000E" ∷ "8960N/00000E" ∷ [])  -- position_9001, position_minute_60
-    ++ rows (code "Z") [] ("12" ∷ "" ∷ [])))))))))))))))))  -- a letter that names no kind
+    ++ rows (code "Z") [] ("12" ∷ "" ∷ []))))))))))))))))))  -- a letter that names no kind
 
 -- the kind k and the text t being a row's, r is the row's answer; and so of each row
 abbrev pub Tells : ℕ → List ℕ → Bool → List Row → Type 0
@@ -111,7 +113,7 @@ tells k t [] e = tt
 tells k t (x ∷ l) e = ((λ p q. rw (p, q) (ap (λ bs. getD bs 0 true) e)), tells k t l (ap (drop 1) e))
 
 pub every-form : (κs : _) (a : _) (r : _) (s : _) → is-form.Post κs a r s → Tells (a .0) (now (a .1 .0)) r table
-unfolding isForm isStamp isKey isFix isClock isTime isArrival isPosition joins has before after upTo isOf fits fitsAny oneOf run within
+unfolding isForm isStamp isKey isFix isClock isTime isArrival isBlock isLevel isPosition joins has before after upTo isOf fits fitsAny oneOf run within
     pieces all isDigit isLetter isAlnum codeOf value isDigitTo digitOf isNumeral numberOf
 every-form κs a r s p = rw p (tells (a .0) (now (a .1 .0)) table refl)
 

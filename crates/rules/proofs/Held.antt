@@ -12,14 +12,14 @@ use borrow.Author.Tests.{le-leb, leb-true, eqb-true}
 use Rattle.text.specs.Bytes.{bytes}
 use Rattle.text.specs.Class.{all, isDigit, isLetter, isAlnum, isTextByte}
 use Rattle.text.specs.Text.{isText}
-use Rattle.text.proofs.Logic.{and-left, and-right, true-false, not-fails, either-of, pick, pick-with}
+use Rattle.text.proofs.Logic.{and-left, and-right, true-false, not-fails, not-holds, either-of, pick, pick-with}
 use Rattle.text.proofs.Codes.{all-between}
 use Rattle.shapes.specs.Pieces.{pieces}
 use Rattle.shapes.specs.Picture.{either, isOf, fits, pictures, fitsAny, oneOf, run, part}
 use Rattle.shapes.specs.Cut.{before, after, joins}
 use Rattle.shapes.proofs.Laws.{fits-length, run-least, run-most, run-class}
 use Rattle.shapes.proofs.Joins.{joins-parts}
-use Rattle.rules.specs.Form.{isSequence, isStamp, isKey, isNumber, isPrefix, isModel, isOneLetter, isFiledSpeed, isGroundSpeed, isPoint, isFix, isClock, isTime, isArrival, isLevel, isTrackLevel, isPosition}
+use Rattle.rules.specs.Form.{isSequence, isStamp, isKey, isNumber, isPrefix, isModel, isOneLetter, isFiledSpeed, isGroundSpeed, isPoint, isFix, isClock, isTime, isArrival, isHeight, isBlock, isLevel, isTrackLevel, isPosition}
 use Rattle.rules.specs.Kind.{SEQUENCE, STAMP, KEY, NUMBER, PREFIX, MODEL, LETTER, FILED-SPEED, GROUND-SPEED, POINT, FIX, TIME, CLOCK, ARRIVAL, LEVEL, TRACK-LEVEL, POSITION, isForm}
 
 pub record Held (s : List ℕ) : Type 0 where
@@ -177,6 +177,12 @@ arrival-held s =
     either-of (isClock s) (fits (bytes "mdddd") s && isClock (part 1 4 s)) (clock-held s)
     (λ e. fits-held (bytes "mdddd") s refl (and-left (fits (bytes "mdddd") s) (isClock (part 1 4 s)) e))
 
+level-held : (s : List ℕ) → isLevel s ≡ true → Held s
+unfolding isLevel isBlock textual isTextByte isAlnum isDigit isLetter
+level-held s =
+    either-of (isHeight s) (isBlock s) (run-held (code "d") 2 3 s refl (lit≤ tt) (lit≤ tt))
+    (λ e. joins-held (code "B") (code "d") 2 3 2 3 s refl refl (lit≤ tt) (not-fails _ (λ q. true-false (rw q at e) refl)))
+
 position-held : (s : List ℕ) → isPosition s ≡ true → Held s
 unfolding isPosition suits textual all isTextByte isAlnum isDigit isLetter
 position-held s e = fits-held (bytes "ddddn/ddddde") s refl (not-fails _ (λ q. true-false (rw q at e) refl))
@@ -199,6 +205,10 @@ form-held k s =
     (pick (eqb k TIME) (isTime s) _ (time-held s)
     (pick (eqb k CLOCK) (isClock s) _ (clock-held s)
     (pick (eqb k ARRIVAL) (isArrival s) _ (arrival-held s)
-    (pick (eqb k LEVEL) (isLevel s) _ (one-held (bytes "dd|ddd|ddBdd|ddBddd|dddBdd|dddBddd") s refl)
+    (pick (eqb k LEVEL) (isLevel s) _ (level-held s)
     (pick (eqb k TRACK-LEVEL) (isTrackLevel s) _ (one-held (bytes "ddd|dddl") s refl)
     (pick (eqb k POSITION) (isPosition s) false (position-held s) (λ e. true-false e refl)))))))))))))))))
+
+-- so no bytes have no form
+pub no-bytes : (k : ℕ) → isForm k [] ≡ false
+no-bytes k = not-holds (isForm k []) (λ e. absurd (omega (arith, form-held k [] e .some)))

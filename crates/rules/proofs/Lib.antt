@@ -3,6 +3,7 @@ pub mod Minutes
 pub mod Parts
 pub mod ClockNumbers
 pub mod Runs
+pub mod Levels
 pub mod Unique
 pub mod Examples
 pub mod Widths

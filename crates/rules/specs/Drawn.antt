@@ -3,8 +3,8 @@ use Prim.Native.Nat.{ℕ}
 use mathlib.Core.Bool.{Bool, false, cond}
 use mathlib.Core.List.{List}
 use lib.Dec.{eqb}
-use Rattle.rules.specs.Form.{isSequence, isNumber, isPrefix, isOneLetter, isFiledSpeed, isGroundSpeed, isLevel, isTrackLevel}
-use Rattle.rules.specs.Kind.{SEQUENCE, NUMBER, PREFIX, LETTER, FILED-SPEED, GROUND-SPEED, LEVEL, TRACK-LEVEL}
+use Rattle.rules.specs.Form.{isSequence, isNumber, isPrefix, isOneLetter, isFiledSpeed, isGroundSpeed, isTrackLevel}
+use Rattle.rules.specs.Kind.{SEQUENCE, NUMBER, PREFIX, LETTER, FILED-SPEED, GROUND-SPEED, TRACK-LEVEL}
 
 -- the form of such a kind; any other letter has none here
 unfoldable pub isDrawn : ℕ → List ℕ → Bool
@@ -15,5 +15,4 @@ isDrawn k s =
     (cond (eqb k LETTER) (isOneLetter s)
     (cond (eqb k FILED-SPEED) (isFiledSpeed s)
     (cond (eqb k GROUND-SPEED) (isGroundSpeed s)
-    (cond (eqb k LEVEL) (isLevel s)
-    (cond (eqb k TRACK-LEVEL) (isTrackLevel s) false)))))))
+    (cond (eqb k TRACK-LEVEL) (isTrackLevel s) false))))))

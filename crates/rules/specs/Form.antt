@@ -7,8 +7,9 @@ use lib.ListN.{length, getD}
 use lib.Dec.{leb}
 use Rattle.text.specs.Bytes.{bytes}
 use Rattle.text.specs.Class.{all}
+use Rattle.text.specs.Number.{numberOf}
 use Rattle.shapes.specs.Picture.{isOf, fits, oneOf, run, within, part}
-use Rattle.shapes.specs.Cut.{joins}
+use Rattle.shapes.specs.Cut.{before, after, joins}
 
 -- ---- the line
 
@@ -79,9 +80,15 @@ isTime s = fits (bytes "tdddd") s && isClock (part 1 4 s)
 unfoldable pub isArrival : List ℕ → Bool
 isArrival s = isClock s || (fits (bytes "mdddd") s && isClock (part 1 4 s))
 
--- level: "2 or 3 digits, or two such with B between"
-abbrev pub isLevel : List ℕ → Bool
-isLevel s = oneOf (bytes "dd|ddd|ddBdd|ddBddd|dddBdd|dddBddd") s
+-- level: "2 or 3 digits, or two such with B between", and of these two "the second number must be no smaller than the first as a number" (02, d)
+abbrev pub isHeight : List ℕ → Bool
+isHeight s = run (code "d") 2 3 s
+
+unfoldable pub isBlock : List ℕ → Bool
+isBlock s = joins (code "B") isHeight isHeight s && leb (numberOf 10 (before (code "B") s)) (numberOf 10 (after (code "B") s))
+
+unfoldable pub isLevel : List ℕ → Bool
+isLevel s = isHeight s || isBlock s
 
 -- track level: "3 digits and optionally a letter"
 abbrev pub isTrackLevel : List ℕ → Bool

@@ -2,3 +2,4 @@ pub mod Form
 pub mod Kind
 pub mod Frame
 pub mod Drawn
+pub mod Level

@@ -13,12 +13,13 @@ use shapes::one_of;
 use shapes::run;
 use text::Numeral;
 ghost use mathlib.Core.Path.{_≡_};
-ghost use mathlib.Core.Bool.{_&&_};
+ghost use mathlib.Core.Bool.{_&&_, cond};
 ghost use Prim.Native.Nat.{_%_};
 ghost use lib.Dec.{leb};
 ghost use Rattle.text.specs.Number.{numberOf};
+ghost use Rattle.text.specs.declared.Numeral.the-variants.{Value, Nothing};
 ghost use Rattle.shapes.specs.Picture.{within};
-ghost use Rattle.rules.specs.Form.{isFacility, isKey, isFix, isPosition, isRoute, isNumber, isTrackLevel};
+ghost use Rattle.rules.specs.Form.{isFacility, isKey, isFix, isPosition, isRoute, isHeight, isBlock, isLevel, isNumber, isTrackLevel};
 ghost use Rattle.rules.specs.Kind.{isForm};
 ghost use Rattle.rules.specs.Drawn.{isDrawn};
 
@@ -126,6 +127,41 @@ pub fn is_route(s: &[u8]) -> bool
     run(b'v', 1, n, s)
 }
 
+// The number of 2 or 3 digits.
+fn height(s: &[u8]) -> Numeral
+    ensures { λ r. ⌜ r ≡ cond (isHeight (now (s .entry))) (Value (numberOf 10 (now (s .entry)))) Nothing ⌝ }
+{
+    if !run(b'd', 2, 3, s) {
+        return Numeral::Nothing;
+    }
+    text::number(s, 10)
+}
+
+// Two heights with B between them, the second no smaller than the first as a number: 05B005 is one, 100B99 is not.
+fn is_block(s: &[u8]) -> bool
+    ensures { λ r. ⌜ r ≡ isBlock (now (s .entry)) ⌝ }
+{
+    let i = find(b'B', s);
+    if i >= s.len() {
+        return false;
+    }
+    let j = i + 1;
+    let Numeral::Value(first) = height(&s[..i]) else {
+        return false;
+    };
+    let Numeral::Value(second) = height(&s[j..]) else {
+        return false;
+    };
+    first <= second
+}
+
+// A height, or a block of two.
+fn is_level(s: &[u8]) -> bool
+    ensures { λ r. ⌜ r ≡ isLevel (now (s .entry)) ⌝ }
+{
+    run(b'd', 2, 3, s) || is_block(s)
+}
+
 // Two digits and an alnum.
 fn is_number(s: &[u8]) -> bool
     ensures { λ r. ⌜ r ≡ isNumber (now (s .entry)) ⌝ }
@@ -157,7 +193,6 @@ fn is_drawn(kind: u8, s: &[u8]) -> bool
         LETTER => run(b'l', 1, 1, s),
         FILED_SPEED => run(b'd', 2, 4, s) || one_of(b"lddd|SC", s),
         GROUND_SPEED => run(b'd', 3, 3, s),
-        LEVEL => run(b'd', 2, 3, s) || one_of(b"ddBdd|ddBddd|dddBdd|dddBddd", s),
         TRACK_LEVEL => is_track_level(s),
         _ => false,
     }
@@ -176,6 +211,7 @@ pub fn is_form(kind: u8, s: &[u8]) -> bool
         TIME => is_time(s),
         CLOCK => is_clock(s),
         ARRIVAL => is_arrival(s),
+        LEVEL => is_level(s),
         POSITION => is_position(s),
         _ => is_drawn(kind, s),
     }

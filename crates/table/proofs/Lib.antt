@@ -17,5 +17,6 @@ pub mod MarksKept
 pub mod Routes
 pub mod RoutePlaces
 pub mod Amends
+pub mod Levels
 pub mod Unique
 pub mod Examples

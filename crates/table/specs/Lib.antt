@@ -7,3 +7,4 @@ pub mod Spacing
 pub mod Read
 pub mod Show
 pub mod Fault
+pub mod Levels

@@ -1,7 +1,7 @@
 -- THE ONE FACT of digits, over base and width: the number of the digits, and the digits of the number, zeros in front kept.
 -- Assumes nothing.
 use mathlib.Core.Path.{_≡_, refl, sym, _∙_}
-use mathlib.Core.Bool.{Bool, true, false}
+use mathlib.Core.Bool.{Bool, true, false, cond}
 use mathlib.Core.List.{List, [], _∷_, map}
 use Prim.Native.Nat.{ℕ, suc, _-_, _^_, _≤_, _<_, zero-le}
 use native.Mathlib.Omega.{arith}
@@ -77,20 +77,20 @@ module _ (hi : ℕ) (few : suc hi ≤ 36) (w n : ℕ) (h : n < suc hi ^ w) where
   unfolding padded
   padded-digits = digits-all (suc hi) (map (λ d. byteOf (suc d)) (places (suc hi) w n)) ∙ are-digits hi few (places (suc hi) w n) (places-in (suc hi) hi (omega arith) w n (omega arith) h)
 
--- ---- what `number` finds
+-- ---- a number that is told where a test holds, as `number` tells it
+
+pub told-known : (b : Bool) (k : ℕ) {n : ℕ} → cond b (Value k) Nothing ≡ Value n → (b ≡ true) × (n ≡ k)
+told-known true k e = (refl, (cc))
+told-known false k e = ((cc), (cc))
+
+pub told-none : (b : Bool) (k : ℕ) → cond b (Value k) Nothing ≡ Nothing → b ≡ false
+told-none true k e = cc
+told-none false k e = refl
 
 pub number-known : (B : ℕ) (s : List ℕ) {n : ℕ} → readNumber B s ≡ Value n → (isNumeral B s ≡ true) × (n ≡ numberOf B s)
 unfolding readNumber
-number-known B s {n} e = go (isNumeral B s) refl
-  where
-    go : (b : Bool) → isNumeral B s ≡ b → (isNumeral B s ≡ true) × (n ≡ numberOf B s)
-    go true q = (q, (cc))
-    go false q = ((cc), (cc))
+number-known B s e = told-known (isNumeral B s) (numberOf B s) e
 
 pub number-none : (B : ℕ) (s : List ℕ) → readNumber B s ≡ Nothing → isNumeral B s ≡ false
 unfolding readNumber
-number-none B s e = go (isNumeral B s) refl
-  where
-    go : (b : Bool) → isNumeral B s ≡ b → isNumeral B s ≡ false
-    go true q = cc
-    go false q = q
+number-none B s e = told-none (isNumeral B s) (numberOf B s) e

@@ -2,19 +2,26 @@
 -- stands in the source, for any arguments, answer and state at exit. The arguments of `writer::write` are the message
 -- aw .0, its free text aw .1 .0, the buffer aw .1 .1 .0 and the place aw .1 .1 .1 .0. Assumes nothing.
 use mathlib.Core.Path.{_≡_, sym, ap, _∙_}
-use mathlib.Core.Bool.{true}
-use mathlib.Core.List.{List}
+use mathlib.Core.Bool.{true, false}
+use mathlib.Core.List.{List, List·Memᴰ}
 use Prim.Native.Nat.{ℕ, _+_, _-_, _≤_}
 use lib.ListN.{length}
 use borrow.Author.Tests.{le-leb}
 use denote.Ref.{now}
-use Rattle.text.specs.Text.{spliced, hasRoom, writtenNext, writtenBytes}
+use Rattle.text.specs.Text.{textOf, spliced, hasRoom, writtenNext, writtenBytes}
 use Rattle.text.specs.declared.Written.the-variants.{Next}
+use Rattle.text.proofs.Logic.{not-holds}
 use Rattle.shapes.specs.Picture.{part}
+use Rattle.rules.specs.Level.{Falls}
+use Rattle.rules.proofs.Levels.{never-falls}
+use Rattle.fields.specs.Answer.{writeAnswer}
+use Rattle.fields.specs.declared.plan.Level.{Level}
+use Rattle.messages.specs.Levels.{levelsIn}
 use Rattle.messages.specs.declared.Message.{Message}
 use Rattle.line.specs.Line.{lineOf, isAllowed}
 use Rattle.line.specs.Read.{readOf, freeOf}
 use Rattle.line.specs.declared.LineRead.the-variants.{Read}
+use Rattle.line.proofs.Levels.{allowed-levels}
 use Rattle.line.proofs.Theorems.{refused-exactly}
 use Rattle.line.proofs.read.Reads as read
 use Rattle.line.proofs.free.Reads as free
@@ -60,3 +67,11 @@ pub refused-call : (κs : _) (a : _) (r : _) (s : _) → read.Post κs a r s →
 refused-call κs a r s p =
     let t = refused-exactly (now (a .0)) in
     (λ none. t .0 (λ m e. none m (p .0 ∙ e)), λ none m e. t .1 none m (sym (p .0) ∙ e))
+
+-- "16 when writing it": a message one of whose levels falls, an FZ's, a UZ's or that of an 08 or 09, is not written, and the buffer stays
+pub falls-unwritten : (κw : _) (aw : _) (w : _) (sw : _) → write.Post κw aw w sw
+    → (l : Level) → List·Memᴰ l (levelsIn (aw .0 .body)) → Falls (textOf (l .0)) → (writeAnswer w ≡ 16) × (now (sw .1 .1 .0) ≡ now (aw .1 .1 .0))
+unfolding writtenNext writtenBytes
+falls-unwritten κw aw w sw v l x f =
+    let n : isAllowed (aw .0) (now (aw .1 .0)) ≡ false = not-holds (isAllowed (aw .0) (now (aw .1 .0))) (λ e. never-falls (textOf (l .0)) (allowed-levels (aw .0) (now (aw .1 .0)) e l x) f) in
+    (ap writeAnswer (v .0) ∙ rw n, v .1 .0 ∙ rw n)

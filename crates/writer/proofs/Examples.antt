@@ -1,6 +1,7 @@
 -- What the promises of `writer` require on inputs written out, and so wrong answers that they do not allow: of each, `Post` is the function's
 -- `ensures` as it stands in the source, r any result that meets it, s the state at exit. Assumes nothing.
 use Prim.Native.Nat.{ℕ}
+use Prim.Native.String.{String}
 use mathlib.Core.Bool.{true, false}
 use mathlib.Core.List.{[], _∷_}
 use mathlib.Core.Path.{_≡_, refl, ap, _∙_}
@@ -14,6 +15,7 @@ use Rattle.text.specs.Number.{isDigitTo, digitOf, isNumeral, numberOf}
 use Rattle.text.specs.Place.{value, places, digits, tight, allIn}
 use Rattle.text.specs.Text.{packed, textOf, isPacked, spliced, hasRoom, writtenNext, writtenBytes}
 use Rattle.text.specs.declared.Written.the-variants.{Next, NoRoom, NoText}
+use Rattle.shapes.specs.Cut.{upTo, has, before, after, joins}
 use Rattle.shapes.specs.Picture.{isOf, fits, fitsAny, oneOf, run, within}
 use Rattle.shapes.specs.Pieces.{pieces}
 use Rattle.rules.specs.Form.{isStamp}
@@ -22,7 +24,7 @@ use Rattle.fields.specs.Answer.{writeAnswer}
 use Rattle.fields.specs.Facility.{facilityText, isFacilityValue}
 use Rattle.fields.specs.Word.{isWord}
 use Rattle.fields.specs.Pair.{isPair, pairText}
-use Rattle.rules.specs.Form.{isKey, isIdent}
+use Rattle.rules.specs.Form.{isKey, isIdent, isBlock, isLevel}
 use Rattle.table.specs.Field.{markOf, markText, isMark, contentOf, plain, traceOf, marksOf, follows, isOne, isTwo, isKindValue, shownKind, isValue, shown}
 use Rattle.table.specs.Spacing.{bodyOf}
 use Rattle.table.specs.Show.{textsFrom, allowedFrom, marksFrom}
@@ -80,12 +82,12 @@ pub next-is-the-length : (κs : _) (a : _) (r : _) (s : _) → write.Post κs a 
     → (writeAnswer r ≡ 0) × (placeAfter r ≡ 19)
 next-is-the-length κs a r s p e f g h = let z : r ≡ Next 19 = p .0 ∙ rw (e, f, g, h) (told .2) in (ap writeAnswer z, ap placeAfter z)
 
--- an AF that amends 08, with the set of marks m
+-- an AF that amends 08 with the level l, with the set of marks m
 abbrev held : ℕ → ℕ → Amendment
 held m t = record { mark = m; content = record { a = t; b = 0; c = 0 } }
 
-abbrev amending : ℕ → Message
-amending m =
+abbrev amending : ℕ → String → Message
+amending m l =
     record {
       sequence = record { 0 = packed (bytes "0000") };
       stamp = record { 0 = packed (bytes "06143655") };
@@ -95,7 +97,7 @@ amending m =
         from = record { 0 = packed (bytes "BOS") };
         to = record { 0 = packed (bytes "ALB") };
         marks = m;
-        first = held 32 (packed (bytes "290"));
+        first = held 32 (packed (bytes l));
         second = held 0 0;
         third = held 0 0;
         fourth = held 0 0;
@@ -107,15 +109,23 @@ amending m =
       trailing = false;
     }
 
--- 08's mark is the set's, 09's is not; antt computes it
-allowed : (isAllowed (amending 32) [] ≡ true) × (isAllowed (amending 64) [] ≡ false)
+-- 08's mark is the set's, 09's is not; a block may have equal numbers, and may not fall; antt computes it
+allowed : (isAllowed (amending 32 "290") [] ≡ true) × (isAllowed (amending 64 "290") [] ≡ false)
+    × (isAllowed (amending 32 "05B005") [] ≡ true) × (isAllowed (amending 32 "350B310") [] ≡ false)
 unfolding isAllowed isHead hasSize lineOf bodyText hasRoute bodyOf isBody isWord isForm isStamp isOf fits fitsAny oneOf pieces run within isPacked tight textOf packed value digits
     places codeOf byteOf all isDigit isLetter isAlnum isNumeral isDigitTo numberOf digitOf allIn facilityText isFacilityValue isWhole
     isFielded kindsIn kindsOf fieldCount countWith isCount valuesIn spare allowedFrom marksFrom textsFrom isValue shown traceOf marksOf
     follows plain contentOf markOf isKey isIdent isPair pairText slots isKindValue shownKind isOne isTwo isMark markText ones
-allowed = (refl, refl)
+    isLevel isBlock joins has upTo before after
+allowed = (refl, refl, refl, refl)
 
 -- the set of marks is that of the amendments: 09's in place of 08's is no line's
-pub marks-not-compared : (κs : _) (a : _) (r : _) (s : _) → write.Post κs a r s → a .0 ≡ amending 64 → now (a .1 .0) ≡ [] → r ≡ NoText
+pub marks-not-compared : (κs : _) (a : _) (r : _) (s : _) → write.Post κs a r s → a .0 ≡ amending 64 "290" → now (a .1 .0) ≡ [] → r ≡ NoText
 unfolding writtenNext
 marks-not-compared κs a r s p e f = p .0 ∙ rw (e, f, allowed .1)
+
+-- what the reader refuses is not written: 16, and the buffer stays
+pub falling-block-written : (κs : _) (a : _) (r : _) (s : _) → write.Post κs a r s → a .0 ≡ amending 32 "350B310" → now (a .1 .0) ≡ []
+    → (writeAnswer r ≡ 16) × (now (s .1 .1 .0) ≡ now (a .1 .1 .0))
+unfolding writtenNext writtenBytes
+falling-block-written κs a r s p e f = let z : r ≡ NoText = p .0 ∙ rw (e, f, allowed .3) in (ap writeAnswer z, p .1 .0 ∙ rw (e, f, allowed .3))

@@ -1,6 +1,7 @@
 //! The second part of the comparison: the calls themselves, on what no feed can bring. Many cases go to
 //! the proved program `damage` at once, and what it writes must be what the reference answers.
 
+use crate::blocks;
 use crate::calls::{Answer, Case, CALLS};
 use crate::cases::case;
 use crate::chance::Chance;
@@ -8,6 +9,7 @@ use crate::program::{run, Program};
 use std::collections::BTreeMap;
 use std::fs;
 use std::io;
+use std::iter;
 use std::path::Path;
 
 /// How many cases one run of the program is given.
@@ -16,7 +18,7 @@ const AT_ONCE: u64 = 500;
 /// How often each call gave each answer number.
 type Tally = BTreeMap<(usize, u8), u64>;
 
-/// Compares case after case. Whether there was no difference.
+/// Compares the blocks of levels as values to write, then random case after case. Whether there was no difference.
 pub fn compare(proved: &Path, folder: &Path, seed: u64, cases: u64) -> io::Result<bool> {
     let program = Program {
         proved,
@@ -26,12 +28,14 @@ pub fn compare(proved: &Path, folder: &Path, seed: u64, cases: u64) -> io::Resul
     };
     let mut seeds = Chance::of_seed(seed);
     let mut tally = Tally::new();
+    let blocks = blocks::writes();
+    let cases = cases + blocks.len() as u64;
+    let random = iter::from_fn(|| Some(case(&mut Chance::of_seed(seeds.draw()))));
+    let mut all = blocks.into_iter().chain(random);
     let mut done = 0;
     while done < cases {
         let count = AT_ONCE.min(cases - done);
-        let made: Vec<Case> = (0..count)
-            .map(|_| case(&mut Chance::of_seed(seeds.draw())))
-            .collect();
+        let made: Vec<Case> = all.by_ref().take(count as usize).collect();
         let answers: Vec<Answer> = made.iter().map(Case::answer).collect();
         let input: Vec<u8> = made.iter().flat_map(Case::bytes).collect();
         let printed = run(&program, &input, &[input.len()])?;

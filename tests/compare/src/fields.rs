@@ -50,6 +50,24 @@ pub fn key(chance: &mut Chance) -> Vec<u8> {
     text
 }
 
+/// One number of 2 or 3 digits, or two that do not fall: often the same, or the next, in another width.
+fn put_level(text: &mut Vec<u8>, chance: &mut Chance) {
+    let width = chance.between(2, 3);
+    let most = 10_usize.pow(width as u32) - 1;
+    let number = chance.near_ends(0, most);
+    put_number(text, number, width);
+    if chance.in_hundred(40) {
+        let above = chance.near_ends(number, 999);
+        let second = chance.one_of(&[number, (number + 1).min(999), above]);
+        text.push(b'B');
+        put_number(
+            text,
+            second,
+            if second > 99 { 3 } else { chance.between(2, 3) },
+        );
+    }
+}
+
 /// Bytes 33 to 126, so many.
 pub fn put_route(text: &mut Vec<u8>, chance: &mut Chance, width: usize) {
     for _ in 0..width {
@@ -158,13 +176,7 @@ fn put_right(text: &mut Vec<u8>, chance: &mut Chance, form: Form, flight: &[u8])
             put_clock(text, chance);
         }
         Form::Clock => put_clock(text, chance),
-        Form::Level => {
-            put_run(text, chance, DIGITS, 2, 3);
-            if chance.in_hundred(40) {
-                text.push(b'B');
-                put_run(text, chance, DIGITS, 2, 3);
-            }
-        }
+        Form::Level => put_level(text, chance),
         Form::TrackLevel => {
             put_run(text, chance, DIGITS, 3, 3);
             if chance.in_hundred(50) {
@@ -224,7 +236,8 @@ fn near_misses(form: Form) -> &'static str {
         Form::Clock => "2360|2400|A0930|E0930|D0930|0960|093|09300|2359A|9959",
         Form::Level => {
             "5|1234|B|05B|B05|05B5|5B05|05B1234|1234B05|05B06B07|350T|05b06|05A06|05BB06|\
-             OTP|350B31B|35B310B"
+             OTP|350B31B|35B310B|350B310|100B99|36B35|36B035|036B35|351B350|01B00|01B000|\
+             001B00|100B099|999B998"
         }
         Form::TrackLevel => "24|2400|24C|240CC|C240|110B130|OTP/110|240c|240/|240@|240[|24B24|2",
         Form::Position => {

@@ -7,6 +7,7 @@
 
 #![forbid(unsafe_code)]
 
+mod blocks;
 mod boards;
 mod calls;
 mod cases;
@@ -141,16 +142,25 @@ fn asked(arguments: &[String]) -> io::Result<bool> {
     }
 }
 
-/// Compares feed after feed. Whether there was no difference.
+/// Compares the blocks of levels, then random feed after feed. Whether there was no difference.
 fn compare(proved: &Path, folder: &Path, seed: u64, lines: u64) -> io::Result<bool> {
     let pairs = pairs(proved);
     let mut listed: u64 = 0;
     let mut seeds = Chance::of_seed(seed);
     let mut tally = Tally::default();
+    let mut blocks = blocks::feeds().into_iter();
+    let lines = lines
+        + blocks
+            .as_slice()
+            .iter()
+            .map(|feed| line_feeds(feed))
+            .sum::<u64>();
     while tally.lines < lines {
         let mut chance = Chance::of_seed(seeds.draw());
         let most = usize::try_from(lines - tally.lines).unwrap_or(usize::MAX);
-        let feed = feeds::feed(&mut chance, most);
+        let feed = blocks
+            .next()
+            .unwrap_or_else(|| feeds::feed(&mut chance, most));
         let parts = parts(&mut chance, &feed);
         tally.count(&feed);
         for pair in pairs.iter().filter(|pair| feed.len() <= pair.most) {
@@ -163,7 +173,7 @@ fn compare(proved: &Path, folder: &Path, seed: u64, lines: u64) -> io::Result<bo
                 return Ok(false);
             }
             if pair.program.name == "readings" {
-                listed += expected.iter().filter(|&&byte| byte == b'\n').count() as u64;
+                listed += line_feeds(&expected);
             }
         }
     }
@@ -175,6 +185,10 @@ fn compare(proved: &Path, folder: &Path, seed: u64, lines: u64) -> io::Result<bo
         tally.taken()
     );
     Ok(true)
+}
+
+fn line_feeds(text: &[u8]) -> u64 {
+    text.iter().filter(|&&byte| byte == b'\n').count() as u64
 }
 
 fn differs(printed: &Printed, expected: &[u8]) -> bool {

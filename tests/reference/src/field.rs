@@ -173,11 +173,13 @@ pub fn is_arrival_clock(text: &[u8]) -> bool {
 
 // ---- levels ----
 
-/// level (AF, FZ, UZ): "2 or 3 digits, or two such with B between"; a falling block such as
-/// 350B310 reads (docs/DECISIONS.md)
+/// level (AF, FZ, UZ): "2 or 3 digits, or two such with B between", where "the second number must
+/// be no smaller than the first as a number; equal is allowed" (document 02, d)
 pub fn is_level(text: &[u8]) -> bool {
     let block = match around(text, b'B') {
-        Some((front, back)) => digits(front, 2, 3) && digits(back, 2, 3),
+        Some((front, back)) => {
+            digits(front, 2, 3) && digits(back, 2, 3) && number(front) <= number(back)
+        }
         None => false,
     };
     digits(text, 2, 3) || block
@@ -531,11 +533,11 @@ mod tests {
         asked(
             is_level,
             &[
-                "005", "350", "110B130", "350B310", "05B005", "05B10", "100B99",
+                "005", "350", "110B130", "310B310", "05B005", "005B05", "05B10", "99B100",
             ],
             &[
                 "", "B", "0350", "350C", "350B", "B350", "350B1", "5B350", "350B3500", "1B2B3",
-                "350BB310", "OTP/350",
+                "310BB350", "OTP/350", "350B310", "100B99", "06B005", "006B05",
             ],
         );
         asked(
@@ -546,6 +548,20 @@ mod tests {
                 "250 ",
             ],
         );
+    }
+
+    /// Two numbers, each with 2 and with 3 digits where it has so few: a block is a level exactly if
+    /// the second is no smaller.
+    #[test]
+    fn every_block() {
+        for first in 0..1000 {
+            for second in 0..1000 {
+                for (width, other) in [(2, 2), (2, 3), (3, 2), (3, 3)] {
+                    let block = format!("{first:0width$}B{second:0other$}");
+                    assert_eq!(is_level(block.as_bytes()), first <= second, "{block}");
+                }
+            }
+        }
     }
 
     #[test]

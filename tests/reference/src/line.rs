@@ -668,8 +668,10 @@ mod tests {
             ("05 M085", "05 A"),
             ("06 AB/C", "06 ABCDEFGHIJKL"),
             ("07 E1200", "07 1200"),
-            ("08 350B310", "08 350T"),
+            ("08 310B350", "08 350T"),
+            ("08 05B005", "08 350B310"),
             ("09 05", "09 5"),
+            ("09 99B100", "09 100B99"),
         ] {
             assert_eq!(body(&format!("AF N5 AB CD {good}")), (0, 0), "{good}");
             assert_eq!(body(&format!("AF N5 AB CD {bad}")), (9, 5), "{bad}");
@@ -778,7 +780,12 @@ mod tests {
         assert_eq!(body("TZ JAL85/FFF 145 028 4720N/11922W"), (9, 1));
         assert_eq!(body("FZ N5 C172 120 ABCDEFGHIJKL D0816 050 AB"), (9, 4));
         assert_eq!(body("FZ N5 C172 120 AB/C.D D0816 050 AB"), (9, 4));
-        assert_eq!(body("FZ N5 C172 120 AB D0816 350B310 AB"), (0, 0));
+        for plan in ["FZ", "UZ"] {
+            let level = |level: &str| body(&format!("{plan} N5 C172 120 AB D0816 {level} AB"));
+            assert_eq!(level("310B350"), (0, 0));
+            assert_eq!(level("350B350"), (0, 0));
+            assert_eq!(level("350B310"), (9, 6));
+        }
         assert_eq!(body("TZ N5/123 310 110B130 3015N/08430W"), (9, 3));
         assert_eq!(body("TZ N5/123 310 OTP/110 3015N/08430W"), (9, 3));
         assert_eq!(body("TZ N5/123 310 24 3015N/08430W"), (9, 3));

@@ -5,7 +5,7 @@ use borrow.Author.Tests.{ne-eqb}
 use Rattle.shapes.proofs.Same.{fits-same}
 use Rattle.rules.specs.Drawn.{isDrawn}
 use borrow.Author.Needs.{needs}
-use Rattle.rules.proofs.Runs.{level-runs, speed-runs}
+use Rattle.rules.proofs.Runs.{speed-runs}
 use Rattle.rules.proofs.is_drawn.Statement.{statement}
 use Rattle.rules.proofs.is_drawn.Tie as tie
 
@@ -16,7 +16,6 @@ is-drawn-spec =
     (tie.spec
     (λ c κs. search needs) (λ c κs. search needs) (λ c. search needs) (λ c κs. search needs) (λ c κs. search needs)
     (λ c κs. search needs) (λ c. search needs) (λ c κs. search needs) (λ c κs. search needs) (λ c κs. search needs)
-    (λ c. search needs) (λ c κs. search needs) (λ c κs. search needs)
     (λ c. c .run .ensures ∙ rw (c .before .match .keys1) (sym (fits-same (code "h") 4 _)))
     (λ c. c .is-number .ensures ∙ rw (c .before .match .keys2))
     (λ c. c .one-of .ensures ∙ rw (c .before .before .match .keys3))
@@ -25,9 +24,6 @@ is-drawn-spec =
     (λ c. let c₂ = c .before .before in
     c .one-of2 .ensures ∙ rw (c₂ .before .before .match .keys5, speed-runs, sym (c₂ .before .run3 .ensures) ∙ c₂ .if1 .left))
     (λ c. c .run4 .ensures ∙ rw (c .before .match .keys6) (sym (fits-same (code "d") 3 _)))
-    (λ c. c .if2 .taken ∙ rw (c .before .before .match .keys7, level-runs, sym (c .before .run5 .ensures) ∙ c .if2 .taken))
-    (λ c. let c₂ = c .before .before in
-    c .one-of3 .ensures ∙ rw (c₂ .before .before .match .keys7, level-runs, sym (c₂ .before .run5 .ensures) ∙ c₂ .if2 .left))
-    (λ c. c .is-track-level .ensures ∙ rw (c .before .match .keys8))
+    (λ c. c .is-track-level .ensures ∙ rw (c .before .match .keys7))
     (λ c. let n = c .match .rest in
-    rw (ne-eqb _ _ (n .0 .0 .0 .0 .0 .0 .0 .1), ne-eqb _ _ (n .0 .0 .0 .0 .0 .0 .1), ne-eqb _ _ (n .0 .0 .0 .0 .0 .1), ne-eqb _ _ (n .0 .0 .0 .0 .1), ne-eqb _ _ (n .0 .0 .0 .1), ne-eqb _ _ (n .0 .0 .1), ne-eqb _ _ (n .0 .1), ne-eqb _ _ (n .1))))
+    rw (ne-eqb _ _ (n .0 .0 .0 .0 .0 .0 .1), ne-eqb _ _ (n .0 .0 .0 .0 .0 .1), ne-eqb _ _ (n .0 .0 .0 .0 .1), ne-eqb _ _ (n .0 .0 .0 .1), ne-eqb _ _ (n .0 .0 .1), ne-eqb _ _ (n .0 .1), ne-eqb _ _ (n .1))))

@@ -14,6 +14,7 @@ is-form-spec =
     (tie.spec
     (λ c κs. search needs) (λ c κs. search needs) (λ c κs. search needs) (λ c κs. search needs) (λ c κs. search needs)
     (λ c κs. search needs) (λ c κs. search needs) (λ c κs. search needs) (λ c κs. search needs) (λ c κs. search needs)
+    (λ c κs. search needs)
     (λ c. c .is-stamp .ensures ∙ rw (c .before .match .keys1))
     (λ c. c .is-key .ensures ∙ rw (c .before .match .keys2))
     (λ c. c .run .ensures ∙ rw (c .before .match .keys3))
@@ -22,6 +23,7 @@ is-form-spec =
     (λ c. c .is-time .ensures ∙ rw (c .before .match .keys6))
     (λ c. c .is-clock .ensures ∙ rw (c .before .match .keys7))
     (λ c. c .is-arrival .ensures ∙ rw (c .before .match .keys8))
-    (λ c. c .is-position .ensures ∙ rw (c .before .match .keys9))
+    (λ c. c .is-level .ensures ∙ rw (c .before .match .keys9))
+    (λ c. c .is-position .ensures ∙ rw (c .before .match .keys10))
     (λ c. let n = c .before .match .rest in
-    c .is-drawn .ensures ∙ rw (ne-eqb _ _ (n .0 .0 .0 .0 .0 .0 .0 .0 .1), ne-eqb _ _ (n .0 .0 .0 .0 .0 .0 .0 .1), ne-eqb _ _ (n .0 .0 .0 .0 .0 .0 .1), ne-eqb _ _ (n .0 .0 .0 .0 .0 .1), ne-eqb _ _ (n .0 .0 .0 .0 .1), ne-eqb _ _ (n .0 .0 .0 .1), ne-eqb _ _ (n .0 .0 .1), ne-eqb _ _ (n .0 .1), ne-eqb _ _ (n .1))))
+    c .is-drawn .ensures ∙ rw (ne-eqb _ _ (n .0 .0 .0 .0 .0 .0 .0 .0 .0 .1), ne-eqb _ _ (n .0 .0 .0 .0 .0 .0 .0 .0 .1), ne-eqb _ _ (n .0 .0 .0 .0 .0 .0 .0 .1), ne-eqb _ _ (n .0 .0 .0 .0 .0 .0 .1), ne-eqb _ _ (n .0 .0 .0 .0 .0 .1), ne-eqb _ _ (n .0 .0 .0 .0 .1), ne-eqb _ _ (n .0 .0 .0 .1), ne-eqb _ _ (n .0 .0 .1), ne-eqb _ _ (n .0 .1), ne-eqb _ _ (n .1))))
