@@ -3,19 +3,19 @@ use mathlib.Core.Path.{_≡_, refl}
 use mathlib.Core.Bool.{Bool, true, false}
 use mathlib.Core.List.{List}
 use Prim.Native.Nat.{ℕ}
-use Rattle.text.specs.Text.{textOf, isPacked}
+use Rattle.text.specs.Text.{textOf}
 use Rattle.text.proofs.Logic.{true-false}
 use Rattle.rules.specs.Form.{isLevel}
 use Rattle.rules.specs.Level.{Digits, Level, One, Two}
 use Rattle.rules.proofs.Levels.{digits-read, digits-uncut, block-cut, level-exactly}
-use Rattle.meanings.specs.Meaning.{decimalOf, levelsOf, levelsIn, Tells}
-use Rattle.meanings.proofs.level_numbers.Reads as level-numbers
+use Rattle.meanings.specs.declared.Levels.{Levels}
+use Rattle.meanings.specs.Meaning.{decimalOf, levelsOf, levelsIn, Tells, TellsIn}
 
 digits-decimal : (n : ℕ) (s : List ℕ) → Digits n s → decimalOf s ≡ n
 unfolding decimalOf
 digits-decimal n s d = rw (digits-read n s d)
 
-pub level-tells : (s : List ℕ) → Tells s (levelsOf s)
+level-tells : (s : List ℕ) → Tells s (levelsOf s)
 unfolding levelsOf
 level-tells s = go (isLevel s) refl
   where
@@ -23,13 +23,13 @@ level-tells s = go (isLevel s) refl
     level (One n d) q = rw (q, digits-uncut n s d, digits-decimal n s d) d
     level (Two n m b h) q =
         let c = block-cut n m s b in
-        rw (q, c .0, c .1, c .2, digits-decimal n (b .first) (b .low), digits-decimal m (b .second) (b .high)) (b, h)
+        rw (q, c .0, c .1, c .2, digits-decimal n (b .first) (b .first-is), digits-decimal m (b .second) (b .second-is)) (b, h)
 
     go : (b : Bool) → isLevel s ≡ b → Tells s (levelsOf s)
     go true q = level (level-exactly s .0 q) q
     go false q = rw q (λ l. true-false (level-exactly s .1 l) q)
 
--- so of the call, for any word that is a text: `Post` is the `ensures` of `level_numbers` as it stands in the source
-pub level-numbers-tell : (κs : _) (a : _) (r : _) (s : _) → level-numbers.Post κs a r s → isPacked (a .0 .0) ≡ true → Tells (textOf (a .0 .0)) r
+-- what `level_numbers` promises of its answer
+pub level-told : (t : ℕ) {r : Levels} → r ≡ levelsIn t → (r ≡ levelsIn t) × TellsIn t r
 unfolding levelsIn
-level-numbers-tell κs a r s p e = rw (p, e) (level-tells (textOf (a .0 .0)))
+level-told t e = (e, λ q. rw (e, q) (level-tells (textOf t)))

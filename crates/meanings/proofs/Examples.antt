@@ -57,12 +57,12 @@ longitude-cut κs a r s p e = p ∙ ap minutesIn e
 -- a block is cut at its B
 pub level-cut-at-c : (κs : _) (a : _) (r : _) (s : _) → level-numbers.Post κs a r s → a .0 .0 ≡ packed (bytes "120B140") → r ≡ levels.Block 120 140
 unfolding levelsIn levelsOf isLevel isBlock joins run isOf isDigit isLetter has upTo before after decimalOf readNumber isNumeral all isDigitTo digitOf numberOf value isPacked tight textOf digits byteOf packed codeOf
-level-cut-at-c κs a r s p e = p ∙ ap levelsIn e
+level-cut-at-c κs a r s p e = p .0 ∙ ap levelsIn e
 
 -- and has its lower end first: one that falls has no numbers, neither as they stand nor turned round
 pub falling-block-told : (κs : _) (a : _) (r : _) (s : _) → level-numbers.Post κs a r s → a .0 .0 ≡ packed (bytes "140B120") → r ≡ levels.NotOne
 unfolding levelsIn levelsOf isLevel isBlock joins run isOf isDigit isLetter has upTo before after decimalOf readNumber isNumeral all isDigitTo digitOf numberOf value isPacked tight textOf digits byteOf packed codeOf
-falling-block-told κs a r s p e = p ∙ ap levelsIn e
+falling-block-told κs a r s p e = p .0 ∙ ap levelsIn e
 
 -- ---- ages
 

@@ -13,7 +13,7 @@ pub position-minutes-one : (κs : _) (a : _) (r r′ : _) (s s′ : _) → posit
 position-minutes-one κs a r r′ s s′ p q = p ∙ sym q
 
 pub level-numbers-one : (κs : _) (a : _) (r r′ : _) (s s′ : _) → level-numbers.Post κs a r s → level-numbers.Post κs a r′ s′ → r ≡ r′
-level-numbers-one κs a r r′ s s′ p q = p ∙ sym q
+level-numbers-one κs a r r′ s s′ p q = p .0 ∙ sym (q .0)
 
 -- ---- ages
 

@@ -1,6 +1,7 @@
 -- What the text of a field means (document 01, "The line" and "Fields"). Assumes nothing.
 use Prim.Native.Nat.{ℕ, _+_, _*_, _/_, _%_, _≤_}
 use Prim.Native.Char.{code}
+use mathlib.Core.Path.{_≡_}
 use mathlib.Core.Bool.{Bool, true, false, cond}
 use mathlib.Core.List.{List, []}
 use lib.Dec.{eqb}
@@ -75,8 +76,12 @@ levelsOf s =
 unfoldable pub levelsIn : ℕ → Levels
 levelsIn t = cond (isPacked t) (levelsOf (textOf t)) levels.NotOne
 
--- what is told of a text, in the numbers of the rule; `proofs/Blocks` shows that it is so
+-- what is told of a text, in the numbers of the rule
 abbrev pub Tells : List ℕ → Levels → Type 0
 Tells s (levels.One n) = Digits n s
 Tells s (levels.Block n m) = Block n m s × (n ≤ m)
 Tells s levels.NotOne = Level s → ⊥
+
+-- of the text of t, where it has one
+abbrev pub TellsIn : ℕ → Levels → Type 0
+TellsIn t r = isPacked t ≡ true → Tells (textOf t) r

@@ -13,7 +13,7 @@ use text::writing;
 ghost use mathlib.Core.Path.{_≡_};
 ghost use Prim.Native.Nat.{_≤_};
 ghost use lib.ListN.{length, take};
-ghost use Rattle.meanings.specs.Meaning.{decimalOf, shownOf, inMinutes, signedBy, momentOf, momentIn, minutesOf, minutesIn, levelsOf, levelsIn};
+ghost use Rattle.meanings.specs.Meaning.{decimalOf, shownOf, inMinutes, signedBy, momentOf, momentIn, minutesOf, minutesIn, levelsOf, levelsIn, TellsIn};
 
 // Day, hour, minute, second, and the seconds since the day began.
 pub struct Moment {
@@ -153,6 +153,7 @@ fn levels_of(s: &[u8]) -> Levels
 
 pub fn level_numbers(level: Level) -> Levels
     ensures { λ r. ⌜ r ≡ levelsIn (level .0) ⌝ }
+    ensures { λ r. ⌜ TellsIn (level .0) r ⌝ }
 {
     let mut room = [0u8; 12];
     let n = show(level.0, &mut room);

@@ -313,19 +313,37 @@ count-pairs n c =
     let d = double-is ((n - 3) / 2) in
     (omega arith, omega arith)
 
--- of amendments whose values some text gives
-amended-all : (j p m : ℕ) (r : List ℕ) (xs : List Amendment) → allowedFrom (amendments j) p m r (pairsOf xs) ≡ true → map (λ (x : Amendment). heldOf (amendedIn x)) xs ≡ xs
-unfolding allowedFrom isValue plain
-amended-all j p m r [] e = refl
-amended-all zero p m r (x ∷ xs) e = true-false e refl
-amended-all (suc j) p m r (x ∷ xs) e =
+-- the first of some amendments that a line can have: its number is a mark, its content what this asks for, and the others may follow
+pub record Leads (x : Amendment) (j : ℕ) (r : List ℕ) (xs : List Amendment) : Type 0 where
+  pub number : isMark (x .mark) ≡ true
+  pub value : isKindValue (contentOf (x .mark)) r (x .content) ≡ true
+  pub left : ℕ
+  pub marks-left : ℕ
+  pub others : allowedFrom (amendments j) left marks-left r (pairsOf xs) ≡ true
+
+pub leads : (j p m : ℕ) (r : List ℕ) (x : Amendment) (xs : List Amendment) → allowedFrom (amendments (suc j)) p m r (pairsOf (x ∷ xs)) ≡ true → Leads x j r xs
+unfolding isValue plain
+leads j p m r x xs e =
     let n = valueOfWord (x .mark) in
     let vs = x .content ∷ pairsOf xs in
     let k = mark-value p r n (allowed-first AMENDMENT (CONTENT ∷ amendments j) p m r n vs e) in
     let f = allowed-rest AMENDMENT (CONTENT ∷ amendments j) p m r n vs e in
-    let g = subst (λ (q : ℕ). isKindValue (contentOf q) r (x .content) ≡ true) (k .2) (allowed-first CONTENT (amendments j) _ _ r (x .content) (pairsOf xs) f) in
-    let h = amended-on (x .content) r (x .mark) (k .0) g in
-    let i = amended-all j _ _ r xs (allowed-rest CONTENT (amendments j) _ _ r (x .content) (pairsOf xs) f) in
+    record {
+      number = k .0;
+      value = subst (λ (q : ℕ). isKindValue (contentOf q) r (x .content) ≡ true) (k .2) (allowed-first CONTENT (amendments j) _ _ r (x .content) (pairsOf xs) f);
+      left = _;
+      marks-left = _;
+      others = allowed-rest CONTENT (amendments j) _ _ r (x .content) (pairsOf xs) f;
+    }
+
+amended-all : (j p m : ℕ) (r : List ℕ) (xs : List Amendment) → allowedFrom (amendments j) p m r (pairsOf xs) ≡ true → map (λ (x : Amendment). heldOf (amendedIn x)) xs ≡ xs
+unfolding allowedFrom
+amended-all j p m r [] e = refl
+amended-all zero p m r (x ∷ xs) e = true-false e refl
+amended-all (suc j) p m r (x ∷ xs) e =
+    let f = leads j p m r x xs e in
+    let h = amended-on (x .content) r (x .mark) (f .number) (f .value) in
+    let i = amended-all j (f .left) (f .marks-left) r xs (f .others) in
     λ z. h z ∷ i z
 
 pub take-pairs : (j : ℕ) (xs : List Amendment) → take (double j) (pairsOf xs) ≡ pairsOf (take j xs)

@@ -11,7 +11,7 @@ use Rattle.rules.specs.Kind.{FILED-SPEED, FIX, LEVEL}
 use Rattle.fields.specs.Word.{isWord}
 use Rattle.fields.specs.declared.plan.Level.{Level}
 use Rattle.table.specs.Amends.{isMark, contentOf}
-use Rattle.table.specs.Field.{IDENT, AIRCRAFT, ROUTE, PLAN-TIME, AMENDMENT, CONTENT, isOne, plain, isKindValue, isValue}
+use Rattle.table.specs.Field.{IDENT, AIRCRAFT, ROUTE, PLAN-TIME, isOne, plain, isKindValue, isValue}
 use Rattle.table.specs.declared.kinds.Value.{Value}
 use Rattle.table.specs.Show.{allowedFrom}
 use Rattle.table.specs.Table.{amendments, countWith, kindsOf}
@@ -24,7 +24,7 @@ use Rattle.messages.specs.declared.Af.{Af}
 use Rattle.messages.specs.declared.Plan.{Plan}
 use Rattle.messages.specs.declared.Body.{Body}
 use Rattle.messages.specs.declared.Body.the-variants as body
-use Rattle.messages.proofs.Bodies.{allowed-first, allowed-rest, mark-value, af-amendments}
+use Rattle.messages.proofs.Bodies.{leads, af-amendments}
 use Rattle.messages.proofs.Theorems.{counted}
 use Rattle.messages.proofs.InOrder.{first, next, word-in, body-fielded, body-values}
 
@@ -66,22 +66,14 @@ content-levels v r =
     (λ e. tt) (λ e. tt) (λ e. tt) (λ e. tt) (λ e. tt) (λ e. (and-left (isWord LEVEL (v .a)) (isOne v) e, tt))
     (λ e. (and-left (isWord LEVEL (v .a)) (isOne v) e, tt)) (λ e. tt)
 
-content-value : (p : ℕ) (r : List ℕ) (v : Value) → isValue CONTENT p r v ≡ true → isKindValue (contentOf p) r v ≡ true
-unfolding isValue plain
-content-value p r v e = e
-
 amended-levels : (j p m : ℕ) (r : List ℕ) (xs : List Amendment) → allowedFrom (amendments j) p m r (pairsOf xs) ≡ true → AreLevels (amendedLevels xs)
 unfolding allowedFrom
 amended-levels j p m r [] e = tt
 amended-levels zero p m r (x ∷ xs) e = true-false e refl
 amended-levels (suc j) p m r (x ∷ xs) e =
-    let v = valueOfWord (x .mark) in
-    let vs = x .content ∷ pairsOf xs in
-    let k = mark-value p r v (allowed-first AMENDMENT (CONTENT ∷ amendments j) p m r v vs e) in
-    let f = allowed-rest AMENDMENT (CONTENT ∷ amendments j) p m r v vs e in
-    let c : isKindValue (contentOf (x .mark)) r (x .content) ≡ true = rw (k .2) at (content-value _ r (x .content) (allowed-first CONTENT (amendments j) _ _ r (x .content) (pairsOf xs) f)) in
-    both-levels (levelIn (amendedIn x)) (amendedLevels xs) (content-levels (x .content) r (x .mark) (k .0) c)
-    (amended-levels j _ _ r xs (allowed-rest CONTENT (amendments j) _ _ r (x .content) (pairsOf xs) f))
+    let f = leads j p m r x xs e in
+    both-levels (levelIn (amendedIn x)) (amendedLevels xs) (content-levels (x .content) r (x .mark) (f .number) (f .value))
+    (amended-levels j (f .left) (f .marks-left) r xs (f .others))
 
 -- ---- by type
 

@@ -99,7 +99,7 @@ module _ (n : ℕ) (s : List ℕ) (d : Digits n s) where
 -- a block is cut at its B into its two numbers
 pub block-cut : (n m : ℕ) (s : List ℕ) (b : Block n m s) → (has (code "B") s ≡ true) × (before (code "B") s ≡ b .first) × (after (code "B") s ≡ b .second)
 block-cut n m s b =
-    let none = height-uncut (b .first) (digits-height n (b .first) (b .low)) in
+    let none = height-uncut (b .first) (digits-height n (b .first) (b .first-is)) in
     rw (b .text) (joined-has (code "B") (b .first) (b .second) none, joined-before (code "B") (b .first) (b .second) none, joined-after (code "B") (b .first) (b .second) none)
 
 -- and is a level exactly if the second is no smaller than the first
@@ -112,10 +112,10 @@ block-exactly n m s b =
       c .0,
       c .1,
       c .2,
-      digits-height n (b .first) (b .low),
-      digits-height m (b .second) (b .high),
-      digits-number n (b .first) (b .low),
-      digits-number m (b .second) (b .high),
+      digits-height n (b .first) (b .first-is),
+      digits-height m (b .second) (b .second-is),
+      digits-number n (b .first) (b .first-is),
+      digits-number m (b .second) (b .second-is),
     )
 
 -- so one that falls is none
@@ -126,7 +126,7 @@ falls-none s (Down n m b h) = block-exactly n m s b ∙ lt-leb n m h
 block-parts : (s : List ℕ) → joins (code "B") isHeight isHeight s ≡ true → Block (numberOf 10 (before (code "B") s)) (numberOf 10 (after (code "B") s)) s
 block-parts s e =
     let j = joins-parts (code "B") isHeight isHeight s e in
-    record { first = before (code "B") s; second = after (code "B") s; low = height-digits (before (code "B") s) (j .1); high = height-digits (after (code "B") s) (j .2); text = sym (j .0) }
+    record { first = before (code "B") s; second = after (code "B") s; first-is = height-digits (before (code "B") s) (j .1); second-is = height-digits (after (code "B") s) (j .2); text = sym (j .0) }
 
 -- THE LAW: a text has the form of a level exactly if it is one number of 2 or 3 digits, or two that do not fall
 pub level-exactly : (s : List ℕ) → (isLevel s ≡ true → Level s) × (Level s → isLevel s ≡ true)

@@ -18,8 +18,8 @@ pub record Digits (n : ℕ) (s : List ℕ) : Type 0 where
 pub record Block (n m : ℕ) (s : List ℕ) : Type 0 where
   pub first : List ℕ
   pub second : List ℕ
-  pub low : Digits n first
-  pub high : Digits m second
+  pub first-is : Digits n first
+  pub second-is : Digits m second
   pub text : s ≡ first ++ code "B" ∷ second
 
 pub data Level (s : List ℕ) : Type 0 where

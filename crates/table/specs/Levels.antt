@@ -12,6 +12,6 @@ pub data LevelAt (fs : List (List ℕ)) : MessageType → ℕ → Type 0 where
   -- "ident, aircraft, filed speed, fix, time, level, route"
   OfFz : LevelAt fs type.Fz 5
   OfUz : LevelAt fs type.Uz 5
-  -- "ident, two points", then amendments, each "a number .. and its content": after n of them an 08, or an 09
+  -- "ident, point, point, then 1 to 8 amendments", each "a number .. and its content": after n of them an 08, or an 09
   Of08 : (n : ℕ) → fieldAt fs (2 * n + 3) ≡ bytes "08" → LevelAt fs type.Af (2 * n + 4)
   Of09 : (n : ℕ) → fieldAt fs (2 * n + 3) ≡ bytes "09" → LevelAt fs type.Af (2 * n + 4)
