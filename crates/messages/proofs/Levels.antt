@@ -3,7 +3,7 @@ use mathlib.Core.Path.{_≡_, refl}
 use mathlib.Core.Bool.{Bool, true}
 use mathlib.Core.List.{List, [], _∷_, _++_, List·Memᴰ, List·Memᴰ·cases-cons, List·Memᴰ·not-nil}
 use mathlib.Core.Logic.{_⊎_, inl, inr}
-use Prim.Native.Nat.{ℕ, zero, suc, _+_}
+use Prim.Native.Nat.{ℕ, zero, suc}
 use lib.Count.{ones}
 use lib.ListN.{take}
 use Rattle.text.proofs.Logic.{and-left, true-false}
@@ -24,7 +24,7 @@ use Rattle.messages.specs.declared.Af.{Af}
 use Rattle.messages.specs.declared.Plan.{Plan}
 use Rattle.messages.specs.declared.Body.{Body}
 use Rattle.messages.specs.declared.Body.the-variants as body
-use Rattle.messages.proofs.Bodies.{leads, af-amendments}
+use Rattle.messages.proofs.Amendments.{leads, af-amendments}
 use Rattle.messages.proofs.Theorems.{counted}
 use Rattle.messages.proofs.InOrder.{first, next, word-in, body-fielded, body-values}
 

@@ -1,5 +1,6 @@
 pub mod Ways
 pub mod Bodies
+pub mod Amendments
 pub mod Tables
 pub mod ReadWays
 pub mod Theorems

@@ -28,7 +28,8 @@ use Rattle.messages.specs.declared.Af.{Af}
 use Rattle.messages.specs.declared.Body.{Body}
 use Rattle.messages.specs.declared.Body.the-variants as body
 use Rattle.messages.specs.declared.typed.BodyRead.the-variants as read
-use Rattle.messages.proofs.Bodies.{allowed-first, allowed-rest, double, double-is, mark-value, count-pairs, af-kinds, af-values}
+use Rattle.messages.proofs.Bodies.{allowed-first, allowed-rest, double, double-is, mark-value, count-pairs}
+use Rattle.messages.proofs.Amendments.{af-kinds, af-values}
 use Rattle.messages.proofs.ReadWays.{by-table}
 use Rattle.messages.proofs.Theorems.{fields-held, counted, allowed, parts}
 

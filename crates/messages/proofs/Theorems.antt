@@ -33,7 +33,8 @@ use Rattle.messages.specs.declared.Amendment.{Amendment}
 use Rattle.messages.specs.declared.Af.{Af}
 use Rattle.messages.specs.declared.Body.{Body}
 use Rattle.messages.specs.declared.Body.the-variants as body
-use Rattle.messages.proofs.Bodies.{type-from, body-back, amendments-kept, values-back}
+use Rattle.messages.proofs.Amendments.{amendments-kept}
+use Rattle.messages.proofs.Bodies.{type-from, body-back, values-back}
 use Rattle.messages.proofs.Tables.{count-from, marks-kept, has-route}
 use Rattle.messages.specs.Read.{typedOf, bodyRead}
 use Rattle.messages.specs.declared.typed.BodyRead.the-variants as read
