@@ -1,11 +1,10 @@
 -- THE LAWS of levels in lines (document 02, d), of the call: every level of a message that is read is one number or a block that does not fall,
 -- and a block that falls answers 9 with its place, 6 in FZ and UZ and the content's in AF. Assumes nothing.
 use mathlib.Core.Path.{_≡_, sym, ap, _∙_}
-use mathlib.Core.Bool.{Bool, true, false}
+use mathlib.Core.Bool.{true}
 use mathlib.Core.List.{List, List·Memᴰ}
-use Prim.Native.Nat.{ℕ, suc, _<_}
+use Prim.Native.Nat.{ℕ, suc}
 use denote.Ref.{now}
-use lib.ListN.{length}
 use Rattle.text.specs.Text.{textOf}
 use Rattle.rules.specs.Frame.{bodyPart}
 use Rattle.rules.specs.Kind.{LEVEL, isForm}
@@ -15,16 +14,13 @@ use Rattle.rules.proofs.Levels.{level-exactly}
 use Rattle.fields.proofs.WordLaws.{word-form}
 use Rattle.fields.specs.declared.heads.MessageType.{MessageType}
 use Rattle.fields.specs.declared.plan.Level.{Level}
-use Rattle.table.specs.Fault.{fieldAt, FieldCase}
+use Rattle.table.specs.Fault.{fieldAt}
 use Rattle.table.specs.Levels.{LevelAt}
-use Rattle.table.specs.Plan.{isLongPlan}
-use Rattle.table.specs.Spacing.{bodyOf, allFields}
-use Rattle.table.specs.Table.{isCount, kindsOf}
 use Rattle.table.proofs.Levels.{level-falls}
 use Rattle.messages.specs.Levels.{levelsIn}
 use Rattle.messages.specs.declared.Message.{Message}
 use Rattle.messages.proofs.Levels.{body-levels}
-use Rattle.line.specs.Cases.{Headed, Field}
+use Rattle.line.specs.Cases.{Faulty, RightUpTo, Field}
 use Rattle.line.specs.Line.{isAllowed}
 use Rattle.line.specs.Read.{lineNumber, linePlace}
 use Rattle.line.specs.declared.LineRead.the-variants.{Read}
@@ -41,13 +37,20 @@ allowed-levels m r e l x = level-exactly (textOf (l .0)) .0 (word-form LEVEL (l 
 pub read-levels : (κs : _) (a : _) (r : _) (s : _) (m : Message) → read.Post κs a r s → r ≡ Read m → (l : Level) → List·Memᴰ l (levelsIn (m .body)) → level.Level (textOf (l .0))
 read-levels κs a r s m p e = allowed-levels m _ (reads-allowed (now (a .0)) m (sym (p .0) ∙ e) .0)
 
--- and what it refuses: a line of the type t with the fields fs, right up to a level's place, where the block falls
-pub read-falls : (κs : _) (a : _) (r : _) (s : _) → read.Post κs a r s → let line = now (a .0) in
-    (t : MessageType) → Headed line t → isLongPlan t (length line) ≡ false
-    → (fs : List (List ℕ)) (u : Bool) → bodyOf fs u ≡ bodyPart line → allFields fs ≡ true → isCount t (length fs) ≡ true
-    → (i : ℕ) → i < length fs → LevelAt fs t i → ((j : ℕ) → j < i → FieldCase (kindsOf t (length fs)) fs j 0) → Falls (fieldAt fs i)
-    → (lineNumber r ≡ 9) × (linePlace r ≡ suc i)
-read-falls κs a r s p t k short fs u text every c i h l right falls =
-    let here = level-falls t fs i c h l falls in
-    let q = case-only (now (a .0)) 9 (suc i) (Field t i k short (record { fields = fs; trailing = u; text = text; every = every; count = c; first = record { inside = h; before = right; here = here } })) in
+-- and what it refuses: a line that is right up to the place of a level, where a block falls
+pub read-falls : (κs : _) (a : _) (r : _) (s : _) → read.Post κs a r s → (t : MessageType) (fs : List (List ℕ)) (i : ℕ) → RightUpTo (now (a .0)) t fs i
+    → LevelAt fs t i → Falls (fieldAt fs i) → (lineNumber r ≡ 9) × (linePlace r ≡ suc i)
+read-falls κs a r s p t fs i u l falls =
+    let q = case-only (now (a .0)) 9 (suc i) (Field t i (u .head) (u .no-long-plan) faulty) in
     (ap lineNumber (p .0) ∙ q .0, ap linePlace (p .0) ∙ q .1)
+  where
+    faulty : Faulty t (bodyPart (now (a .0))) i 9
+    faulty =
+        record {
+          fields = fs;
+          trailing = u .trailing;
+          text = u .text;
+          every = u .every;
+          count = u .count;
+          first = record { inside = u .inside; before = u .before; here = level-falls t fs i (u .count) (u .inside) l falls };
+        }

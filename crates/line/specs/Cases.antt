@@ -13,7 +13,7 @@ use Rattle.fields.specs.MessageType.{typeText}
 use Rattle.fields.specs.declared.heads.MessageType.{MessageType}
 use Rattle.fields.specs.declared.heads.MessageType.the-variants as type
 use Rattle.table.specs.Spacing.{bodyOf, allFields}
-use Rattle.table.specs.Fault.{FirstFault}
+use Rattle.table.specs.Fault.{FieldCase, FirstFault}
 use Rattle.table.specs.Table.{isCount, hasFields, kindsOf}
 use Rattle.table.specs.Plan.{isLongPlan}
 use Rattle.messages.specs.declared.Message.{Message}
@@ -41,6 +41,17 @@ pub record Faulty (t : MessageType) (b : List ℕ) (i n : ℕ) : Type 0 where
   pub every : allFields fields ≡ true
   pub count : isCount t (length fields) ≡ true
   pub first : FirstFault (kindsOf t (length fields)) fields i n
+
+-- the line s, of the type t and with the fields fs, has such a body, and nothing is wrong before its field i
+pub record RightUpTo (s : List ℕ) (t : MessageType) (fs : List (List ℕ)) (i : ℕ) : Type 0 where
+  pub head : Headed s t
+  pub no-long-plan : isLongPlan t (length s) ≡ false
+  pub trailing : Bool
+  pub text : bodyOf fs trailing ≡ bodyPart s
+  pub every : allFields fs ≡ true
+  pub count : isCount t (length fs) ≡ true
+  pub inside : i < length fs
+  pub before : (j : ℕ) → j < i → FieldCase (kindsOf t (length fs)) fs j 0
 
 -- Case s n p: the line s is in the case of the number n, with the place p
 pub data Case (s : List ℕ) : ℕ → ℕ → Type 0 where

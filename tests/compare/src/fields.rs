@@ -59,12 +59,9 @@ fn put_level(text: &mut Vec<u8>, chance: &mut Chance) {
     if chance.in_hundred(40) {
         let above = chance.near_ends(number, 999);
         let second = chance.one_of(&[number, (number + 1).min(999), above]);
+        let width = if second > 99 { 3 } else { chance.between(2, 3) };
         text.push(b'B');
-        put_number(
-            text,
-            second,
-            if second > 99 { 3 } else { chance.between(2, 3) },
-        );
+        put_number(text, second, width);
     }
 }
 

@@ -148,13 +148,9 @@ fn compare(proved: &Path, folder: &Path, seed: u64, lines: u64) -> io::Result<bo
     let mut listed: u64 = 0;
     let mut seeds = Chance::of_seed(seed);
     let mut tally = Tally::default();
-    let mut blocks = blocks::feeds().into_iter();
-    let lines = lines
-        + blocks
-            .as_slice()
-            .iter()
-            .map(|feed| line_feeds(feed))
-            .sum::<u64>();
+    let blocks = blocks::feeds();
+    let lines = lines + blocks.iter().map(|feed| line_feeds(feed)).sum::<u64>();
+    let mut blocks = blocks.into_iter();
     while tally.lines < lines {
         let mut chance = Chance::of_seed(seeds.draw());
         let most = usize::try_from(lines - tally.lines).unwrap_or(usize::MAX);
