@@ -96,7 +96,7 @@ table =
     ++ (rows kinds.TIME ("D1200" ∷ "E0000" ∷ "P2359" ∷ []) ("D12000" ∷ "A1200" ∷ [])  -- time_6, time_any_letter
     ++ (rows kinds.CLOCK ("0000" ∷ "2359" ∷ []) ("2400" ∷ "1260" ∷ "A1200" ∷ [])  -- clock_2400, clock_minute_60, clock_with_a_letter
     ++ (rows kinds.ARRIVAL ("1200" ∷ "A1200" ∷ "E2359" ∷ []) ("P1200" ∷ "A2400" ∷ [])  -- arrival_p, arrival_2400
-    ++ (rows kinds.LEVEL ("35" ∷ "350" ∷ "35B350" ∷ []) ("3" ∷ "35C350" ∷ "0350" ∷ "35B3500" ∷ [])  -- level_1, level_c_between, level_4, block_4
+    ++ (rows kinds.LEVEL ("05" ∷ "350" ∷ "35B350" ∷ []) ("5" ∷ "35C350" ∷ "0350" ∷ "35B3500" ∷ [])  -- level_1, level_c_between, level_4, block_4
     -- block_falls, block_as_texts, block_equal_refused: of every pair of widths the second below, at and above the first
     ++ (rows kinds.LEVEL ("34B35" ∷ "35B35" ∷ "34B035" ∷ "99B100" ∷ "05B005" ∷ "034B35" ∷ "005B05" ∷ "349B350" ∷ "350B350" ∷ []) ("36B35" ∷ "36B035" ∷ "036B35" ∷ "100B99" ∷ "351B350" ∷ "350B310" ∷ [])
     ++ (rows kinds.TRACK-LEVEL ("350" ∷ "350C" ∷ "350B" ∷ []) ("35" ∷ "350CC" ∷ "110B130" ∷ [])  -- track_level_2, track_level_two_letters, track_level_block

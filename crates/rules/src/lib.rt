@@ -127,11 +127,18 @@ pub fn is_route(s: &[u8]) -> bool
     run(b'v', 1, n, s)
 }
 
-// The number of 2 or 3 digits.
+// A height: 2 or 3 digits.
+fn is_height(s: &[u8]) -> bool
+    ensures { λ r. ⌜ r ≡ isHeight (now (s .entry)) ⌝ }
+{
+    run(b'd', 2, 3, s)
+}
+
+// Its number; nothing of what is no height.
 fn height(s: &[u8]) -> Numeral
     ensures { λ r. ⌜ r ≡ cond (isHeight (now (s .entry))) (Value (numberOf 10 (now (s .entry)))) Nothing ⌝ }
 {
-    if !run(b'd', 2, 3, s) {
+    if !is_height(s) {
         return Numeral::Nothing;
     }
     text::number(s, 10)
@@ -159,7 +166,7 @@ fn is_block(s: &[u8]) -> bool
 fn is_level(s: &[u8]) -> bool
     ensures { λ r. ⌜ r ≡ isLevel (now (s .entry)) ⌝ }
 {
-    run(b'd', 2, 3, s) || is_block(s)
+    is_height(s) || is_block(s)
 }
 
 // Two digits and an alnum.

@@ -11,6 +11,6 @@ height-spec =
     tie.close
     (tie.spec
     (λ c κs. search needs)
-    (λ c. rw (not-so (c .before .run .ensures) (c .if1 .taken)))
+    (λ c. rw (not-so (c .before .is-height .ensures) (c .if1 .taken)))
     (λ c κs. search needs)
-    (λ c. c .number .ensures ∙ height-told _ (so (c .before .before .run .ensures) (c .before .if1 .left))))
+    (λ c. c .number .ensures ∙ height-told _ (so (c .before .before .is-height .ensures) (c .before .if1 .left))))

@@ -12,5 +12,5 @@ is-level-spec =
     (tie.spec
     (λ c κs. search needs)
     (λ c κs. search needs)
-    (λ c. c .if1 .taken ∙ rw (sym (c .before .run .ensures) ∙ c .if1 .taken))
-    (λ c. c .is-block .ensures ∙ rw (sym (c .before .before .run .ensures) ∙ c .before .if1 .left)))
+    (λ c. c .if1 .taken ∙ rw (sym (c .before .is-height .ensures) ∙ c .if1 .taken))
+    (λ c. c .is-block .ensures ∙ rw (sym (c .before .before .is-height .ensures) ∙ c .before .if1 .left)))
