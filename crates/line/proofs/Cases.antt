@@ -3,6 +3,7 @@ use mathlib.Core.Path.{_≡_, refl, sym, ap, _∙_, subst}
 use mathlib.Core.Bool.{Bool, true, false}
 use mathlib.Core.List.{List}
 use Prim.Native.Nat.{ℕ, suc, _-_, _≤_, _<_}
+use native.Mathlib.Nat.{suc-inj}
 use native.Mathlib.Omega.{arith}
 use lib.Dec.{ltb}
 use lib.ListN.{length}
@@ -25,15 +26,18 @@ use Rattle.table.specs.declared.walk.Answer.{Answer}
 use Rattle.table.specs.declared.walk.Answer.the-variants as answer
 use Rattle.table.specs.declared.walk.Fault.{Fault}
 use Rattle.table.specs.declared.walk.Fault.the-variants as fault
-use Rattle.table.specs.Table.{hasFields, answerBy, valuesBy}
+use Rattle.table.specs.Table.{hasFields, kindsOf, answerBy, valuesBy}
 use Rattle.table.specs.Plan.{isLongPlan}
+use Rattle.table.specs.Fault.{FieldCase}
 use Rattle.table.proofs.CountWays.{each-type}
+use Rattle.table.proofs.FieldCases.{field-one}
+use Rattle.table.proofs.SpacingLaws.{unique}
 use Rattle.messages.specs.declared.Message.{Message}
 use Rattle.messages.specs.Read.{typedOf, bodyRead, bodyNumber}
 use Rattle.messages.specs.declared.typed.BodyRead.{BodyRead}
 use Rattle.messages.specs.declared.typed.BodyRead.the-variants as body
 use Rattle.messages.proofs.ReadWays.{by-table, kept-whole}
-use Rattle.line.specs.Cases.{Framed, Headed, Case, Taken, Short, Long, Unprintable, NoSequence, NoStamp, NoFacility, NoType, Spacing, Field, Number, LongPlan}
+use Rattle.line.specs.Cases.{Framed, Headed, Faulty, RightUpTo, Case, Taken, Short, Long, Unprintable, NoSequence, NoStamp, NoFacility, NoType, Spacing, Field, Number, LongPlan}
 use Rattle.line.specs.Read.{headOf, withBody, restOf, byHead, readOf, headNumber, refusalNumber, refusalPlace, lineNumber, linePlace, freeOf}
 use Rattle.line.specs.declared.Head.{Head}
 use Rattle.line.specs.declared.HeadRead.{HeadRead}
@@ -230,3 +234,54 @@ module _ (s : List ℕ) where
   -- what `line::read` promises of its answer
   pub told : {r : LineRead} → r ≡ readOf s → (r ≡ readOf s) × Case s (lineNumber r) (linePlace r)
   told e = (e, subst (λ (x : LineRead). Case s (lineNumber x) (linePlace x)) (sym e) case-of)
+
+-- ---- a line that is right up to its field i
+
+module _ (s : List ℕ) (t : MessageType) (fs : List (List ℕ)) (i : ℕ) (u : RightUpTo s t fs i) where
+  abbrev here : ℕ → Type 0
+  here n = FieldCase (kindsOf t (length fs)) fs i n
+
+  -- is answered 9 with its place where it has no reading
+  pub wrong-there : here 9 → (lineNumber (readOf s) ≡ 9) × (linePlace (readOf s) ≡ suc i)
+  wrong-there c = case-only s 9 (suc i) (Field t i (u .head) (u .no-long-plan) faulty)
+    where
+      faulty : Faulty t (bodyPart s) i 9
+      faulty =
+          record {
+            fields = fs;
+            trailing = u .trailing;
+            text = u .text;
+            every = u .every;
+            count = u .count;
+            first = record { inside = u .inside; before = u .before; here = c };
+          }
+
+  -- a line has one type, and its body one way to be fields
+  same-type : (t′ : MessageType) → Headed s t′ → t′ ≡ t
+  same-type t′ k = let e : type.Read t′ ≡ type.Read t = sym (type-complete t′) ∙ ap typeOf (sym (k .type) ∙ u .head .type) ∙ type-complete t in cc
+
+  its-case : (t′ : MessageType) (n : ℕ) → Headed s t′ → Faulty t′ (bodyPart s) i n → here n
+  its-case t′ n k f =
+      let e = unique (f .fields) fs (f .trailing) (u .trailing) (f .every) (u .every) (f .text ∙ sym (u .text)) .0 in
+      rw (same-type t′ k, e) at (f .first .here)
+
+  -- and with no number where it is right
+  pub right-there : here 0 → linePlace (readOf s) ≡ suc i → ⊥
+  right-there c = go (lineNumber (readOf s)) (linePlace (readOf s)) (case-of s)
+    where
+      none : (t′ : MessageType) (j n : ℕ) → Headed s t′ → Faulty t′ (bodyPart s) j n → suc j ≡ suc i → n ≡ 0
+      none t′ j n k f e = field-one (kindsOf t (length fs)) fs (its-case t′ n k (subst (λ (x : ℕ). Faulty t′ (bodyPart s) x n) (suc-inj e) f)) c
+
+      go : (n p : ℕ) → Case s n p → p ≡ suc i → ⊥
+      go n p (Taken m r a q) e = omega (arith, e)
+      go n p (Short h) e = omega (arith, e)
+      go n p (Long h) e = omega (arith, e)
+      go n p (Unprintable h k q) e = omega (arith, e)
+      go n p (NoSequence f a) e = omega (arith, e)
+      go n p (NoStamp f a b) e = omega (arith, e)
+      go n p (NoFacility f a b d) e = omega (arith, e)
+      go n p (NoType f a b d q) e = omega (arith, e)
+      go n p (Spacing t′ k l h d) e = omega (arith, e)
+      go n p (Field t′ j k l f) e = omega (arith, none t′ j 9 k f e)
+      go n p (Number t′ j k l f) e = omega (arith, none t′ j 10 k f e)
+      go n p (LongPlan k h) e = omega (arith, e)

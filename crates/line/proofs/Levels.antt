@@ -6,7 +6,6 @@ use mathlib.Core.List.{List, List·Memᴰ}
 use Prim.Native.Nat.{ℕ, suc}
 use denote.Ref.{now}
 use Rattle.text.specs.Text.{textOf}
-use Rattle.rules.specs.Frame.{bodyPart}
 use Rattle.rules.specs.Kind.{LEVEL, isForm}
 use Rattle.rules.specs.Level as level
 use Rattle.rules.specs.Level.{Falls}
@@ -16,15 +15,15 @@ use Rattle.fields.specs.declared.heads.MessageType.{MessageType}
 use Rattle.fields.specs.declared.plan.Level.{Level}
 use Rattle.table.specs.Fault.{fieldAt}
 use Rattle.table.specs.Levels.{LevelAt}
-use Rattle.table.proofs.Levels.{level-falls}
+use Rattle.table.proofs.Levels.{level-right, level-falls}
 use Rattle.messages.specs.Levels.{levelsIn}
 use Rattle.messages.specs.declared.Message.{Message}
 use Rattle.messages.proofs.Levels.{body-levels}
-use Rattle.line.specs.Cases.{Faulty, RightUpTo, Field}
+use Rattle.line.specs.Cases.{RightUpTo}
 use Rattle.line.specs.Line.{isAllowed}
 use Rattle.line.specs.Read.{lineNumber, linePlace}
 use Rattle.line.specs.declared.LineRead.the-variants.{Read}
-use Rattle.line.proofs.Cases.{case-only}
+use Rattle.line.proofs.Cases.{wrong-there, right-there}
 use Rattle.line.proofs.Steps.{allowed-allows}
 use Rattle.line.proofs.Theorems.{reads-allowed}
 use Rattle.line.proofs.read.Reads as read
@@ -37,20 +36,13 @@ allowed-levels m r e l x = level-exactly (textOf (l .0)) .0 (word-form LEVEL (l 
 pub read-levels : (κs : _) (a : _) (r : _) (s : _) (m : Message) → read.Post κs a r s → r ≡ Read m → (l : Level) → List·Memᴰ l (levelsIn (m .body)) → level.Level (textOf (l .0))
 read-levels κs a r s m p e = allowed-levels m _ (reads-allowed (now (a .0)) m (sym (p .0) ∙ e) .0)
 
--- and what it refuses: a line that is right up to the place of a level, where a block falls
-pub read-falls : (κs : _) (a : _) (r : _) (s : _) → read.Post κs a r s → (t : MessageType) (fs : List (List ℕ)) (i : ℕ) → RightUpTo (now (a .0)) t fs i
-    → LevelAt fs t i → Falls (fieldAt fs i) → (lineNumber r ≡ 9) × (linePlace r ≡ suc i)
-read-falls κs a r s p t fs i u l falls =
-    let q = case-only (now (a .0)) 9 (suc i) (Field t i (u .head) (u .no-long-plan) faulty) in
+-- and what it refuses, of a line that is right up to the place of a level: a block that falls there, and no level
+pub read-falls : (κs : _) (a : _) (r : _) (s : _) → read.Post κs a r s → (t : MessageType) (fs : List (List ℕ)) (i : ℕ) → RightUpTo (now (a .0)) t fs i → LevelAt fs t i
+    → Falls (fieldAt fs i) → (lineNumber r ≡ 9) × (linePlace r ≡ suc i)
+read-falls κs a r s p t fs i u l f =
+    let q = wrong-there (now (a .0)) t fs i u (level-falls t fs i (u .count) (u .inside) l f) in
     (ap lineNumber (p .0) ∙ q .0, ap linePlace (p .0) ∙ q .1)
-  where
-    faulty : Faulty t (bodyPart (now (a .0))) i 9
-    faulty =
-        record {
-          fields = fs;
-          trailing = u .trailing;
-          text = u .text;
-          every = u .every;
-          count = u .count;
-          first = record { inside = u .inside; before = u .before; here = level-falls t fs i (u .count) (u .inside) l falls };
-        }
+
+pub read-rises : (κs : _) (a : _) (r : _) (s : _) → read.Post κs a r s → (t : MessageType) (fs : List (List ℕ)) (i : ℕ) → RightUpTo (now (a .0)) t fs i → LevelAt fs t i
+    → level.Level (fieldAt fs i) → linePlace r ≡ suc i → ⊥
+read-rises κs a r s p t fs i u l v e = right-there (now (a .0)) t fs i u (level-right t fs i (u .count) (u .inside) l v) (sym (ap linePlace (p .0)) ∙ e)
