@@ -33,20 +33,6 @@ returns-4 c =
 pub is-block-spec : {M : Type 1} → statement M
 is-block-spec =
     tie.close
-    (tie.spec
-    (λ c κs. search needs)
-    (λ c. block-uncut _ _ (c .before .find .ensures) (c .if1 .taken))
-    (λ c. search needs)
-    (λ c. sym (length-take-le _ _ (le-of-lt (c .before .if1 .left))))
-    (λ c κs. search needs)
-    (λ c. search needs)
-    (λ c. search needs)
-    returns-2
-    (λ c. search needs)
-    (λ c. search needs)
-    (λ c. search needs)
-    (λ c κs. search needs)
-    (λ c. search needs)
-    (λ c. search needs)
-    returns-3
-    returns-4)
+    (tie.spec (λ c κs. search needs) (λ c. block-uncut _ _ (c .before .find .ensures) (c .if1 .taken)) (λ c. search needs)
+    (λ c. sym (length-take-le _ _ (le-of-lt (c .before .if1 .left)))) (λ c κs. search needs) (λ c. search needs) (λ c. search needs) returns-2
+    (λ c. search needs) (λ c. search needs) (λ c. search needs) (λ c κs. search needs) (λ c. search needs) (λ c. search needs) returns-3 returns-4)
