@@ -9,7 +9,8 @@ use lib.Dec.{eqb}
 use Rattle.text.specs.Text.{hasRoom, writtenNext}
 use Rattle.rules.specs.Form.{isSequence, isStamp, isIdent, isTzIdent, isFacility}
 use Rattle.rules.specs.Kind.{SEQUENCE, STAMP, isForm}
-use Rattle.fields.specs.Aircraft.{Case, One, None, aircraftOf, aircraftAnswer}
+use Rattle.rules.specs.declared.Rule.{Rule}
+use Rattle.fields.specs.Aircraft.{Case, One, None, aircraftBy, aircraftAnswer}
 use Rattle.fields.specs.Answer.{refusal, readAnswer, pairAnswer, writeAnswer}
 use Rattle.fields.specs.Facility.{facilityOf, facilityAnswer}
 use Rattle.fields.specs.Ident.{identFrom, identOf, tzIdentOf, identAnswer}
@@ -22,7 +23,7 @@ use Rattle.fields.specs.declared.heads.MessageType.{MessageType}
 use Rattle.fields.specs.declared.heads.TypeRead.{TypeRead}
 use Rattle.fields.specs.declared.heads.TypeRead.the-variants.{Read as head-Read, Nothing as head-Nothing}
 use Rattle.fields.specs.declared.idents.IdentRead.the-variants.{Read, Nothing}
-use Rattle.fields.proofs.Single.{aircraft-one, aircraft-none}
+use Rattle.fields.proofs.Single.{aircraft-one-by, aircraft-none-by}
 use Rattle.fields.proofs.TypeLaws.{type-sound, type-complete}
 
 -- ---- fields held as their text
@@ -83,12 +84,12 @@ tz-answer s = chosen (isTzIdent s) s
 -- ---- aircraft
 
 -- the number tells how many readings there are
-pub aircraft-answer : (s : List ℕ) → Case s (aircraftAnswer (aircraftOf s))
-aircraft-answer s = go (aircraftOf s) refl
+pub aircraft-answer : (ρ : Rule) (s : List ℕ) → Case ρ s (aircraftAnswer (aircraftBy ρ s))
+aircraft-answer ρ s = go (aircraftBy ρ s) refl
   where
-    go : (r : AircraftRead) → aircraftOf s ≡ r → Case s (aircraftAnswer r)
-    go (aircraft-Read a) q = let p = aircraft-one s a q in One a (p .0) (p .1)
-    go aircraft-Nothing q = None (aircraft-none s q)
+    go : (r : AircraftRead) → aircraftBy ρ s ≡ r → Case ρ s (aircraftAnswer r)
+    go (aircraft-Read a) q = let p = aircraft-one-by ρ s a q in One a (p .0) (p .1)
+    go aircraft-Nothing q = None (aircraft-none-by ρ s q)
 
 -- ---- facility and type
 

@@ -95,12 +95,15 @@ facility-sound s f e = go (isFacility s) refl
         (q, rw (← y) (h .0), rw (← y) (h .1))
     go false q = let z : Nothing ≡ Read f = rw q at e in ((cc), (cc), (cc))
 
+pub facility-small : (n : ℕ) → isFacilityValue n ≡ true → n < 256 ^ 4
+unfolding isFacilityValue
+facility-small n e = ltb-true n (256 ^ 4) (and-left (ltb n (256 ^ 4)) (isFacility (facilityText n)) e)
+
 -- the text of every such value reads as it
 pub facility-complete : (f : Facility) → isFacilityValue (f .0) ≡ true → facilityOf (facilityText (f .0)) ≡ Read f
 unfolding facilityOf isFacilityValue facilityText
 facility-complete f e =
-    let small = ltb-true (f .0) (256 ^ 4) (and-left (ltb (f .0) (256 ^ 4)) (isFacility (facilityText (f .0))) e) in
-    rw (and-right (ltb (f .0) (256 ^ 4)) (isFacility (facilityText (f .0))) e, value-places 256 255 (lit≤ tt) 4 (f .0) small)
+    rw (and-right (ltb (f .0) (256 ^ 4)) (isFacility (facilityText (f .0))) e, value-places 256 255 (lit≤ tt) 4 (f .0) (facility-small (f .0) e))
 
 -- ---- writing
 

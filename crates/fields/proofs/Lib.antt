@@ -9,6 +9,7 @@ pub mod Cuttings
 pub mod Single
 pub mod TypeLaws
 pub mod FacilityLaws
+pub mod HeadLaws
 pub mod Answers
 pub mod Slashes
 pub mod Unique

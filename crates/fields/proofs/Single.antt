@@ -1,13 +1,14 @@
 -- THE THEOREM of aircraft: no text has two different readings, so the reader answers the one that it finds. Without a prefix, a field with a slash
 -- has one letter after it; with a prefix it has a type there, of two bytes or more. Assumes nothing.
 use mathlib.Core.Path.{_≡_, refl, sym, ap, _∙_}
-use mathlib.Core.Bool.{Bool, true, false, _&&_, and-false}
-use mathlib.Core.List.{List}
+use mathlib.Core.Bool.{Bool, true, false, cond, _&&_, and-false}
+use mathlib.Core.List.{List, []}
 use mathlib.Core.Logic.{_⊎_, inl, inr}
 use Prim.Native.Char.{code}
 use Prim.Native.Nat.{ℕ, _≤_}
 use native.Mathlib.Omega.{arith}
 use lib.Dec.{eqb}
+use borrow.Author.Tests.{eqb-true}
 use lib.ListN.{length, take}
 use lib.Seq.{length-take-le}
 use Rattle.text.specs.Bytes.{bytes}
@@ -16,12 +17,15 @@ use Rattle.text.proofs.Logic.{and-left, not-holds}
 use Rattle.shapes.specs.Cut.{upTo, has, before, after}
 use Rattle.shapes.proofs.Laws.{upTo-le, fits-length, run-least}
 use Rattle.rules.specs.Kind.{PREFIX, MODEL, LETTER, isForm}
+use Rattle.rules.specs.declared.Rule.{Rule}
+use Rattle.rules.specs.declared.Rule.the-variants.{Old}
 use Rattle.fields.specs.Pair.{slash, isPairForm, pairOf}
-use Rattle.fields.specs.Aircraft.{CutInto, Told, Parts, Uncut, aircraftText, isAircraftValue, Reading, plainOf, prefixedOf, aircraftOf}
+use Rattle.fields.specs.Aircraft.{CutInto, Told, Parts, Uncut, aircraftText, isAircraftValue, Reading, ReadingBy, isLetterBy, plainOf, prefixedOf, aircraftOf, lettered, aircraftBy}
 use Rattle.fields.specs.declared.aircraft.Aircraft.{Aircraft}
 use Rattle.fields.specs.declared.aircraft.AircraftRead.{AircraftRead}
 use Rattle.fields.specs.declared.aircraft.AircraftRead.the-variants.{Read, Nothing}
 use Rattle.fields.proofs.AircraftLaws.{without, with-one}
+use Rattle.fields.proofs.PairLaws.{packed-none, text-none}
 use Rattle.fields.proofs.Cuttings.{reading-cut, words, cut-texts, cut-reading}
 use Rattle.fields.proofs.AircraftReadings.{plain-reading, reading-plain, prefixed-reading, reading-prefixed}
 
@@ -107,6 +111,48 @@ module _ (s : List ℕ) where
       let x = cut-texts c in
       let y = cut-texts d in
       (sym (x .0) ∙ ap (λ (a : Aircraft). textOf (a .prefix)) e ∙ y .0, sym (x .1) ∙ ap (λ (a : Aircraft). textOf (a .model)) e ∙ y .1, sym (x .2) ∙ ap (λ (a : Aircraft). textOf (a .letter)) e ∙ y .2)
+
+-- ---- by the rule
+
+-- what is read is a reading that the rule allows
+pub by-reading : (ρ : Rule) (s : List ℕ) (a : Aircraft) → aircraftBy ρ s ≡ Read a → (aircraftOf s ≡ Read a) × (isLetterBy ρ (a .letter) ≡ true)
+unfolding aircraftBy
+by-reading ρ s a e = go (aircraftOf s) refl e
+  where
+    kept : (b : Aircraft) (t : Bool) → isLetterBy ρ (b .letter) ≡ t → aircraftOf s ≡ Read b → cond t (Read b) Nothing ≡ Read a → (aircraftOf s ≡ Read a) × (isLetterBy ρ (a .letter) ≡ true)
+    kept b true q p d = let z : b ≡ a = cc in (p ∙ ap Read z, rw (← z) q)
+    kept b false q p d = absurd (let y : _≡_ {A = ℕ} 0 1 = cc in omega arith)
+
+    go : (r : AircraftRead) → aircraftOf s ≡ r → lettered ρ r ≡ Read a → (aircraftOf s ≡ Read a) × (isLetterBy ρ (a .letter) ≡ true)
+    go (Read b) p d = kept b (isLetterBy ρ (b .letter)) refl p d
+    go Nothing p d = absurd (let y : _≡_ {A = ℕ} 0 1 = cc in omega arith)
+
+pub by-read : (ρ : Rule) (s : List ℕ) (a : Aircraft) → aircraftOf s ≡ Read a → isLetterBy ρ (a .letter) ≡ true → aircraftBy ρ s ≡ Read a
+unfolding aircraftBy
+by-read ρ s a e q = rw (e, q)
+
+-- every reading that the rule allows is the one that is read
+by-found : (ρ : Rule) (s : List ℕ) (a : Aircraft) → ReadingBy ρ s a → aircraftBy ρ s ≡ Read a
+by-found ρ s a r = by-read ρ s a (found s a (r .reading)) (r .letter)
+
+module _ (ρ : Rule) (s : List ℕ) where
+  pub aircraft-one-by : (a : Aircraft) → aircraftBy ρ s ≡ Read a → ReadingBy ρ s a × ((b : Aircraft) → ReadingBy ρ s b → b ≡ a)
+  aircraft-one-by a e =
+      let x = by-reading ρ s a e in
+      (record { reading = aircraft-one s a (x .0) .0; letter = x .1 }, λ b r. aircraft-one s a (x .0) .1 b (r .reading))
+
+  pub aircraft-none-by : aircraftBy ρ s ≡ Nothing → (a : Aircraft) → ReadingBy ρ s a → ⊥
+  aircraft-none-by e a r = let z : Read a ≡ Nothing = sym (by-found ρ s a r) ∙ e in let y : _≡_ {A = ℕ} 0 1 = cc in omega arith
+
+-- in bytes, of the old feed: what is read is the text cut into a prefix and a type, with no letter after them, and where nothing is read no way cuts it so
+pub old-cut : (s : List ℕ) (a : Aircraft) → aircraftBy Old s ≡ Read a → CutInto s (textOf (a .prefix)) (textOf (a .model)) []
+old-cut s a e =
+    let r = aircraft-one-by Old s a e .0 in
+    let n : textOf (a .letter) ≡ [] = ap textOf (eqb-true (a .letter) 0 (r .letter)) ∙ text-none in
+    rw n at (reading-cut s a (r .reading))
+
+pub old-uncut : (s : List ℕ) → aircraftBy Old s ≡ Nothing → (p t : List ℕ) → CutInto s p t [] → ⊥
+old-uncut s e p t c = aircraft-none-by Old s e (words p t []) (record { reading = cut-reading c; letter = rw packed-none })
 
 -- the text of every aircraft reads as it
 pub aircraft-complete : (a : Aircraft) → isAircraftValue a ≡ true → aircraftOf (aircraftText a) ≡ Read a

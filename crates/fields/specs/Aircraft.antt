@@ -13,6 +13,8 @@ use Rattle.text.specs.declared.Packed.the-variants as word
 use Rattle.shapes.specs.Cut.{has, before, after}
 use Rattle.rules.specs.Form.{isPrefix, isModel, isOneLetter}
 use Rattle.rules.specs.Kind.{PREFIX, MODEL, LETTER, isForm}
+use Rattle.rules.specs.declared.Rule.{Rule}
+use Rattle.rules.specs.declared.Rule.the-variants.{New, Old}
 use Rattle.fields.specs.Word.{isWord}
 use Rattle.fields.specs.Pair.{slash, pairOf, pairText, isPair, pairWord}
 use Rattle.fields.specs.declared.words.Pair.{Pair}
@@ -57,10 +59,19 @@ pub record Reading (s : List ℕ) (a : Aircraft) : Type 0 where
   pub value : isAircraftValue a ≡ true
   pub text : aircraftText a ≡ s
 
+-- by the rule: the old feed "lacked .. the aircraft's last letter" (document 02, l)
+abbrev pub isLetterBy : Rule → ℕ → Bool
+isLetterBy New l = true
+isLetterBy Old l = eqb l 0
+
+pub record ReadingBy (ρ : Rule) (s : List ℕ) (a : Aircraft) : Type 0 where
+  pub reading : Reading s a
+  pub letter : isLetterBy ρ (a .letter) ≡ true
+
 -- the cases of document 01's answer numbers: 0 where a text has one reading, 9 where it has none, and no other
-pub data Case (s : List ℕ) : ℕ → Type 0 where
-  One : (a : Aircraft) → Reading s a → ((b : Aircraft) → Reading s b → b ≡ a) → Case s 0
-  None : ((a : Aircraft) → Reading s a → ⊥) → Case s 9
+pub data Case (ρ : Rule) (s : List ℕ) : ℕ → Type 0 where
+  One : (a : Aircraft) → ReadingBy ρ s a → ((b : Aircraft) → ReadingBy ρ s b → b ≡ a) → Case ρ s 0
+  None : ((a : Aircraft) → ReadingBy ρ s a → ⊥) → Case ρ s 9
 
 -- ---- what the reader answers: the reading without a prefix, or else the one with a prefix
 
@@ -80,6 +91,14 @@ orElse Nothing y = y
 
 unfoldable pub aircraftOf : List ℕ → AircraftRead
 aircraftOf s = orElse (plainOf s) (prefixedOf s)
+
+-- by the rule: "an aircraft field with a last letter .. has no reading there"
+abbrev pub lettered : Rule → AircraftRead → AircraftRead
+lettered ρ (Read a) = cond (isLetterBy ρ (a .letter)) (Read a) Nothing
+lettered ρ Nothing = Nothing
+
+unfoldable pub aircraftBy : Rule → List ℕ → AircraftRead
+aircraftBy ρ s = lettered ρ (aircraftOf s)
 
 -- document 01's answer number
 abbrev pub aircraftAnswer : AircraftRead → ℕ

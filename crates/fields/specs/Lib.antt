@@ -5,4 +5,5 @@ pub mod Answer
 pub mod Ident
 pub mod Aircraft
 pub mod Facility
+pub mod Head
 pub mod MessageType

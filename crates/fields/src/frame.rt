@@ -40,6 +40,12 @@ impl Sequence {
     }
 }
 
+// The stamp of an old line: six digits HHMMSS. It has no day, so how old it is cannot be asked.
+pub struct OldStamp(pub u64);
+
+// The center of an old line: one capital.
+pub struct Center(pub u64);
+
 // A stamp: eight digits DDHHMMSS, each pair in its range.
 pub struct Stamp(pub u64);
 

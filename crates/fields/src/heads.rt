@@ -3,7 +3,7 @@ use text::Written;
 use text::writing::put_bytes;
 ghost use mathlib.Core.Path.{_≡_};
 ghost use mathlib.Core.Bool.{true};
-ghost use Prim.Native.Nat.{_+_, _*_};
+ghost use Prim.Native.Nat.{_+_, _*_, _^_, _<_};
 ghost use Rattle.text.specs.Text.{writtenNext, writtenBytes};
 ghost use Rattle.fields.specs.Facility.{facilityOf, facilityText, isFacilityValue};
 ghost use Rattle.fields.specs.MessageType.{typeOf, typeText, typeNumber};
@@ -15,8 +15,11 @@ fn joined(a: u8, b: u8, c: u8, d: u8) -> u32
     (a as u32) * 16777216 + (b as u32) * 65536 + (c as u32) * 256 + (d as u32)
 }
 
+// No four bytes make a greater number.
+const LAST_FACILITY: u64 = 0xFFFFFFFF;
+
 // A facility: four bytes, right justified, held as one number to the base 256.
-pub struct Facility(pub u32);
+pub struct Facility(pub u64);
 
 pub enum FacilityRead {
     Read(Facility),
@@ -30,11 +33,12 @@ impl Facility {
         if !rules::is_facility(s) {
             return FacilityRead::Nothing;
         }
-        FacilityRead::Read(Facility(joined(s[0], s[1], s[2], s[3])))
+        FacilityRead::Read(Facility(joined(s[0], s[1], s[2], s[3]) as u64))
     }
 
     // Its four bytes.
     fn bytes(self) -> [u8; 4]
+        requires { ⌜ self .0 < 256 ^ 4 ⌝ }
         ensures { λ r. ⌜ r ≡ facilityText (self .0) ⌝ }
     {
         let n = self.0;
@@ -49,6 +53,9 @@ impl Facility {
     pub fn holds(self) -> bool
         ensures { λ r. ⌜ r ≡ isFacilityValue (self .0) ⌝ }
     {
+        if self.0 > LAST_FACILITY {
+            return false;
+        }
         let room = self.bytes();
         rules::is_facility(&room)
     }

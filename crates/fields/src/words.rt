@@ -19,7 +19,7 @@ pub fn read(kind: u8, s: &[u8]) -> Packed
 }
 
 // Whether t is the word of some text of the kind.
-pub(crate) fn holds(kind: u8, t: u64) -> bool
+pub fn holds(kind: u8, t: u64) -> bool
     ensures { λ r. ⌜ r ≡ isWord kind t ⌝ }
 {
     let mut room = [0u8; 12];

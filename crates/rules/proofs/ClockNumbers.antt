@@ -1,6 +1,6 @@
 -- What stamps, clocks and times are, said of their numbers: each way out of a test is a case of it. Assumes nothing.
 use mathlib.Core.Path.{_≡_, refl, sym}
-use mathlib.Core.Bool.{Bool, true, false, _&&_}
+use mathlib.Core.Bool.{Bool, true, false, _&&_, and-assoc}
 use mathlib.Core.List.{List, [], _∷_}
 use Prim.Native.Nat.{ℕ, _/_, _%_, _<_}
 use native.Mathlib.Nat.{div-one, mod-eq-of-lt}
@@ -14,12 +14,15 @@ use Rattle.text.specs.declared.Numeral.the-variants.{Value, Nothing}
 use Rattle.text.proofs.Numbers.{number-known, number-none}
 use Rattle.shapes.specs.Picture.{isOf, fits, within, part}
 use Rattle.shapes.proofs.Digits.{digits-fit, numeral-lt, within-part}
-use Rattle.rules.specs.Form.{isStamp, isClock}
+use Rattle.rules.specs.Form.{isStamp, isOldStamp, isClock}
 use Rattle.rules.proofs.Minutes.{withMinutes, minutes-are}
 
--- DDHHMMSS as a number, each pair in its range
+-- HHMMSS as a number, and DDHHMMSS, each pair in its range
+abbrev isTimeOfDay : ℕ → Bool
+isTimeOfDay n = leb (n / 10000 % 100) 23 && leb (n / 100 % 100) 59 && leb (n % 100) 59
+
 abbrev isMoment : ℕ → Bool
-isMoment n = leb 1 (n / 1000000) && leb (n / 1000000) 31 && leb (n / 10000 % 100) 23 && leb (n / 100 % 100) 59 && leb (n % 100) 59
+isMoment n = leb 1 (n / 1000000) && leb (n / 1000000) 31 && isTimeOfDay n
 
 module _ (s : List ℕ) (long : length s ≡ 8) where
   pub no-stamp : readNumber 10 s ≡ Nothing → false ≡ isStamp s
@@ -31,10 +34,21 @@ module _ (s : List ℕ) (long : length s ≡ 8) where
   moment-is e =
       let small : numberOf 10 s / 1000000 < 100 = omega (arith, rw long at (numeral-lt s e)) in
       rw (digits-fit 8 s (lit≤ tt) long, e, within-part s e 0 2 6 long 1 31, within-part s e 2 2 4 long 0 23, within-part s e 4 2 2 long 0 59, within-part s e 6 2 0 long 0 59, div-one)
-      (simp leb·zero (rw (mod-eq-of-lt small)))
+      (simp (leb·zero, and-assoc) (rw (mod-eq-of-lt small)))
 
   pub stamp-is : {n : ℕ} → readNumber 10 s ≡ Value n → isMoment n ≡ isStamp s
   stamp-is told = let k = number-known 10 s told in rw (k .1) (moment-is (k .0))
+
+module _ (s : List ℕ) (long : length s ≡ 6) where
+  pub no-old-stamp : readNumber 10 s ≡ Nothing → false ≡ isOldStamp s
+  unfolding isOldStamp
+  no-old-stamp told = rw (digits-fit 6 s (lit≤ tt) long, number-none 10 s told)
+
+  pub old-stamp-is : {n : ℕ} → readNumber 10 s ≡ Value n → isTimeOfDay n ≡ isOldStamp s
+  unfolding isOldStamp
+  old-stamp-is told =
+      let k = number-known 10 s told in
+      rw (k .1, digits-fit 6 s (lit≤ tt) long, k .0, within-part s (k .0) 0 2 4 long 0 23, within-part s (k .0) 2 2 2 long 0 59, within-part s (k .0) 4 2 0 long 0 59, div-one) (simp leb·zero)
 
 pub clock-is : (s : List ℕ) → length s ≡ 4 → withMinutes 2359 s ≡ isClock s
 unfolding isClock

@@ -19,8 +19,8 @@ use Rattle.shapes.specs.Picture.{either, isOf, fits, pictures, fitsAny, oneOf, 
 use Rattle.shapes.specs.Cut.{before, after, joins}
 use Rattle.shapes.proofs.Laws.{fits-length, run-least, run-most, run-class}
 use Rattle.shapes.proofs.Joins.{joins-parts}
-use Rattle.rules.specs.Form.{isSequence, isStamp, isKey, isNumber, isPrefix, isModel, isOneLetter, isFiledSpeed, isGroundSpeed, isPoint, isFix, isClock, isTime, isArrival, isHeight, isBlock, isLevel, isTrackLevel, isPosition}
-use Rattle.rules.specs.Kind.{SEQUENCE, STAMP, KEY, NUMBER, PREFIX, MODEL, LETTER, FILED-SPEED, GROUND-SPEED, POINT, FIX, TIME, CLOCK, ARRIVAL, LEVEL, TRACK-LEVEL, POSITION, isForm}
+use Rattle.rules.specs.Form.{isSequence, isStamp, isOldStamp, isKey, isNumber, isPrefix, isModel, isOneLetter, isFiledSpeed, isGroundSpeed, isPoint, isFix, isClock, isTime, isArrival, isHeight, isBlock, isLevel, isTrackLevel, isPosition}
+use Rattle.rules.specs.Kind.{SEQUENCE, STAMP, OLD-STAMP, KEY, NUMBER, PREFIX, MODEL, LETTER, FILED-SPEED, GROUND-SPEED, POINT, FIX, TIME, CLOCK, ARRIVAL, LEVEL, TRACK-LEVEL, POSITION, isForm}
 
 pub record Held (s : List ℕ) : Type 0 where
   pub text : isText s ≡ true
@@ -159,6 +159,10 @@ stamp-held : (s : List ℕ) → isStamp s ≡ true → Held s
 unfolding isStamp suits textual all isTextByte isAlnum isDigit isLetter
 stamp-held s e = fits-held (bytes "dddddddd") s refl (not-fails _ (λ q. true-false (rw q at e) refl))
 
+old-stamp-held : (s : List ℕ) → isOldStamp s ≡ true → Held s
+unfolding isOldStamp suits textual all isTextByte isAlnum isDigit isLetter
+old-stamp-held s e = fits-held (bytes "dddddd") s refl (not-fails _ (λ q. true-false (rw q at e) refl))
+
 key-held : (s : List ℕ) → isKey s ≡ true → Held s
 unfolding isKey textual isTextByte isAlnum isDigit isLetter
 key-held s e = run-held (code "a") 2 7 s refl (lit≤ tt) (lit≤ tt) (not-fails _ (λ q. true-false (rw q at e) refl))
@@ -193,6 +197,7 @@ unfolding isForm suits suit pieces textual all isTextByte isAlnum isDigit isLett
 form-held k s =
     pick (eqb k SEQUENCE) (isSequence s) _ (fits-held (bytes "hhhh") s refl)
     (pick (eqb k STAMP) (isStamp s) _ (stamp-held s)
+    (pick (eqb k OLD-STAMP) (isOldStamp s) _ (old-stamp-held s)
     (pick (eqb k KEY) (isKey s) _ (key-held s)
     (pick (eqb k NUMBER) (isNumber s) _ (fits-held (bytes "dda") s refl)
     (pick (eqb k PREFIX) (isPrefix s) _ (one-held (bytes "a|da") s refl)
@@ -207,7 +212,7 @@ form-held k s =
     (pick (eqb k ARRIVAL) (isArrival s) _ (arrival-held s)
     (pick (eqb k LEVEL) (isLevel s) _ (level-held s)
     (pick (eqb k TRACK-LEVEL) (isTrackLevel s) _ (one-held (bytes "ddd|dddl") s refl)
-    (pick (eqb k POSITION) (isPosition s) false (position-held s) (λ e. true-false e refl)))))))))))))))))
+    (pick (eqb k POSITION) (isPosition s) false (position-held s) (λ e. true-false e refl))))))))))))))))))
 
 -- so no bytes have no form
 pub no-bytes : (k : ℕ) → isForm k [] ≡ false

@@ -21,6 +21,10 @@ isSequence s = fits (bytes "hhhh") s
 unfoldable pub isStamp : List ℕ → Bool
 isStamp s = fits (bytes "dddddddd") s && within 1 31 (part 0 2 s) && within 0 23 (part 2 2 s) && within 0 59 (part 4 2 s) && within 0 59 (part 6 2 s)
 
+-- of the old feed (02, l): "six digits HHMMSS", the same without the day
+unfoldable pub isOldStamp : List ℕ → Bool
+isOldStamp s = fits (bytes "dddddd") s && within 0 23 (part 0 2 s) && within 0 59 (part 2 2 s) && within 0 59 (part 4 2 s)
+
 -- "four characters of facility, right justified: zero to three spaces, then one to four capitals or digits"
 abbrev pub isFacility : List ℕ → Bool
 isFacility s = oneOf (bytes "aaaa| aaa|  aa|   a") s

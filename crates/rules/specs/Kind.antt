@@ -4,13 +4,17 @@ use Prim.Native.Char.{code}
 use mathlib.Core.Bool.{Bool, false, cond}
 use mathlib.Core.List.{List}
 use lib.Dec.{eqb}
-use Rattle.rules.specs.Form.{isSequence, isStamp, isKey, isNumber, isPrefix, isModel, isOneLetter, isFiledSpeed, isGroundSpeed, isPoint, isFix, isTime, isClock, isArrival, isLevel, isTrackLevel, isPosition}
+use Rattle.rules.specs.Form.{isSequence, isStamp, isOldStamp, isKey, isNumber, isPrefix, isModel, isOneLetter, isFiledSpeed, isGroundSpeed, isPoint, isFix, isTime, isClock, isArrival, isLevel, isTrackLevel, isPosition}
 
 abbrev pub SEQUENCE : ℕ
 SEQUENCE = code "Q"
 
 abbrev pub STAMP : ℕ
 STAMP = code "D"
+
+-- the old feed's, in a small letter
+abbrev pub OLD-STAMP : ℕ
+OLD-STAMP = code "d"
 
 abbrev pub KEY : ℕ
 KEY = code "K"
@@ -62,6 +66,7 @@ unfoldable pub isForm : ℕ → List ℕ → Bool
 isForm k s =
     cond (eqb k SEQUENCE) (isSequence s)
     (cond (eqb k STAMP) (isStamp s)
+    (cond (eqb k OLD-STAMP) (isOldStamp s)
     (cond (eqb k KEY) (isKey s)
     (cond (eqb k NUMBER) (isNumber s)
     (cond (eqb k PREFIX) (isPrefix s)
@@ -76,4 +81,4 @@ isForm k s =
     (cond (eqb k ARRIVAL) (isArrival s)
     (cond (eqb k LEVEL) (isLevel s)
     (cond (eqb k TRACK-LEVEL) (isTrackLevel s)
-    (cond (eqb k POSITION) (isPosition s) false))))))))))))))))
+    (cond (eqb k POSITION) (isPosition s) false)))))))))))))))))

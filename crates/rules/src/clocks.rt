@@ -8,12 +8,25 @@ ghost use Prim.Native.Nat.{_/_, _%_};
 ghost use lib.Dec.{leb};
 ghost use Rattle.text.specs.Bytes.{bytes};
 ghost use Rattle.shapes.specs.Picture.{fits, part};
-ghost use Rattle.rules.specs.Form.{isStamp, isClock, isTime, isArrival};
+ghost use Rattle.rules.specs.Form.{isStamp, isOldStamp, isClock, isTime, isArrival};
+
+// The last six digits of a number as HHMMSS, each pair in its range.
+fn is_time_of_day(n: u64) -> bool
+    ensures { λ r. ⌜ r ≡ (leb (n / 10000 % 100) 23 && leb (n / 100 % 100) 59 && leb (n % 100) 59) ⌝ }
+{
+    if n / 10000 % 100 > 23 {
+        return false;
+    }
+    if n / 100 % 100 > 59 {
+        return false;
+    }
+    n % 100 <= 59
+}
 
 // DDHHMMSS as a number, each pair in its range.
 fn is_moment(n: u64) -> bool
-    ensures { λ r. ⌜ r ≡ (leb 1 (n / 1000000) && leb (n / 1000000) 31 && leb (n / 10000 % 100) 23
-        && leb (n / 100 % 100) 59 && leb (n % 100) 59) ⌝ }
+    ensures { λ r. ⌜ r ≡ (leb 1 (n / 1000000) && leb (n / 1000000) 31 && (leb (n / 10000 % 100) 23
+        && leb (n / 100 % 100) 59 && leb (n % 100) 59)) ⌝ }
 {
     let day = n / 1000000;
     if day < 1 {
@@ -22,13 +35,7 @@ fn is_moment(n: u64) -> bool
     if day > 31 {
         return false;
     }
-    if n / 10000 % 100 > 23 {
-        return false;
-    }
-    if n / 100 % 100 > 59 {
-        return false;
-    }
-    n % 100 <= 59
+    is_time_of_day(n)
 }
 
 // Eight digits DDHHMMSS, each pair in its range.
@@ -42,6 +49,19 @@ pub fn is_stamp(s: &[u8]) -> bool
         return false;
     };
     is_moment(n)
+}
+
+// Six digits HHMMSS, each pair in its range.
+pub(crate) fn is_old_stamp(s: &[u8]) -> bool
+    ensures { λ r. ⌜ r ≡ isOldStamp (now (s .entry)) ⌝ }
+{
+    if s.len() != 6 {
+        return false;
+    }
+    let Numeral::Value(n) = text::number(s, 10) else {
+        return false;
+    };
+    is_time_of_day(n)
 }
 
 // Four digits, 0000 to 2359, minutes to 59.

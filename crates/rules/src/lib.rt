@@ -5,6 +5,7 @@ pub mod clocks;
 
 use crate::clocks::is_arrival;
 use crate::clocks::is_clock;
+use crate::clocks::is_old_stamp;
 use crate::clocks::is_stamp;
 use crate::clocks::is_time;
 use shapes::find;
@@ -23,10 +24,19 @@ ghost use Rattle.rules.specs.Form.{isFacility, isKey, isFix, isPosition,
 ghost use Rattle.rules.specs.Kind.{isForm};
 ghost use Rattle.rules.specs.Drawn.{isDrawn};
 
+// The two rules for lines: that of the feed, and that of the old feed, which ended in 1999. The caller names the one meant.
+pub enum Rule {
+    New,
+    Old,
+}
+
 // The kinds of fields that are held as their text. (B, H, I, J, R, W and Z are left for what is no such field.)
 pub const SEQUENCE: u8 = b'Q';
 
 pub const STAMP: u8 = b'D';
+
+// The old feed's, in a small letter.
+pub const OLD_STAMP: u8 = b'd';
 
 pub const KEY: u8 = b'K';
 
@@ -211,6 +221,7 @@ pub fn is_form(kind: u8, s: &[u8]) -> bool
 {
     match kind {
         STAMP => is_stamp(s),
+        OLD_STAMP => is_old_stamp(s),
         KEY => is_key(s),
         MODEL => run(b'a', 2, 4, s),
         POINT => run(b'a', 2, 12, s),
@@ -232,6 +243,13 @@ pub const FACILITY_AT: usize = 12;
 pub const TYPE_AT: usize = 16;
 
 pub const BODY_AT: usize = 18;
+
+// In an old line the center, the type and the body; the stamp at the line's start.
+pub const OLD_CENTER_AT: usize = 6;
+
+pub const OLD_TYPE_AT: usize = 7;
+
+pub const OLD_BODY_AT: usize = 9;
 
 // "A line is the bytes before a line feed (10)"
 pub const LINE_FEED: u8 = 10;

@@ -10,8 +10,9 @@ use lib.Dec.{eqb}
 use lib.ListN.{length, getD}
 use Rattle.rules.specs.Form.{isIdent, isTzIdent, isPosition, isRoute}
 use Rattle.rules.specs.Kind.{FIX, TIME, isForm}
+use Rattle.rules.specs.declared.Rule.{Rule}
 use Rattle.fields.specs.Aircraft as aircraft
-use Rattle.table.specs.FieldKind.{IDENT, TZ-IDENT, AIRCRAFT, ROUTE, PLAN-TIME, AMENDMENT, CONTENT}
+use Rattle.table.specs.FieldKind.{IDENT, TZ-IDENT, AIRCRAFT, ROUTE, PLAN-TIME, AMENDMENT, CONTENT, kindBy}
 use Rattle.table.specs.Amends.{Amends, theEight}
 
 -- the kind of the field i, and its bytes; the ident is the field 0
@@ -29,9 +30,9 @@ hasForm k s = cond (eqb k IDENT) (isIdent s) (cond (eqb k TZ-IDENT) (isTzIdent s
 
 -- 0: a reading; 9: "a field without a reading"
 pub data FormCase (k : ℕ) (s : List ℕ) : ℕ → Type 0 where
-  Readings : {n : ℕ} → k ≡ AIRCRAFT → aircraft.Case s n → FormCase k s n
-  Formed : (k ≡ AIRCRAFT → ⊥) → hasForm k s ≡ true → FormCase k s 0
-  Unformed : (k ≡ AIRCRAFT → ⊥) → hasForm k s ≡ false → FormCase k s 9
+  Readings : {n : ℕ} (ρ : Rule) → k ≡ kindBy ρ AIRCRAFT → aircraft.Case ρ s n → FormCase k s n
+  Formed : ((ρ : Rule) → k ≡ kindBy ρ AIRCRAFT → ⊥) → hasForm k s ≡ true → FormCase k s 0
+  Unformed : ((ρ : Rule) → k ≡ kindBy ρ AIRCRAFT → ⊥) → hasForm k s ≡ false → FormCase k s 9
 
 -- ---- the fields of a body: ks are the kinds of its table, fs its fields
 
@@ -39,11 +40,11 @@ module _ (ks : List ℕ) (fs : List (List ℕ)) where
   -- the kind whose form the field i is to have; an amendment's number has none
   pub data Asked (i : ℕ) : ℕ → Type 0 where
     -- "a number .. and its content": the content that the number before it asks for
-    Content : (j : ℕ) → i ≡ suc j → kindAt ks i ≡ CONTENT → (a : Amends) → List·Memᴰ a theEight → a .number ≡ fieldAt fs j → Asked i (a .content)
+    Content : (ρ : Rule) (j : ℕ) → i ≡ suc j → kindAt ks i ≡ kindBy ρ CONTENT → (a : Amends) → List·Memᴰ a theEight → a .number ≡ fieldAt fs j → Asked i (kindBy ρ (a .content))
     -- the time of FZ and UZ
     Time : kindAt ks i ≡ PLAN-TIME → Asked i TIME
     -- any other: what the table says
-    Plain : (kindAt ks i ≡ CONTENT → ⊥) → (kindAt ks i ≡ PLAN-TIME → ⊥) → (kindAt ks i ≡ AMENDMENT → ⊥) → Asked i (kindAt ks i)
+    Plain : ((ρ : Rule) → kindAt ks i ≡ kindBy ρ CONTENT → ⊥) → (kindAt ks i ≡ PLAN-TIME → ⊥) → (kindAt ks i ≡ AMENDMENT → ⊥) → Asked i (kindAt ks i)
 
   -- the field i is the time of an FZ or UZ, "it has E", and the fix before it is no position
   pub record NoPosition (i : ℕ) : Type 0 where

@@ -12,16 +12,17 @@ use Rattle.text.specs.declared.Packed.{Packed}
 use Rattle.text.specs.declared.Packed.the-variants as word
 use Rattle.rules.specs.Form.{isPosition, isRoute}
 use Rattle.rules.specs.Kind.{FIX, TIME}
+use Rattle.rules.specs.declared.Rule.the-variants.{New, Old}
 use Rattle.fields.specs.Word.{wordOf, isWord}
 use Rattle.fields.specs.Ident.{identOf, tzIdentOf, identText, isIdentValue}
-use Rattle.fields.specs.Aircraft.{aircraftOf, aircraftText, isAircraftValue}
+use Rattle.fields.specs.Aircraft.{aircraftBy, aircraftText, isAircraftValue, isLetterBy}
 use Rattle.fields.specs.declared.idents.Ident.{Ident}
 use Rattle.fields.specs.declared.idents.IdentRead.{IdentRead}
 use Rattle.fields.specs.declared.idents.IdentRead.the-variants as ident
 use Rattle.fields.specs.declared.aircraft.Aircraft.{Aircraft}
 use Rattle.fields.specs.declared.aircraft.AircraftRead.{AircraftRead}
 use Rattle.fields.specs.declared.aircraft.AircraftRead.the-variants as aircraft
-unfoldable pub use Rattle.table.specs.FieldKind.{IDENT, TZ-IDENT, AIRCRAFT, ROUTE, PLAN-TIME, AMENDMENT, CONTENT}
+unfoldable pub use Rattle.table.specs.FieldKind.{IDENT, TZ-IDENT, AIRCRAFT, ROUTE, PLAN-TIME, AMENDMENT, CONTENT, OLD-AIRCRAFT, OLD-CONTENT, kindBy}
 unfoldable pub use Rattle.table.specs.Amends.{markOf, markText, isMark, contentOf}
 use Rattle.table.specs.declared.kinds.Value.{Value}
 use Rattle.table.specs.declared.kinds.FieldRead.{FieldRead}
@@ -44,7 +45,7 @@ follows k p m s = cond (eqb k AMENDMENT) (eqb (bitAnd m (markOf s)) 0) (cond (eq
 
 -- the kind by which the field is read
 unfoldable pub plain : ℕ → ℕ → ℕ
-plain k p = cond (eqb k CONTENT) (contentOf p) (cond (eqb k PLAN-TIME) TIME k)
+plain k p = cond (eqb k CONTENT) (contentOf p) (cond (eqb k OLD-CONTENT) (kindBy Old (contentOf p)) (cond (eqb k PLAN-TIME) TIME k))
 
 -- ---- what is kept of a field
 
@@ -86,8 +87,9 @@ unfoldable pub readKind : ℕ → List ℕ → FieldRead
 readKind k s =
     cond (eqb k IDENT) (ofIdent (identOf s))
     (cond (eqb k TZ-IDENT) (ofIdent (tzIdentOf s))
-    (cond (eqb k AIRCRAFT) (ofAircraft (aircraftOf s))
-    (cond (eqb k ROUTE) (ofRoute (isRoute s)) (ofWord (wordOf k s)))))
+    (cond (eqb k AIRCRAFT) (ofAircraft (aircraftBy New s))
+    (cond (eqb k OLD-AIRCRAFT) (ofAircraft (aircraftBy Old s))
+    (cond (eqb k ROUTE) (ofRoute (isRoute s)) (ofWord (wordOf k s))))))
 
 unfoldable pub readMark : List ℕ → FieldRead
 readMark s = cond (eqb (markOf s) 0) Number (Read (valued (markOf s) 0 0))
@@ -108,11 +110,13 @@ isKindValue k r v =
     cond (eqb k IDENT) (isIdentValue (identIn v) && isTwo v)
     (cond (eqb k TZ-IDENT) (isIdentValue (identIn v) && not (eqb (v .b) 0) && isTwo v)
     (cond (eqb k AIRCRAFT) (isAircraftValue (aircraftIn v))
-    (cond (eqb k ROUTE) (isRoute r && eqb (v .a) 0 && isOne v) (isWord k (v .a) && isOne v))))
+    (cond (eqb k OLD-AIRCRAFT) (isAircraftValue (aircraftIn v) && isLetterBy Old (v .c))
+    (cond (eqb k ROUTE) (isRoute r && eqb (v .a) 0 && isOne v) (isWord k (v .a) && isOne v)))))
 
 unfoldable pub shownKind : ℕ → List ℕ → Value → List ℕ
 shownKind k r v =
-    cond (eqb k IDENT || eqb k TZ-IDENT) (identText (identIn v)) (cond (eqb k AIRCRAFT) (aircraftText (aircraftIn v)) (cond (eqb k ROUTE) r (textOf (v .a))))
+    cond (eqb k IDENT || eqb k TZ-IDENT) (identText (identIn v))
+    (cond (eqb k AIRCRAFT || eqb k OLD-AIRCRAFT) (aircraftText (aircraftIn v)) (cond (eqb k ROUTE) r (textOf (v .a))))
 
 unfoldable pub isValue : ℕ → ℕ → List ℕ → Value → Bool
 isValue k p r v = cond (eqb k AMENDMENT) (isMark (v .a) && isOne v) (isKindValue (plain k p) r v)

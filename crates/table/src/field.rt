@@ -5,6 +5,8 @@ use crate::kinds::AMENDMENT;
 use crate::kinds::CONTENT;
 use crate::kinds::FieldRead;
 use crate::kinds::IDENT;
+use crate::kinds::OLD_AIRCRAFT;
+use crate::kinds::OLD_CONTENT;
 use crate::kinds::PLAN_TIME;
 use crate::kinds::ROUTE;
 use crate::kinds::TZ_IDENT;
@@ -23,9 +25,10 @@ use text::Written;
 use text::writing::put_bytes;
 ghost use mathlib.Core.Path.{_≡_};
 ghost use Rattle.rules.specs.Form.{isRoute};
+ghost use Rattle.rules.specs.declared.Rule.the-variants.{New, Old};
 ghost use Rattle.fields.specs.Word.{wordOf, isWord};
 ghost use Rattle.fields.specs.Ident.{identOf, tzIdentOf, isIdentValue, identText};
-ghost use Rattle.fields.specs.Aircraft.{aircraftOf, isAircraftValue, aircraftText};
+ghost use Rattle.fields.specs.Aircraft.{aircraftBy, isAircraftValue, isLetterBy, aircraftText};
 ghost use Rattle.table.specs.Field.{AMENDMENT, PLAN-TIME, ofIdent, ofAircraft, ofRoute, ofWord, readKind, readIn, identIn, aircraftIn, isOne, isTwo, isMark, markText, isKindValue, shownKind, isValue, shown};
 ghost use mathlib.Core.Bool.{cond, _&&_};
 ghost use mathlib.Core.List.{[], _∷_};
@@ -59,7 +62,7 @@ fn read_tz_ident(s: &[u8]) -> FieldRead
 }
 
 fn read_aircraft(s: &[u8]) -> FieldRead
-    ensures { λ r. ⌜ r ≡ ofAircraft (aircraftOf (now (s .entry))) ⌝ }
+    ensures { λ r. ⌜ r ≡ ofAircraft (aircraftBy New (now (s .entry))) ⌝ }
 {
     let AircraftRead::Read(aircraft) = Aircraft::read(s) else {
         return FieldRead::Nothing;
@@ -68,6 +71,23 @@ fn read_aircraft(s: &[u8]) -> FieldRead
         a: aircraft.prefix,
         b: aircraft.model,
         c: aircraft.letter,
+    })
+}
+
+// In the old feed an aircraft has no last letter.
+fn read_old_aircraft(s: &[u8]) -> FieldRead
+    ensures { λ r. ⌜ r ≡ ofAircraft (aircraftBy Old (now (s .entry))) ⌝ }
+{
+    let AircraftRead::Read(aircraft) = Aircraft::read(s) else {
+        return FieldRead::Nothing;
+    };
+    if aircraft.letter != 0 {
+        return FieldRead::Nothing;
+    }
+    FieldRead::Read(Value {
+        a: aircraft.prefix,
+        b: aircraft.model,
+        c: 0,
     })
 }
 
@@ -102,6 +122,7 @@ pub(crate) fn read_kind(kind: u8, s: &[u8]) -> FieldRead
         IDENT => read_ident(s),
         TZ_IDENT => read_tz_ident(s),
         AIRCRAFT => read_aircraft(s),
+        OLD_AIRCRAFT => read_old_aircraft(s),
         ROUTE => read_route(s),
         _ => read_word(kind, s),
     }
@@ -150,6 +171,7 @@ pub(crate) fn read_field(kind: u8, trace: u8, marks: u8, s: &[u8]) -> FieldRead
         AMENDMENT => read_number(marks, s),
         PLAN_TIME => read_plan_time(trace, s),
         CONTENT => read_kind(kinds::content(trace), s),
+        OLD_CONTENT => read_kind(kinds::old_content(trace), s),
         _ => read_kind(kind, s),
     }
 }
@@ -227,6 +249,12 @@ fn put_kind(kind: u8, v: Value, route: &[u8], out: &mut [u8], at: usize) -> Writ
             put_ident(v, out, at)
         }
         AIRCRAFT => put_aircraft(v, out, at),
+        OLD_AIRCRAFT => {
+            if v.c != 0 {
+                return Written::NoText;
+            }
+            put_aircraft(v, out, at)
+        }
         ROUTE => put_route(v, route, out, at),
         _ => put_word(kind, v, out, at),
     }

@@ -1,7 +1,8 @@
 // The kinds of fields of document 01's table: what an amendment's number asks for, and what one field leaves for the next.
 use rules::is_position;
 ghost use mathlib.Core.Path.{_≡_};
-ghost use Rattle.table.specs.Field.{markOf, contentOf, plain as plainly, traceOf, marksOf, follows as following};
+ghost use Rattle.rules.specs.declared.Rule.the-variants.{Old};
+ghost use Rattle.table.specs.Field.{kindBy, markOf, contentOf, plain as plainly, traceOf, marksOf, follows as following};
 
 // The kinds that are no single text; the others are those of `rules`.
 pub const IDENT: u8 = b'I';
@@ -19,6 +20,11 @@ pub const PLAN_TIME: u8 = b'H';
 pub const AMENDMENT: u8 = b'B';
 
 pub const CONTENT: u8 = b'W';
+
+// The same of the old feed, in small letters: an aircraft without a last letter, and the content there.
+pub const OLD_AIRCRAFT: u8 = b'z';
+
+pub const OLD_CONTENT: u8 = b'w';
 
 // The marks of the eight numbers of an amendment, a bit each.
 pub const MARK_02: u8 = 1;
@@ -115,12 +121,23 @@ pub(crate) fn content(mark: u8) -> u8
     }
 }
 
+// The same of the old feed.
+pub(crate) fn old_content(mark: u8) -> u8
+    ensures { λ r. ⌜ r ≡ kindBy Old (contentOf mark) ⌝ }
+{
+    match mark {
+        MARK_03 => OLD_AIRCRAFT,
+        _ => content(mark),
+    }
+}
+
 // The kind by which a field is read, after the trace of the field before it.
 pub fn plain(kind: u8, trace: u8) -> u8
     ensures { λ r. ⌜ r ≡ plainly kind trace ⌝ }
 {
     match kind {
         CONTENT => content(trace),
+        OLD_CONTENT => old_content(trace),
         PLAN_TIME => rules::TIME,
         _ => kind,
     }

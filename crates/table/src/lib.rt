@@ -10,12 +10,15 @@ use crate::spacing::Counted;
 use crate::walk::TableRead;
 use fields::heads::MessageType;
 use rules::LONGEST_PLAN;
+use rules::OLD_TYPE_AT;
+use rules::Rule;
 use rules::TYPE_AT;
 ghost use mathlib.Core.Path.{_≡_};
 ghost use Rattle.table.specs.Read.{padded};
 ghost use Rattle.shapes.specs.Picture.{startsAt};
 ghost use Rattle.table.specs.Table.{dotted, answerBy, valuesBy, routeBy, routeAtBy, countWith, hasFields, hasRouteWith, isCount};
 ghost use lib.Count.{ones};
+ghost use Rattle.rules.specs.declared.Rule.the-variants.{New, Old};
 ghost use Rattle.fields.specs.declared.heads.MessageType.the-variants as type;
 ghost use Rattle.table.specs.Plan.{isLongPlan};
 
@@ -34,15 +37,44 @@ const TZ: [u8; 19] = *b"JGMO...............";
 
 const UZ: [u8; 19] = *b"IZSFHLR............";
 
-// How long the line of an FZ may be.
+// Those of the old feed that differ.
+const OLD_AF: [u8; 19] = *b"IPPBwBwBwBwBwBwBwBw";
+
+const OLD_AZ: [u8; 19] = *b"IPPC...............";
+
+const OLD_DZ: [u8; 19] = *b"IzPTPC.............";
+
+const OLD_FZ: [u8; 19] = *b"IzSFHLR............";
+
+// How long the line of an FZ may be, and that of an old one.
 const LONGEST_FZ: usize = TYPE_AT + LONGEST_PLAN;
+
+const LONGEST_OLD_FZ: usize = OLD_TYPE_AT + LONGEST_PLAN;
 
 // RT, TO and HB bodies are kept whole.
 const WHOLE: [u8; 19] = *b"...................";
 
+// The row of a type in the old feed.
+fn old_kinds(t: MessageType) -> [u8; 19]
+    ensures { λ r. ⌜ r ≡ dotted Old t ⌝ }
+{
+    match t {
+        MessageType::Af => OLD_AF,
+        MessageType::Az => OLD_AZ,
+        MessageType::Dz => OLD_DZ,
+        MessageType::Fz => OLD_FZ,
+        MessageType::Rz => RZ,
+        MessageType::Tz => TZ,
+        MessageType::Uz => OLD_FZ,
+        MessageType::Rt => WHOLE,
+        MessageType::To => WHOLE,
+        MessageType::Hb => WHOLE,
+    }
+}
+
 // The row of a type.
-pub fn kinds_of(t: MessageType) -> [u8; 19]
-    ensures { λ r. ⌜ r ≡ dotted t ⌝ }
+fn new_kinds(t: MessageType) -> [u8; 19]
+    ensures { λ r. ⌜ r ≡ dotted New t ⌝ }
 {
     match t {
         MessageType::Af => AF,
@@ -58,10 +90,20 @@ pub fn kinds_of(t: MessageType) -> [u8; 19]
     }
 }
 
+// The row of a type under the rule.
+pub fn kinds_of(rule: Rule, t: MessageType) -> [u8; 19]
+    ensures { λ r. ⌜ r ≡ dotted rule t ⌝ }
+{
+    match rule {
+        Rule::New => new_kinds(t),
+        Rule::Old => old_kinds(t),
+    }
+}
+
 // Reads a body by the kinds of as many fields as it has.
-pub fn read(t: MessageType, body: &[u8]) -> TableRead
-    ensures { λ r. ⌜ r .answer ≡ answerBy t (now (body .entry)) ⌝ }
-    ensures { λ r. ⌜ r .values ≡ padded (valuesBy t (now (body .entry))) ⌝ }
+pub fn read(rule: Rule, t: MessageType, body: &[u8]) -> TableRead
+    ensures { λ r. ⌜ r .answer ≡ answerBy rule t (now (body .entry)) ⌝ }
+    ensures { λ r. ⌜ r .values ≡ padded (valuesBy rule t (now (body .entry))) ⌝ }
 {
     let Counted::Fields(n, trailing) = spacing::count(body) else {
         return walk::refused();
@@ -69,16 +111,16 @@ pub fn read(t: MessageType, body: &[u8]) -> TableRead
     if !is_count(t, n) {
         return walk::refused();
     }
-    let kinds = kinds_of(t);
+    let kinds = kinds_of(rule, t);
     walk::read(&kinds[..n], body, trailing)
 }
 
 // The route among the fields of a type's body, as a part of it; an empty part where there is none.
-pub fn route(t: MessageType, body: &[u8]) -> &[u8]
-    ensures { λ r. ⌜ now r ≡ routeBy t (now (body .entry)) ⌝ }
-    ensures { λ r. ⌜ r .ptr ≡ startsAt (body .entry .ptr) (routeAtBy t (now (body .entry))) ⌝ }
+pub fn route(rule: Rule, t: MessageType, body: &[u8]) -> &[u8]
+    ensures { λ r. ⌜ now r ≡ routeBy rule t (now (body .entry)) ⌝ }
+    ensures { λ r. ⌜ r .ptr ≡ startsAt (body .entry .ptr) (routeAtBy rule t (now (body .entry))) ⌝ }
 {
-    let all = kinds_of(t);
+    let all = kinds_of(rule, t);
     walk::route(&all, body)
 }
 
@@ -149,12 +191,22 @@ pub fn is_count(t: MessageType, n: usize) -> bool
     }
 }
 
+// More bytes than the line of an FZ may have.
+fn is_over(rule: Rule, n: usize) -> bool
+    ensures { λ r. ⌜ r ≡ isLongPlan rule type.Fz n ⌝ }
+{
+    match rule {
+        Rule::New => n > LONGEST_FZ,
+        Rule::Old => n > LONGEST_OLD_FZ,
+    }
+}
+
 // An FZ over 439 bytes, counted from its type; n is the line's length.
-pub fn is_long_plan(kind: MessageType, n: usize) -> bool
-    ensures { λ r. ⌜ r ≡ isLongPlan kind n ⌝ }
+pub fn is_long_plan(rule: Rule, kind: MessageType, n: usize) -> bool
+    ensures { λ r. ⌜ r ≡ isLongPlan rule kind n ⌝ }
 {
     match kind {
-        MessageType::Fz => n > LONGEST_FZ,
+        MessageType::Fz => is_over(rule, n),
         _ => false,
     }
 }

@@ -1,5 +1,4 @@
 -- `fields::heads::Facility::bytes` meets its contract. Assumes nothing.
-use native.Mathlib.Omega.{arith}
 use Rattle.fields.proofs.FacilityLaws.{places-four}
 use borrow.Author.Needs.{needs}
 use Rattle.fields.proofs.heads.Facility.bytes.Statement.{statement}
@@ -10,4 +9,4 @@ bytes-spec =
     tie.close
     (tie.spec
     (λ c. search needs) (λ c. search needs) (λ c. search needs) (λ c. search needs)
-    (λ c. places-four _ (omega arith)))
+    (λ c. places-four _ (c .pre)))

@@ -2,7 +2,7 @@
 use mathlib.Core.Path.{_∙_}
 use Prim.Native.Nat.{_^_}
 use native.Mathlib.Omega.{arith}
-use borrow.Author.Tests.{lt-ltb}
+use borrow.Author.Tests.{lt-ltb, le-ltb}
 use Rattle.fields.specs.Facility.{isFacilityValue}
 use borrow.Author.Needs.{needs}
 use Rattle.fields.proofs.heads.Facility.holds.Statement.{statement}
@@ -13,5 +13,6 @@ unfolding isFacilityValue
 holds-spec =
     tie.close
     (tie.spec
-    (λ c κs. search needs) (λ c. search needs) (λ c κs. search needs)
-    (λ c. c .is-facility .ensures ∙ rw (c .before .before .bytes .ensures, lt-ltb (c .before .before .before .args .self .0) (256 ^ 4) (omega arith))))
+    (λ c. rw (le-ltb (c .before .before .args .self .0) (256 ^ 4) (omega arith)))
+    (λ c κs. omega arith) (λ c. search needs) (λ c κs. search needs)
+    (λ c. c .is-facility .ensures ∙ rw (c .before .before .bytes .ensures, lt-ltb (c .before .before .before .before .before .args .self .0) (256 ^ 4) (omega arith))))

@@ -22,6 +22,7 @@ read-spec =
     let c₅ = c₄ .before in
     omega (arith, facility-length _ (so (c₅ .is-facility .ensures) (c₄ .if1 .left))))
     (λ c κs. search needs)
+    (λ c. search needs)
     (λ c.
     let e = so (c .before .before .before .before .before .before .is-facility .ensures) (c .before .before .before .before .before .if1 .left) in
     rw (e, value-four, c .joined .ensures)))
