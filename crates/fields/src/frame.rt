@@ -1,12 +1,26 @@
-// The fields before a line's body.
+// The fields before a line's body, and where the body begins.
 use crate::words;
+use rules::BODY_AT;
+use rules::OLD_BODY_AT;
+use rules::Rule;
 use text::Packed;
 use text::Written;
 ghost use mathlib.Core.Path.{_≡_};
 ghost use Rattle.text.specs.Text.{textOf, writtenNext, writtenBytes};
 ghost use Rattle.rules.specs.Kind.{SEQUENCE, STAMP};
+ghost use Rattle.fields.specs.Head.{headLength};
 ghost use Rattle.fields.specs.Word.{wordOf, isWord};
 ghost use Rattle.fields.specs.Typed.{asSequence, asStamp};
+
+// The body begins after this many bytes.
+pub fn body_at(rule: Rule) -> usize
+    ensures { λ r. ⌜ r ≡ headLength rule ⌝ }
+{
+    match rule {
+        Rule::New => BODY_AT,
+        Rule::Old => OLD_BODY_AT,
+    }
+}
 
 // A sequence number: four characters 0-9 or A-F.
 pub struct Sequence(pub u64);

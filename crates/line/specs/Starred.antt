@@ -7,6 +7,7 @@ use lib.IntN.{ℤ, pos, negsuc}
 use Rattle.text.specs.Bytes.{bytes}
 use Rattle.text.specs.Text.{packed, textOf}
 use Rattle.rules.specs.Kind.{CLOCK, POSITION}
+use Rattle.rules.specs.declared.Rule.the-variants.{New}
 use Rattle.fields.specs.Word.{wordOf}
 use Rattle.text.specs.declared.Packed.{Packed}
 use Rattle.text.specs.declared.Packed.the-variants as word
@@ -82,7 +83,7 @@ ofAge aged.Old = Old
 ofAge aged.OutOfRange = Refused (ages.ageNumber aged.OutOfRange)
 
 abbrev pub answer : Question → Answer
-answer (Line t) = ofLine (readOf (bytes t)) (freeOf (bytes t))
+answer (Line t) = ofLine (readOf (bytes t)) (freeOf New (bytes t))
 answer (Ident t) = ofIdent (identOf (bytes t))
 answer (Aircraft t) = ofAircraft (aircraftOf (bytes t))
 answer (Position t) = ofWord (wordOf POSITION (bytes t))

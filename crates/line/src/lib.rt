@@ -1,31 +1,36 @@
-// One line of the feed: read as a message, and its free text handed back as a part of it.
+// One line of the feed, or of the old feed: read as a message, and its free text handed back as a part of it.
 
+mod heads;
+
+use crate::heads::Head;
+use crate::heads::HeadRead;
+use crate::heads::kind_of;
+use crate::heads::read_head;
+use fields::frame::Center;
+use fields::frame::OldStamp;
 use fields::frame::Sequence;
-use fields::frame::SequenceRead;
 use fields::frame::Stamp;
-use fields::frame::StampRead;
+use fields::frame::body_at;
 use fields::heads::Facility;
-use fields::heads::FacilityRead;
-use fields::heads::MessageType;
 use fields::heads::TypeRead;
 use messages::Message;
+use messages::OldMessage;
+use messages::Reading;
 use messages::typed::BodyRead;
 use messages::typed::read_body;
-use rules::BODY_AT;
-use rules::FACILITY_AT;
 use rules::LONGEST_LINE;
-use rules::STAMP_AT;
-use rules::TYPE_AT;
+use rules::Rule;
 use shapes::sweeps;
 use table::walk::Fault;
 ghost use mathlib.Core.Path.{_≡_};
 ghost use Prim.Native.Nat.{_≤_};
 ghost use lib.ListN.{length};
-ghost use Rattle.rules.specs.Frame.{headLength};
+ghost use Rattle.rules.specs.declared.Rule.the-variants.{New, Old};
+ghost use Rattle.fields.specs.Head.{headLength};
 ghost use Rattle.table.specs.Read.{faultNumber, faultPlace};
 ghost use Rattle.shapes.specs.Picture.{startsAt};
 ghost use Rattle.line.specs.Cases.{Case};
-ghost use Rattle.line.specs.Read.{headOf, restOf, readOf, refusalNumber, refusalPlace, lineNumber, linePlace, freeOf, freeAt};
+ghost use Rattle.line.specs.Read.{restOf, readBy, readOf, oldReadOf, refusalNumber, refusalPlace, lineNumber, linePlace, oldNumber, oldPlace, freeOf, freeAt};
 
 // Document 01's answers 1 to 7 and 11; and 8, 9 and 10 as the body's fault.
 pub enum Refusal {
@@ -103,67 +108,57 @@ pub enum LineRead {
     Refused(Refusal),
 }
 
-// What stands before the body.
-pub struct Head {
-    pub sequence: Sequence,
-    pub stamp: Stamp,
-    pub facility: Facility,
-    pub kind: MessageType,
-}
-
-pub enum HeadRead {
-    Read(Head),
+pub enum OldRead {
+    Read(OldMessage),
     Refused(Refusal),
 }
 
-fn read_head(line: &[u8]) -> HeadRead
-    requires { ⌜ headLength ≤ length (now line) ⌝ }
-    ensures { λ r. ⌜ r ≡ headOf (now (line .entry)) ⌝ }
-{
-    let SequenceRead::Read(sequence) = Sequence::read(&line[0..STAMP_AT]) else {
-        return HeadRead::Refused(Refusal::NoSequence);
-    };
-    let StampRead::Read(stamp) = Stamp::read(&line[STAMP_AT..FACILITY_AT]) else {
-        return HeadRead::Refused(Refusal::NoStamp);
-    };
-    let FacilityRead::Read(facility) = Facility::read(&line[FACILITY_AT..TYPE_AT]) else {
-        return HeadRead::Refused(Refusal::NoFacility);
-    };
-    let TypeRead::Read(kind) = MessageType::read(&line[TYPE_AT..BODY_AT]) else {
-        return HeadRead::Refused(Refusal::NoType);
-    };
-    HeadRead::Read(Head {
-        sequence,
-        stamp,
-        facility,
-        kind,
-    })
+// Under either rule.
+pub enum RuleRead {
+    Read(Reading),
+    Refused(Refusal),
 }
 
 // The body after a head.
-fn read_rest(head: Head, line: &[u8]) -> LineRead
-    requires { ⌜ headLength ≤ length (now line) ⌝ }
-    ensures { λ r. ⌜ r ≡ restOf head (now (line .entry)) ⌝ }
+fn read_rest(rule: Rule, head: Head, line: &[u8]) -> RuleRead
+    requires { ⌜ headLength rule ≤ length (now line) ⌝ }
+    ensures { λ r. ⌜ r ≡ restOf rule head (now (line .entry)) ⌝ }
 {
     let kind = head.kind;
-    if table::is_long_plan(kind, line.len()) {
-        return LineRead::Refused(Refusal::LongPlan);
+    if table::is_long_plan(rule, kind, line.len()) {
+        return RuleRead::Refused(Refusal::LongPlan);
     }
-    let read = read_body(kind, &line[BODY_AT..]);
+    let at = body_at(rule);
+    let read = read_body(rule, kind, &line[at..]);
     match read {
-        BodyRead::Read(body, trailing) => {
-            let sequence = head.sequence;
-            let stamp = head.stamp;
-            let facility = head.facility;
-            LineRead::Read(Message {
-                sequence,
-                stamp,
-                facility,
-                body,
-                trailing,
-            })
-        }
-        BodyRead::Refused(fault) => LineRead::Refused(Refusal::Body(fault)),
+        BodyRead::Read(body, trailing) => RuleRead::Read(Reading {
+            sequence: head.sequence,
+            stamp: head.stamp,
+            facility: head.facility,
+            body,
+            trailing,
+        }),
+        BodyRead::Refused(fault) => RuleRead::Refused(Refusal::Body(fault)),
+    }
+}
+
+// Reads a line under the rule.
+fn read_by(rule: Rule, line: &[u8]) -> RuleRead
+    ensures { λ r. ⌜ r ≡ readBy rule (now (line .entry)) ⌝ }
+{
+    if line.len() < body_at(rule) {
+        return RuleRead::Refused(Refusal::Short);
+    }
+    if line.len() > LONGEST_LINE {
+        return RuleRead::Refused(Refusal::Long);
+    }
+    if !sweeps::each_within(32, 126, line) {
+        return RuleRead::Refused(Refusal::Unprintable);
+    }
+    let head = read_head(rule, line);
+    match head {
+        HeadRead::Read(head) => read_rest(rule, head, line),
+        HeadRead::Refused(refusal) => RuleRead::Refused(refusal),
     }
 }
 
@@ -171,38 +166,60 @@ fn read_rest(head: Head, line: &[u8]) -> LineRead
 // table.
 pub fn read(line: &[u8]) -> LineRead
     ensures { λ r. ⌜ r ≡ readOf (now (line .entry)) ⌝ }
-    ensures { λ r. ⌜ Case (now (line .entry)) (lineNumber r) (linePlace r) ⌝ }
+    ensures { λ r. ⌜ Case New (now (line .entry)) (lineNumber r) (linePlace r) ⌝ }
 {
-    if line.len() < BODY_AT {
-        return LineRead::Refused(Refusal::Short);
+    let read = read_by(Rule::New, line);
+    match read {
+        RuleRead::Read(x) => {
+            let body = x.body;
+            LineRead::Read(Message {
+                sequence: Sequence(x.sequence),
+                stamp: Stamp(x.stamp),
+                facility: Facility(x.facility),
+                body,
+                trailing: x.trailing,
+            })
+        }
+        RuleRead::Refused(refusal) => LineRead::Refused(refusal),
     }
-    if line.len() > LONGEST_LINE {
-        return LineRead::Refused(Refusal::Long);
-    }
-    if !sweeps::each_within(32, 126, line) {
-        return LineRead::Refused(Refusal::Unprintable);
-    }
-    let head = read_head(line);
-    match head {
-        HeadRead::Read(head) => read_rest(head, line),
-        HeadRead::Refused(refusal) => LineRead::Refused(refusal),
+}
+
+// Reads a line of the old feed.
+pub fn read_old(line: &[u8]) -> OldRead
+    ensures { λ r. ⌜ r ≡ oldReadOf (now (line .entry)) ⌝ }
+    ensures { λ r. ⌜ Case Old (now (line .entry)) (oldNumber r) (oldPlace r) ⌝ }
+{
+    let read = read_by(Rule::Old, line);
+    match read {
+        RuleRead::Read(x) => {
+            let body = x.body;
+            OldRead::Read(OldMessage {
+                stamp: OldStamp(x.stamp),
+                center: Center(x.facility),
+                body,
+                trailing: x.trailing,
+            })
+        }
+        RuleRead::Refused(refusal) => OldRead::Refused(refusal),
     }
 }
 
 // The body of an RT, TO or HB, the route of an FZ, a UZ and of an AF with number 10, as that part of the line; of any
 // other line an empty part. It is that part and no copy: where it lies in memory is told.
-pub fn free(line: &[u8]) -> &[u8]
-    ensures { λ r. ⌜ now r ≡ freeOf (now (line .entry)) ⌝ }
-    ensures { λ r. ⌜ r .ptr ≡ startsAt (line .entry .ptr) (freeAt (now (line .entry))) ⌝ }
+pub fn free(rule: Rule, line: &[u8]) -> &[u8]
+    ensures { λ r. ⌜ now r ≡ freeOf rule (now (line .entry)) ⌝ }
+    ensures { λ r. ⌜ r .ptr ≡ startsAt (line .entry .ptr) (freeAt rule (now (line .entry))) ⌝ }
 {
-    if line.len() < BODY_AT {
+    let at = body_at(rule);
+    if line.len() < at {
         return &line[..0];
     }
-    let TypeRead::Read(kind) = MessageType::read(&line[TYPE_AT..BODY_AT]) else {
+    let from = at - 2;
+    let TypeRead::Read(kind) = kind_of(rule, &line[from..at]) else {
         return &line[..0];
     };
     if !table::has_fields(kind) {
-        return &line[BODY_AT..];
+        return &line[at..];
     }
-    table::route(kind, &line[BODY_AT..])
+    table::route(rule, kind, &line[at..])
 }

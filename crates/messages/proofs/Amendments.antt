@@ -14,7 +14,7 @@ use Rattle.table.specs.Field.{AMENDMENT, IDENT, CONTENT, isMark, contentOf, pla
 use Rattle.table.specs.declared.kinds.Value.{Value}
 use Rattle.table.proofs.Eight.{each-mark}
 use Rattle.table.specs.Show.{allowedFrom}
-use Rattle.table.specs.Table.{amendments, countWith, isCount, kindsOf}
+use Rattle.table.specs.Table.{amendments, countWith, isCount, tableOf}
 use Rattle.messages.specs.Body.{amendedIn, heldFrom, heldOf, valueOfWord, valueOfIdent, slotsOf, pairsOf, slots, fieldCount, valuesIn}
 use Rattle.messages.specs.declared.Amended.{Amended}
 use Rattle.messages.specs.declared.Amended.the-variants as amended
@@ -97,8 +97,7 @@ module _ (a : Af) (c : isCount type.Af (fieldCount (body.Af a)) ≡ true) where
   unfolding fieldCount countWith
   count = (omega (arith, double-is some), omega (arith, count-pairs (3 + 2 * some) c .1))
 
-  pub af-kinds : kindsOf type.Af (fieldCount (body.Af a)) ≡ IDENT ∷ POINT ∷ POINT ∷ amendments some
-  unfolding kindsOf
+  pub af-kinds : take (fieldCount (body.Af a)) (tableOf type.Af) ≡ IDENT ∷ POINT ∷ POINT ∷ amendments some
   af-kinds = rw (count .0) (ap (λ (ks : List ℕ). IDENT ∷ POINT ∷ POINT ∷ ks) (take-amendments some 8 (count .1)))
 
   pub af-values : valuesIn (body.Af a) ≡ valueOfIdent (a .ident) ∷ valueOfWord (a .from .0) ∷ valueOfWord (a .to .0) ∷ pairsOf (take some (slotsOf a))
@@ -106,7 +105,7 @@ module _ (a : Af) (c : isCount type.Af (fieldCount (body.Af a)) ≡ true) where
   af-values = rw (count .0) (ap (λ (vs : List Value). valueOfIdent (a .ident) ∷ valueOfWord (a .from .0) ∷ valueOfWord (a .to .0) ∷ vs) (take-pairs some (slotsOf a)))
 
   -- what the first three leave may be anything
-  pub af-amendments : (r : List ℕ) → allowedFrom (kindsOf type.Af (fieldCount (body.Af a))) 0 0 r (valuesIn (body.Af a)) ≡ true
+  pub af-amendments : (r : List ℕ) → allowedFrom (take (fieldCount (body.Af a)) (tableOf type.Af)) 0 0 r (valuesIn (body.Af a)) ≡ true
       → (p : ℕ) × (m : ℕ) × (allowedFrom (amendments some) p m r (pairsOf (take some (slotsOf a))) ≡ true)
   af-amendments r e =
       let f = valueOfWord (a .from .0) in
@@ -116,7 +115,7 @@ module _ (a : Af) (c : isCount type.Af (fieldCount (body.Af a)) ≡ true) where
       (_, _, allowed-rest POINT (amendments some) _ _ r t ps (allowed-rest POINT (POINT ∷ amendments some) _ _ r f (t ∷ ps) x))
 
 -- THE LAW of typed amendments: those of an AF that a line can have are what their types keep
-pub amendments-kept : (a : Af) (r : List ℕ) → isCount type.Af (fieldCount (body.Af a)) ≡ true → allowedFrom (kindsOf type.Af (fieldCount (body.Af a))) 0 0 r (valuesIn (body.Af a)) ≡ true
+pub amendments-kept : (a : Af) (r : List ℕ) → isCount type.Af (fieldCount (body.Af a)) ≡ true → allowedFrom (take (fieldCount (body.Af a)) (tableOf type.Af)) 0 0 r (valuesIn (body.Af a)) ≡ true
     → map (λ (x : Amendment). heldOf (amendedIn x)) (take (ones (a .marks)) (slotsOf a)) ≡ take (ones (a .marks)) (slotsOf a)
 amendments-kept a r c e =
     let (p, m, x) = af-amendments a c r e in

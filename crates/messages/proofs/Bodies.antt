@@ -23,8 +23,12 @@ use Rattle.table.specs.declared.kinds.Value.{Value}
 use Rattle.table.proofs.Eight.{mark-text}
 use Rattle.table.specs.Read.{none, padded}
 use Rattle.table.specs.Show.{allowedFrom}
-use Rattle.table.specs.Table.{amendments, countWith, isCount, kindsOf}
-use Rattle.table.proofs.TableWays.{kinds-length}
+use Rattle.rules.specs.declared.Rule.{Rule}
+use Rattle.rules.specs.declared.Rule.the-variants.{New}
+use Rattle.table.specs.Table.{amendments, countWith, isCount, tableOf, kindsOf}
+use Rattle.table.proofs.TableWays.{count-kinds}
+use Rattle.table.proofs.Tables.{table-length}
+use Rattle.table.proofs.OldKinds.{kinds-allowed}
 use Rattle.table.proofs.Tables.{marksKept}
 use Rattle.messages.specs.Body.{at, afFrom, bodyFrom, typeIn, valueOfWord, slots, fieldCount, valuesIn, spare, marksIn}
 use Rattle.messages.specs.Allowed.{allNone}
@@ -211,10 +215,10 @@ canons (k ∷ ks) p m r (v ∷ vs) more s e =
     let h = canons ks (traceOf k (shown k p r v)) (marksOf k m (shown k p r v)) r vs more (and-right (not (eqb k AMENDMENT) && not (eqb k CONTENT)) (single ks) s) (allowed-rest k ks p m r v vs e) in
     λ x. is-canon (plain k 0) r v g x ∷ h x
 
-fixed-slots : (t : MessageType) (k n : ℕ) (r : List ℕ) (vs : List Value) → single (kindsOf t k) ≡ true → eqb n k ≡ true → allowedFrom (kindsOf t n) 0 0 r vs ≡ true → padded (canonFrom (kindsOf t k) (at (padded vs))) ≡ padded vs
+fixed-slots : (t : MessageType) (k n : ℕ) (r : List ℕ) (vs : List Value) → single (take k (tableOf t)) ≡ true → eqb n k ≡ true → allowedFrom (take n (tableOf t)) 0 0 r vs ≡ true → padded (canonFrom (take k (tableOf t)) (at (padded vs))) ≡ padded vs
 unfolding padded
 fixed-slots t k n r vs s c e =
-    ap padded (canons (kindsOf t k) 0 0 r vs (replicate (19 - length vs) none) s (subst (λ (i : ℕ). allowedFrom (kindsOf t i) 0 0 r vs ≡ true) (eqb-true n k c) e))
+    ap padded (canons (take k (tableOf t)) 0 0 r vs (replicate (19 - length vs) none) s (subst (λ (i : ℕ). allowedFrom (take i (tableOf t)) 0 0 r vs ≡ true) (eqb-true n k c) e))
 
 -- ---- the same for an AF, by pairs
 
@@ -299,11 +303,11 @@ af-slots j m r (i ∷ a ∷ b ∷ vs) h e =
 
 -- ---- THE LAWS: from values to a body and back
 
-pub slots-back : (t : MessageType) (n m : ℕ) (r : List ℕ) (vs : List Value) → isCount t n ≡ true → allowedFrom (kindsOf t n) 0 0 r vs ≡ true → slots (bodyFrom t m (padded vs)) ≡ padded vs
-unfolding isCount countWith kindsOf slots bodyFrom padded plain
+pub slots-back : (t : MessageType) (n m : ℕ) (r : List ℕ) (vs : List Value) → isCount t n ≡ true → allowedFrom (take n (tableOf t)) 0 0 r vs ≡ true → slots (bodyFrom t m (padded vs)) ≡ padded vs
+unfolding isCount countWith slots bodyFrom padded plain
 slots-back type.Af n m r vs c e =
     let h = count-pairs n c in
-    let f = subst (λ (i : ℕ). allowedFrom (kindsOf type.Af i) 0 0 r vs ≡ true) (h .0) e in
+    let f = subst (λ (i : ℕ). allowedFrom (take i (tableOf type.Af)) 0 0 r vs ≡ true) (h .0) e in
     af-slots ((n - 3) / 2) m r vs (h .1) (subst (λ (ks : List ℕ). allowedFrom (IDENT ∷ POINT ∷ POINT ∷ ks) 0 0 r vs ≡ true) (take-amendments ((n - 3) / 2) 8 (h .1)) f)
 slots-back type.Az n m r vs c e = fixed-slots type.Az 4 n r vs refl c e
 slots-back type.Dz n m r vs c e = fixed-slots type.Dz 6 n r vs refl c e
@@ -315,11 +319,13 @@ slots-back type.Rt n m r vs c e = fixed-slots type.Rt 0 n r vs refl c e
 slots-back type.To n m r vs c e = fixed-slots type.To 0 n r vs refl c e
 slots-back type.Hb n m r vs c e = fixed-slots type.Hb 0 n r vs refl c e
 
-pub values-back : (t : MessageType) (n m : ℕ) (r : List ℕ) (vs : List Value) → isCount t n ≡ true → allowedFrom (kindsOf t n) 0 0 r vs ≡ true → fieldCount (bodyFrom t m (padded vs)) ≡ n → (valuesIn (bodyFrom t m (padded vs)) ≡ vs) × (allNone (spare (bodyFrom t m (padded vs))) ≡ true)
+-- whatever the rule
+pub values-back : (ρ : Rule) (t : MessageType) (n m : ℕ) (r : List ℕ) (vs : List Value) → isCount t n ≡ true → allowedFrom (kindsOf ρ t n) 0 0 r vs ≡ true → fieldCount (bodyFrom t m (padded vs)) ≡ n → (valuesIn (bodyFrom t m (padded vs)) ≡ vs) × (allNone (spare (bodyFrom t m (padded vs))) ≡ true)
 unfolding valuesIn spare padded
-values-back t n m r vs c e k =
+values-back ρ t n m r vs c e′ k =
+    let e = kinds-allowed ρ t n 0 0 r vs e′ in
     let b = bodyFrom t m (padded vs) in
     let more : List Value = replicate (19 - length vs) none in
-    let l : length vs ≡ fieldCount b = allowed-length (kindsOf t n) 0 0 r vs e ∙ kinds-length t n c ∙ sym k in
+    let l : length vs ≡ fieldCount b = allowed-length (take n (tableOf t)) 0 0 r vs e ∙ length-take-le n (tableOf t) (rw (table-length New t) at (count-kinds New t n c)) ∙ sym k in
     let s = slots-back t n m r vs c e in
     (ap (take (fieldCount b)) s ∙ take-at vs more (fieldCount b) l, ap (λ (w : List Value). allNone (drop (fieldCount b) w)) s ∙ ap allNone (drop-at vs more (fieldCount b) l) ∙ nones-none (19 - length vs))

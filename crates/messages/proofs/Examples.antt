@@ -18,7 +18,8 @@ use Rattle.shapes.specs.Picture.{isOf, fits, fitsAny, oneOf, run, within}
 use Rattle.shapes.specs.Pieces.{pieces}
 use Rattle.rules.specs.Form.{isKey, isIdent, isTzIdent, isFix, isTime, isClock, isBlock, isLevel, isPosition}
 use Rattle.rules.specs.Kind.{isForm}
-use Rattle.fields.specs.Aircraft.{aircraftOf, plainOf, prefixedOf}
+use Rattle.rules.specs.declared.Rule.the-variants.{New}
+use Rattle.fields.specs.Aircraft.{aircraftOf, aircraftBy, plainOf, prefixedOf}
 use Rattle.fields.specs.Ident.{identFrom, identOf, tzIdentOf}
 use Rattle.fields.specs.Pair.{isPairForm, pairOf}
 use Rattle.fields.specs.Word.{wordOf}
@@ -27,7 +28,7 @@ use Rattle.fields.specs.declared.heads.MessageType.the-variants as type
 use Rattle.table.specs.Field.{valued, identIn, aircraftIn, markOf, contentOf, traceOf, marksOf, follows, plain, readKind, readMark, barred, readIn}
 use Rattle.table.specs.Read.{padded, valuesFrom, answerFrom, counted, answers, values, answerOf, valuesOf, none}
 use Rattle.table.specs.Spacing.{fieldsOf, ended}
-use Rattle.table.specs.Table.{countWith, isCount, kindsOf, countIn, answerBy, valuesBy}
+use Rattle.table.specs.Table.{countWith, isCount, tableBy, kindsOf, countIn, answerBy, valuesBy}
 use Rattle.table.specs.declared.kinds.Value.{Value}
 use Rattle.table.specs.declared.walk.Fault.the-variants as fault
 use Rattle.messages.specs.Body.{planLevel, amendedIn, heldOf, typeIn, keyIn, marksIn, valueOfWord, bodyFrom, slots}
@@ -117,17 +118,17 @@ word t = valueOfWord (packed (bytes t))
 abbrev answered : BodyRead
 answered = read.Read (bodyFrom type.Af (markOf (bytes "08")) (padded (word "NVL88" ∷ word "BOS" ∷ word "ALB" ∷ valueOfWord (markOf (bytes "08")) ∷ word "290" ∷ []))) false
 
-read-as : (bodyRead type.Rz (bytes " NVL88 BOS A-B") ≡ read.Refused (fault.Field 3)) × (bodyRead type.Af (bytes " NVL88 BOS ALB 08 290") ≡ answered)
-unfolding bodyRead padded answerBy valuesBy countIn kindsOf isCount countWith answerOf answers answerFrom valuesOf values valuesFrom counted fieldsOf ended readIn readKind readMark barred plain traceOf marksOf contentOf follows markOf identOf identFrom wordOf isForm isKey isIdent isLevel has before after upTo oneOf fitsAny fits pieces run isOf isAlnum isDigit isLetter all allIn packed value codeOf
+read-as : (bodyRead New type.Rz (bytes " NVL88 BOS A-B") ≡ read.Refused (fault.Field 3)) × (bodyRead New type.Af (bytes " NVL88 BOS ALB 08 290") ≡ answered)
+unfolding bodyRead padded answerBy valuesBy countIn kindsOf tableBy isCount countWith answerOf answers answerFrom valuesOf values valuesFrom counted fieldsOf ended readIn readKind readMark barred plain traceOf marksOf contentOf follows markOf identOf identFrom wordOf isForm isKey isIdent isLevel has before after upTo oneOf fitsAny fits pieces run isOf isAlnum isDigit isLetter all allIn packed value codeOf
 read-as = (refl, refl)
 
 -- a point has no dash: 9 with its place, not 10
-pub field-answered-as-number : (κs : _) (a : _) (r : _) (s : _) → read-body.Post κs a r s → a .0 ≡ type.Rz → now (a .1 .0) ≡ bytes " NVL88 BOS A-B" → r ≡ read.Refused (fault.Field 3)
-field-answered-as-number κs a r s p e f = p ∙ rw (e, f) (read-as .0)
+pub field-answered-as-number : (κs : _) (a : _) (r : _) (s : _) → read-body.Post κs a r s → a .0 ≡ New → a .1 .0 ≡ type.Rz → now (a .1 .1 .0) ≡ bytes " NVL88 BOS A-B" → r ≡ read.Refused (fault.Field 3)
+field-answered-as-number κs a r s p n e f = p ∙ rw (n, e, f) (read-as .0)
 
 -- an 08 is kept with its own mark and the word of its level
-pub typed-amended-08-is-requested : (κs : _) (a : _) (r : _) (s : _) → read-body.Post κs a r s → a .0 ≡ type.Af → now (a .1 .0) ≡ bytes " NVL88 BOS ALB 08 290" → r ≡ answered
-typed-amended-08-is-requested κs a r s p e f = p ∙ rw (e, f) (read-as .1)
+pub typed-amended-08-is-requested : (κs : _) (a : _) (r : _) (s : _) → read-body.Post κs a r s → a .0 ≡ New → a .1 .0 ≡ type.Af → now (a .1 .1 .0) ≡ bytes " NVL88 BOS ALB 08 290" → r ≡ answered
+typed-amended-08-is-requested κs a r s p n e f = p ∙ rw (n, e, f) (read-as .1)
 
 -- a body, and the place of its field that is answered 9
 pub record Unread : Type 0 where
@@ -158,15 +159,15 @@ abbrev pub Refuses : MessageType → List ℕ → BodyRead → List Unread → T
 Refuses t s r [] = Unit {0}
 Refuses t s r (x ∷ l) = (t ≡ x .kind → s ≡ bytes (x .text) → r ≡ read.Refused (fault.Field (x .place))) × Refuses t s r l
 
-refuses : (t : MessageType) (s : List ℕ) (l : List Unread) → map (λ (x : Unread). bodyRead (x .kind) (bytes (x .text))) l ≡ map (λ (x : Unread). read.Refused (fault.Field (x .place))) l → Refuses t s (bodyRead t s) l
+refuses : (t : MessageType) (s : List ℕ) (l : List Unread) → map (λ (x : Unread). bodyRead New (x .kind) (bytes (x .text))) l ≡ map (λ (x : Unread). read.Refused (fault.Field (x .place))) l → Refuses t s (bodyRead New t s) l
 refuses t s [] e = tt
 refuses t s (x ∷ l) e = ((λ p q. rw (p, q) (ap (λ bs. getD bs 0 (read.Refused fault.Spacing)) e)), refuses t s l (ap (drop 1) e))
 
-pub speeds-and-levels : (κs : _) (a : _) (r : _) (s : _) → read-body.Post κs a r s → Refuses (a .0) (now (a .1 .0)) r notHandedOn
-unfolding bodyRead answerBy valuesBy countIn kindsOf isCount answerOf answers answerFrom counted fieldsOf ended readIn readKind readMark barred plain traceOf marksOf
-    contentOf follows markOf identOf tzIdentOf wordOf aircraftOf plainOf prefixedOf pairOf isPairForm isForm isKey isIdent isTzIdent isFix isTime isClock isBlock isLevel isPosition
+pub speeds-and-levels : (κs : _) (a : _) (r : _) (s : _) → read-body.Post κs a r s → a .0 ≡ New → Refuses (a .1 .0) (now (a .1 .1 .0)) r notHandedOn
+unfolding bodyRead answerBy valuesBy countIn kindsOf tableBy isCount answerOf answers answerFrom counted fieldsOf ended readIn readKind readMark barred plain traceOf marksOf
+    contentOf follows markOf identOf tzIdentOf wordOf aircraftBy aircraftOf plainOf prefixedOf pairOf isPairForm isForm isKey isIdent isTzIdent isFix isTime isClock isBlock isLevel isPosition
     joins has before after upTo oneOf fitsAny fits pieces run isOf isAlnum isDigit isLetter all within isNumeral isDigitTo digitOf numberOf value codeOf
-speeds-and-levels κs a r s p = rw p (refuses (a .0) (now (a .1 .0)) notHandedOn refl)
+speeds-and-levels κs a r s p n = rw (p, n) (refuses (a .1 .0) (now (a .1 .1 .0)) notHandedOn refl)
 
 -- ---- the flight's key
 

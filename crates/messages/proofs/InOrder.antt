@@ -3,23 +3,36 @@ use mathlib.Core.Path.{_≡_, sym, _∙_}
 use mathlib.Core.Bool.{Bool, true, false, _&&_}
 use mathlib.Core.List.{List, _∷_}
 use Prim.Native.Nat.{ℕ}
+use lib.ListN.{take}
 use Rattle.text.proofs.Logic.{and-left}
+use Rattle.rules.specs.declared.Rule.{Rule}
 use Rattle.fields.specs.Word.{isWord}
 use Rattle.table.specs.Field.{isOne, traceOf, marksOf, isValue, shown}
 use Rattle.table.specs.declared.kinds.Value.{Value}
 use Rattle.table.specs.Show.{allowedFrom}
-use Rattle.messages.specs.Body.{valuesIn}
+use Rattle.table.specs.Table.{tableOf}
+use Rattle.table.proofs.OldKinds.{kinds-allowed}
+use Rattle.messages.specs.Body.{typeIn, fieldCount, valuesIn}
 use Rattle.messages.specs.Allowed.{isWhole, kindsIn, isFielded, isBody}
 use Rattle.messages.specs.declared.Body.{Body}
 use Rattle.messages.proofs.Bodies.{allowed-first, allowed-rest}
 use Rattle.messages.proofs.Theorems.{allowed}
 
-pub body-fielded : (b : Body) (r : List ℕ) (t : Bool) → isWhole b ≡ false → isBody b r t ≡ true → isFielded b r ≡ true
-unfolding isBody
-body-fielded b r t q e = rw q at e
+-- the table's kinds of its fields
+abbrev pub tableIn : Body → List ℕ
+tableIn b = take (fieldCount b) (tableOf (typeIn b))
 
-pub body-values : (b : Body) (r : List ℕ) (t : Bool) → isWhole b ≡ false → isBody b r t ≡ true → allowedFrom (kindsIn b) 0 0 r (valuesIn b) ≡ true
-body-values b r t q e = allowed b r t (body-fielded b r t q e)
+module _ (ρ : Rule) where
+  pub body-fielded : (b : Body) (r : List ℕ) (t : Bool) → isWhole b ≡ false → isBody ρ b r t ≡ true → isFielded ρ b r ≡ true
+  unfolding isBody
+  body-fielded b r t q e = rw q at e
+
+  pub fielded-values : (b : Body) (r : List ℕ) (t : Bool) → isFielded ρ b r ≡ true → allowedFrom (tableIn b) 0 0 r (valuesIn b) ≡ true
+  unfolding kindsIn
+  fielded-values b r t e = kinds-allowed ρ (typeIn b) (fieldCount b) 0 0 r (valuesIn b) (allowed ρ b r t e)
+
+  pub body-values : (b : Body) (r : List ℕ) (t : Bool) → isWhole b ≡ false → isBody ρ b r t ≡ true → allowedFrom (tableIn b) 0 0 r (valuesIn b) ≡ true
+  body-values b r t q e = fielded-values b r t (body-fielded b r t q e)
 
 -- what the values before it left may be anything
 pub record First (k : ℕ) (ks : List ℕ) (r : List ℕ) (v : Value) (vs : List Value) : Type 0 where

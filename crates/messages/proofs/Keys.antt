@@ -13,6 +13,7 @@ use Rattle.text.proofs.Logic.{and-left, true-false}
 use Rattle.shapes.specs.Cut.{upTo, before}
 use Rattle.shapes.proofs.Joins.{joined-before, whole-before}
 use Rattle.rules.specs.Kind.{KEY, NUMBER}
+use Rattle.rules.specs.declared.Rule.{Rule}
 use Rattle.fields.specs.Word.{isWord}
 use Rattle.fields.specs.Pair.{slash, pairText, isPair}
 use Rattle.fields.specs.Ident.{isIdentValue}
@@ -23,9 +24,8 @@ use Rattle.fields.proofs.Slashes.{key-slashless}
 use Rattle.table.specs.Field.{IDENT, TZ-IDENT, identIn, isTwo, plain, isKindValue, isValue}
 use Rattle.table.specs.declared.kinds.Value.{Value}
 use Rattle.table.specs.Show.{allowedFrom}
-use Rattle.table.specs.Table.{countWith, hasFields, kindsOf, routeBy, freeIn}
+use Rattle.table.specs.Table.{countWith, hasFields, routeBy, freeIn}
 use Rattle.messages.specs.Body.{typeIn, keyIn, valueOfIdent, slots, fieldCount, valuesIn}
-use Rattle.messages.specs.Allowed.{kindsIn}
 use Rattle.messages.specs.Named.{named, fieldAt, Stand}
 use Rattle.messages.specs.Read.{bodyRead}
 use Rattle.messages.specs.declared.Body.{Body}
@@ -33,7 +33,8 @@ use Rattle.messages.specs.declared.Body.the-variants as body
 use Rattle.messages.specs.declared.typed.BodyRead.the-variants as read
 use Rattle.messages.proofs.Bodies.{allowed-first}
 use Rattle.messages.proofs.ReadWays.{by-table}
-use Rattle.messages.proofs.Theorems.{fields-held, allowed}
+use Rattle.messages.proofs.Theorems.{fields-held}
+use Rattle.messages.proofs.InOrder.{tableIn, fielded-values}
 use Rattle.messages.proofs.Named.{body-named}
 
 -- ---- an ident: before its slash stands its key
@@ -77,8 +78,8 @@ af-take o r v ks vs e =
     let z : 3 + 2 * o ≡ suc (2 + 2 * o) = omega arith in
     ident-first (take (2 + 2 * o) ks) r v (take (2 + 2 * o) vs) (subst (λ (k : ℕ). allowedFrom (take k (IDENT ∷ ks)) 0 0 r (take k (v ∷ vs)) ≡ true) z e)
 
-keyed : (b : Body) (s r : List ℕ) → hasFields (typeIn b) ≡ true → allowedFrom (kindsIn b) 0 0 r (valuesIn b) ≡ true → Keyed b s r
-unfolding kindsIn kindsOf valuesIn fieldCount countWith slots named
+keyed : (b : Body) (s r : List ℕ) → hasFields (typeIn b) ≡ true → allowedFrom (tableIn b) 0 0 r (valuesIn b) ≡ true → Keyed b s r
+unfolding valuesIn fieldCount countWith slots named
 keyed (body.Af m) s r f e = record { ident = m .ident; is = refl; good = af-take (ones (m .marks)) r (valueOfIdent (m .ident)) _ _ e; first = λ p. p .0 }
 keyed (body.Az m) s r f e = record { ident = m .ident; is = refl; good = ident-first _ r (valueOfIdent (m .ident)) _ e; first = λ p. p .0 }
 keyed (body.Dz m) s r f e = record { ident = m .ident; is = refl; good = ident-first _ r (valueOfIdent (m .ident)) _ e; first = λ p. p .0 }
@@ -91,13 +92,13 @@ keyed body.To s r f e = true-false f refl
 keyed body.Hb s r f e = true-false f refl
 
 -- THE LAW: "1 for the ident"; the key is the word of a key, and the part of that field before the slash
-pub body-key : (t : MessageType) (s : List ℕ) (b : Body) (u : Bool) → hasFields t ≡ true → bodyRead t s ≡ read.Read b u
+pub body-key : (ρ : Rule) (t : MessageType) (s : List ℕ) (b : Body) (u : Bool) → hasFields t ≡ true → bodyRead ρ t s ≡ read.Read b u
     → (isWord KEY (keyIn b) ≡ true) × (textOf (keyIn b) ≡ before slash (fieldAt 1 s))
-body-key t s b u f e =
-    let h = fields-held t s b u (sym (by-table t s f) ∙ e) in
-    let n = body-named t s b u f e in
+body-key ρ t s b u f e =
+    let h = fields-held ρ t s b u (sym (by-table ρ t s f) ∙ e) in
+    let n = body-named ρ t s b u f e in
     let g : hasFields (typeIn b) ≡ true = rw (h .type) f in
-    let k = keyed b s (freeIn t s) g (rw f (allowed b (routeBy t s) u (h .good))) in
+    let k = keyed b s (freeIn ρ t s) g (rw f (fielded-values ρ b (routeBy ρ t s) u (h .good))) in
     let i = k .ident in (
       rw (k .is) (pair-word (i .key .0) (i .number .0) (k .good)),
       rw (k .is, k .first (n .1 .stand)) (sym (pair-before (i .key .0) (i .number .0) (k .good))),

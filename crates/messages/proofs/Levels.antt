@@ -8,16 +8,17 @@ use lib.Count.{ones}
 use lib.ListN.{take}
 use Rattle.text.proofs.Logic.{and-left, true-false}
 use Rattle.rules.specs.Kind.{FILED-SPEED, FIX, LEVEL}
+use Rattle.rules.specs.declared.Rule.{Rule}
 use Rattle.fields.specs.Word.{isWord}
 use Rattle.fields.specs.declared.plan.Level.{Level}
 use Rattle.table.specs.Amends.{isMark, contentOf}
 use Rattle.table.specs.Field.{IDENT, AIRCRAFT, ROUTE, PLAN-TIME, isOne, plain, isKindValue, isValue}
 use Rattle.table.specs.declared.kinds.Value.{Value}
 use Rattle.table.specs.Show.{allowedFrom}
-use Rattle.table.specs.Table.{amendments, countWith, kindsOf}
+use Rattle.table.specs.Table.{amendments, countWith}
 use Rattle.table.proofs.Eight.{each-mark}
 use Rattle.messages.specs.Body.{amendedIn, heldFrom, valueOfWord, valueOfIdent, valueOfAircraft, slotsOf, pairsOf, slots, fieldCount, valuesIn}
-use Rattle.messages.specs.Allowed.{isWhole, kindsIn, isBody}
+use Rattle.messages.specs.Allowed.{isWhole, isBody}
 use Rattle.messages.specs.Levels.{levelIn, amendedLevels, levelsIn}
 use Rattle.messages.specs.declared.Amendment.{Amendment}
 use Rattle.messages.specs.declared.Af.{Af}
@@ -77,21 +78,21 @@ amended-levels (suc j) p m r (x ∷ xs) e =
 
 -- ---- by type
 
-are-levels : (b : Body) (r : List ℕ) (t : Bool) → isBody b r t ≡ true → AreLevels (levelsIn b)
-unfolding kindsIn kindsOf valuesIn fieldCount countWith slots isWhole
-are-levels (body.Fz p) r t e = (plan-level p r _ (body-values (body.Fz p) r t refl e), tt)
-are-levels (body.Uz p) r t e = (plan-level p r _ (body-values (body.Uz p) r t refl e), tt)
-are-levels (body.Af a) r t e =
-    let (p, m, x) = af-amendments a (counted (body.Af a) r t (body-fielded (body.Af a) r t refl e)) r (body-values (body.Af a) r t refl e) in
+are-levels : (ρ : Rule) (b : Body) (r : List ℕ) (t : Bool) → isBody ρ b r t ≡ true → AreLevels (levelsIn b)
+unfolding valuesIn fieldCount countWith slots isWhole
+are-levels ρ (body.Fz p) r t e = (plan-level p r _ (body-values ρ (body.Fz p) r t refl e), tt)
+are-levels ρ (body.Uz p) r t e = (plan-level p r _ (body-values ρ (body.Uz p) r t refl e), tt)
+are-levels ρ (body.Af a) r t e =
+    let (p, m, x) = af-amendments a (counted ρ (body.Af a) r t (body-fielded ρ (body.Af a) r t refl e)) r (body-values ρ (body.Af a) r t refl e) in
     amended-levels (ones (a .marks)) p m r (take (ones (a .marks)) (slotsOf a)) x
-are-levels (body.Az m) r t e = tt
-are-levels (body.Dz m) r t e = tt
-are-levels (body.Rz m) r t e = tt
-are-levels (body.Tz m) r t e = tt
-are-levels body.Rt r t e = tt
-are-levels body.To r t e = tt
-are-levels body.Hb r t e = tt
+are-levels ρ (body.Az m) r t e = tt
+are-levels ρ (body.Dz m) r t e = tt
+are-levels ρ (body.Rz m) r t e = tt
+are-levels ρ (body.Tz m) r t e = tt
+are-levels ρ body.Rt r t e = tt
+are-levels ρ body.To r t e = tt
+are-levels ρ body.Hb r t e = tt
 
 -- THE LAW
-pub body-levels : (b : Body) (r : List ℕ) (t : Bool) → isBody b r t ≡ true → (l : Level) → List·Memᴰ l (levelsIn b) → isWord LEVEL (l .0) ≡ true
-body-levels b r t e = level-among (levelsIn b) (are-levels b r t e)
+pub body-levels : (ρ : Rule) (b : Body) (r : List ℕ) (t : Bool) → isBody ρ b r t ≡ true → (l : Level) → List·Memᴰ l (levelsIn b) → isWord LEVEL (l .0) ≡ true
+body-levels ρ b r t e = level-among (levelsIn b) (are-levels ρ b r t e)

@@ -10,6 +10,7 @@ use lib.ListN.{length, getD, take, drop, length-take}
 use lib.Seq.{drop-drop, getD-drop}
 use Rattle.text.proofs.Logic.{true-false}
 use Rattle.rules.specs.Kind.{POINT}
+use Rattle.rules.specs.declared.Rule.{Rule}
 use Rattle.fields.specs.declared.heads.MessageType.{MessageType}
 use Rattle.table.specs.Spacing.{Fields, fieldsOf, fieldsIn}
 use Rattle.table.specs.Amends.{markText, isMark, contentOf}
@@ -17,7 +18,8 @@ use Rattle.table.specs.FieldKind.{IDENT, AMENDMENT, CONTENT}
 use Rattle.table.specs.Field.{plain, traceOf, shownKind, shown}
 use Rattle.table.specs.declared.kinds.Value.{Value}
 use Rattle.table.specs.Show.{textsFrom, allowedFrom}
-use Rattle.table.specs.Table.{amendments, isCount, countWith, hasFields, kindsOf, countIn, routeBy, freeIn}
+use Rattle.table.proofs.OldKinds.{kinds-texts}
+use Rattle.table.specs.Table.{amendments, isCount, countWith, hasFields, countIn, routeBy, freeIn}
 use Rattle.table.proofs.Eight.{each-mark}
 use Rattle.messages.specs.Body.{amendedIn, heldFrom, typeIn, valueOfWord, valueOfIdent, slotsOf, pairsOf, slots, fieldCount, valuesIn}
 use Rattle.messages.specs.Allowed.{kindsIn}
@@ -31,7 +33,8 @@ use Rattle.messages.specs.declared.typed.BodyRead.the-variants as read
 use Rattle.messages.proofs.Bodies.{allowed-first, allowed-rest, double, double-is, mark-value, count-pairs}
 use Rattle.messages.proofs.Amendments.{af-kinds, af-values}
 use Rattle.messages.proofs.ReadWays.{by-table}
-use Rattle.messages.proofs.Theorems.{fields-held, counted, allowed, parts}
+use Rattle.messages.proofs.Theorems.{fields-held, counted, parts}
+use Rattle.messages.proofs.InOrder.{tableIn, fielded-values}
 
 abbrev texts : List Part → List (List ℕ)
 texts ps = map (λ (p : Part). p .text) ps
@@ -92,8 +95,8 @@ af-texts a o r xs e =
 abbrev Texts : List Part → List ℕ → List ℕ → List Value → Type 0
 Texts ps r ks vs = allowedFrom ks 0 0 r vs ≡ true → textsFrom ks 0 r vs ≡ texts ps
 
-named-texts : (b : Body) (r : List ℕ) → isCount (typeIn b) (fieldCount b) ≡ true → Texts (named b r) r (kindsIn b) (valuesIn b)
-unfolding named textsFrom shown shownKind plain kindsIn kindsOf valuesIn fieldCount countWith slots
+named-texts : (b : Body) (r : List ℕ) → isCount (typeIn b) (fieldCount b) ≡ true → Texts (named b r) r (tableIn b) (valuesIn b)
+unfolding named textsFrom shown shownKind plain valuesIn fieldCount countWith slots
 named-texts (body.Af a) r c = rw (af-kinds a c, af-values a c) (af-texts a (ones (a .marks)) r (take (ones (a .marks)) (slotsOf a)))
 named-texts (body.Az m) r c = λ e. refl
 named-texts (body.Dz m) r c = λ e. refl
@@ -151,12 +154,13 @@ stand-from s i (suc n) (p ∷ ps) e h =
     )
 
 -- THE LAW
-pub body-named : (t : MessageType) (s : List ℕ) (b : Body) (u : Bool) → hasFields t ≡ true → bodyRead t s ≡ read.Read b u → (typeIn b ≡ t) × AreFields s (named b (freeIn t s))
-body-named t s b u f e =
-    let r = routeBy t s in
-    let h = fields-held t s b u (sym (by-table t s f) ∙ e) in
-    let c = counted b r u (h .good) in
-    let w = named-texts b r c (allowed b r u (h .good)) in
-    let x : fieldsOf s ≡ Fields (texts (named b r)) u = sym (ap fieldsOf (h .text)) ∙ parts b r u (h .good) .2 ∙ ap (λ (fs : List (List ℕ)). Fields fs u) w in
+pub body-named : (ρ : Rule) (t : MessageType) (s : List ℕ) (b : Body) (u : Bool) → hasFields t ≡ true → bodyRead ρ t s ≡ read.Read b u → (typeIn b ≡ t) × AreFields s (named b (freeIn ρ t s))
+unfolding kindsIn
+body-named ρ t s b u f e =
+    let r = routeBy ρ t s in
+    let h = fields-held ρ t s b u (sym (by-table ρ t s f) ∙ e) in
+    let c = counted ρ b r u (h .good) in
+    let w : textsFrom (kindsIn ρ b) 0 r (valuesIn b) ≡ texts (named b r) = kinds-texts ρ (typeIn b) (fieldCount b) 0 r (valuesIn b) ∙ named-texts b r c (fielded-values ρ b r u (h .good)) in
+    let x : fieldsOf s ≡ Fields (texts (named b r)) u = sym (ap fieldsOf (h .text)) ∙ parts ρ b r u (h .good) .2 ∙ ap (λ (fs : List (List ℕ)). Fields fs u) w in
     let p : places (named b r) ≡ placesFrom 1 (countIn s) = named-places b r c ∙ ap (placesFrom 1) (h .fields) in
     (h .type, rw f (record { stand = stand-from s 0 (countIn s) (named b r) (ap fieldsIn x) p; every = p }))

@@ -10,6 +10,7 @@ use Rattle.table.specs.Spacing.{bodyOf}
 use Rattle.table.specs.Field.{isOne}
 use Rattle.table.specs.declared.kinds.Value.{Value}
 use Rattle.table.specs.Show.{textsFrom, allowedFrom, marksFrom}
+use Rattle.rules.specs.declared.Rule.{Rule}
 use Rattle.table.specs.Table.{isCount, hasFields, hasRouteWith, kindsOf}
 use Rattle.messages.specs.Body.{typeIn, fieldCount, valuesIn, spare, marksIn}
 use Rattle.messages.specs.declared.Body.{Body}
@@ -22,13 +23,13 @@ isWhole b = not (hasFields (typeIn b))
 unfoldable pub hasRoute : Body → Bool
 hasRoute b = hasRouteWith (typeIn b) (marksIn b)
 
--- the kinds of its fields
-unfoldable pub kindsIn : Body → List ℕ
-kindsIn b = kindsOf (typeIn b) (fieldCount b)
+-- the kinds of its fields under the rule
+unfoldable pub kindsIn : Rule → Body → List ℕ
+kindsIn ρ b = kindsOf ρ (typeIn b) (fieldCount b)
 
 -- the text of a body; t says whether a space stands at its end
-unfoldable pub bodyText : Body → List ℕ → Bool → List ℕ
-bodyText b r t = cond (isWhole b) r (bodyOf (textsFrom (kindsIn b) 0 r (valuesIn b)) t)
+unfoldable pub bodyText : Rule → Body → List ℕ → Bool → List ℕ
+bodyText ρ b r t = cond (isWhole b) r (bodyOf (textsFrom (kindsIn ρ b) 0 r (valuesIn b)) t)
 
 abbrev pub allNone : List Value → Bool
 allNone [] = true
@@ -36,10 +37,10 @@ allNone (v ∷ vs) = eqb (v .a) 0 && isOne v && allNone vs
 
 -- the count of fields is right; each is one that some text gives and may follow those before it; the marks are those of
 -- the amendments, and no amendment comes after these; free text only where a route is
-unfoldable pub isFielded : Body → List ℕ → Bool
-isFielded b r =
-    isCount (typeIn b) (fieldCount b) && allowedFrom (kindsIn b) 0 0 r (valuesIn b) && eqb (marksFrom (kindsIn b) 0 0 r (valuesIn b)) (marksIn b) && allNone (spare b) && (hasRoute b || eqb (length r) 0)
+unfoldable pub isFielded : Rule → Body → List ℕ → Bool
+isFielded ρ b r =
+    isCount (typeIn b) (fieldCount b) && allowedFrom (kindsIn ρ b) 0 0 r (valuesIn b) && eqb (marksFrom (kindsIn ρ b) 0 0 r (valuesIn b)) (marksIn b) && allNone (spare b) && (hasRoute b || eqb (length r) 0)
 
 -- the bodies that a line can have
-unfoldable pub isBody : Body → List ℕ → Bool → Bool
-isBody b r t = cond (isWhole b) (allIn 32 126 r && not t) (isFielded b r)
+unfoldable pub isBody : Rule → Body → List ℕ → Bool → Bool
+isBody ρ b r t = cond (isWhole b) (allIn 32 126 r && not t) (isFielded ρ b r)

@@ -3,3 +3,4 @@ pub mod Allowed
 pub mod Read
 pub mod Named
 pub mod Levels
+pub mod Reading

@@ -7,6 +7,7 @@ use Rattle.table.specs.declared.kinds.Value.{Value}
 use Rattle.table.specs.Read.{padded, faultNumber}
 use Rattle.table.specs.declared.walk.Answer.{Answer}
 use Rattle.table.specs.declared.walk.Answer.the-variants as answer
+use Rattle.rules.specs.declared.Rule.{Rule}
 use Rattle.table.specs.Table.{hasFields, answerBy, valuesBy}
 use Rattle.messages.specs.Body.{bodyFrom}
 use Rattle.messages.specs.declared.typed.BodyRead.{BodyRead}
@@ -22,5 +23,5 @@ bodyNumber (read.Read b t) = 0
 bodyNumber (read.Refused x) = faultNumber x
 
 -- by the table where the type has fields; "RT, TO and HB bodies are kept whole", and then no value is held
-unfoldable pub bodyRead : MessageType → List ℕ → BodyRead
-bodyRead t s = cond (hasFields t) (typedOf t (padded (valuesBy t s)) (answerBy t s)) (read.Read (bodyFrom t 0 (padded [])) false)
+unfoldable pub bodyRead : Rule → MessageType → List ℕ → BodyRead
+bodyRead ρ t s = cond (hasFields t) (typedOf t (padded (valuesBy ρ t s)) (answerBy ρ t s)) (read.Read (bodyFrom t 0 (padded [])) false)

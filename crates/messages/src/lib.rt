@@ -7,6 +7,8 @@ pub mod values;
 use fields::aircraft::Aircraft;
 use fields::flight::ComputerNumber;
 use fields::flight::Key;
+use fields::frame::Center;
+use fields::frame::OldStamp;
 use fields::frame::Sequence;
 use fields::frame::Stamp;
 use fields::heads::Facility;
@@ -123,6 +125,23 @@ pub struct Message {
     pub sequence: Sequence,
     pub stamp: Stamp,
     pub facility: Facility,
+    pub body: Body,
+    pub trailing: bool,
+}
+
+// A message of the old feed keeps what its line has: no sequence number, no day, no facility.
+pub struct OldMessage {
+    pub stamp: OldStamp,
+    pub center: Center,
+    pub body: Body,
+    pub trailing: bool,
+}
+
+// What is read under either rule: the parts of the head as numbers, 0 for what the rule has not. Outside this reader and writer a message has its own type.
+pub struct Reading {
+    pub sequence: u64,
+    pub stamp: u64,
+    pub facility: u64,
     pub body: Body,
     pub trailing: bool,
 }

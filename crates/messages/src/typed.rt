@@ -22,6 +22,7 @@ use fields::track::Clock;
 use fields::track::GroundSpeed;
 use fields::track::Position;
 use fields::track::TrackLevel;
+use rules::Rule;
 use table::kinds::Value;
 use table::walk::Answer;
 use table::walk::Fault;
@@ -191,8 +192,8 @@ fn body_from(t: MessageType, marks: u8, w: [Value; 19]) -> Body
 }
 
 // The fields of a type's body by the table; of a body that is kept whole no value is held.
-fn read_fields(t: MessageType, body: &[u8]) -> TableRead
-    ensures { λ r. ⌜ typedOf t (r .values) (r .answer) ≡ bodyRead t (now (body .entry)) ⌝ }
+fn read_fields(rule: Rule, t: MessageType, body: &[u8]) -> TableRead
+    ensures { λ r. ⌜ typedOf t (r .values) (r .answer) ≡ bodyRead rule t (now (body .entry)) ⌝ }
 {
     if !table::has_fields(t) {
         return TableRead {
@@ -200,14 +201,14 @@ fn read_fields(t: MessageType, body: &[u8]) -> TableRead
             values: [Value { a: 0, b: 0, c: 0 }; 19],
         };
     }
-    table::read(t, body)
+    table::read(rule, t, body)
 }
 
-// Reads the body of a type's line, and gives the values their types.
-pub fn read_body(t: MessageType, body: &[u8]) -> BodyRead
-    ensures { λ r. ⌜ r ≡ bodyRead t (now (body .entry)) ⌝ }
+// Reads the body of a type's line under the rule, and gives the values their types.
+pub fn read_body(rule: Rule, t: MessageType, body: &[u8]) -> BodyRead
+    ensures { λ r. ⌜ r ≡ bodyRead rule t (now (body .entry)) ⌝ }
 {
-    let read = read_fields(t, body);
+    let read = read_fields(rule, t, body);
     let answer = read.answer;
     let values = read.values;
     match answer {

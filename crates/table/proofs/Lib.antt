@@ -20,3 +20,4 @@ pub mod Amends
 pub mod Levels
 pub mod Unique
 pub mod Examples
+pub mod OldKinds

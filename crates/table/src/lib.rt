@@ -16,7 +16,7 @@ use rules::TYPE_AT;
 ghost use mathlib.Core.Path.{_≡_};
 ghost use Rattle.table.specs.Read.{padded};
 ghost use Rattle.shapes.specs.Picture.{startsAt};
-ghost use Rattle.table.specs.Table.{dotted, answerBy, valuesBy, routeBy, routeAtBy, countWith, hasFields, hasRouteWith, isCount};
+ghost use Rattle.table.specs.Table.{dotted, answerBy, valuesBy, routeBy, routeAtBy, countWith, hasFields, hasType, hasRouteWith, isCount};
 ghost use lib.Count.{ones};
 ghost use Rattle.rules.specs.declared.Rule.the-variants.{New, Old};
 ghost use Rattle.fields.specs.declared.heads.MessageType.the-variants as type;
@@ -154,6 +154,16 @@ pub fn has_fields(t: MessageType) -> bool
     ensures { λ r. ⌜ r ≡ hasFields t ⌝ }
 {
     field_count(t, 0) != 0
+}
+
+// Whether the rule has the type: the old feed has the seven with fields.
+pub fn has_type(rule: Rule, t: MessageType) -> bool
+    ensures { λ r. ⌜ r ≡ hasType rule t ⌝ }
+{
+    match rule {
+        Rule::New => true,
+        Rule::Old => has_fields(t),
+    }
 }
 
 // Whether a route is among the fields; of an AF if its number, 10, came.

@@ -13,12 +13,13 @@ use Rattle.table.specs.Show.{textsFrom, allowedFrom, marksFrom}
 use Rattle.messages.specs.Allowed.{isFielded, isBody, bodyText, kindsIn}
 use Rattle.messages.specs.Body.{valuesIn}
 use Rattle.messages.specs.declared.Body.{Body}
-use Rattle.messages.specs.declared.Message.{Message}
-use Rattle.line.specs.Line.{lineOf, isAllowed}
+use Rattle.messages.specs.declared.Reading.{Reading}
+use Rattle.line.specs.Line.{lineBy, isAllowedBy}
 use Rattle.writer.specs.declared.sizes.SizedField.{SizedField}
 use Rattle.writer.specs.declared.sizes.SizedField.the-variants as field
 use Rattle.writer.specs.declared.sizes.SizedAll.{SizedAll}
 use Rattle.rules.specs.Frame.{longestLine}
+use Rattle.rules.specs.declared.Rule.{Rule}
 use Rattle.writer.specs.declared.sizes.SizedAll.the-variants as all
 
 -- ---- sizes
@@ -36,14 +37,14 @@ fieldsText ks r vs = bodyOf (textsFrom ks 0 r vs) false
 unfoldable pub sizedAll : List ℕ → List ℕ → List Value → SizedAll
 sizedAll ks r vs = cond (allowedFrom ks 0 0 r vs) (all.Bytes (length (fieldsText ks r vs)) (marksFrom ks 0 0 r vs)) all.NotOne
 
-unfoldable pub sizedFields : Body → List ℕ → Sized
-sizedFields b r = cond (isFielded b r) (sized.Bytes (length (fieldsText (kindsIn b) r (valuesIn b)))) sized.NotOne
+unfoldable pub sizedFields : Rule → Body → List ℕ → Sized
+sizedFields ρ b r = cond (isFielded ρ b r) (sized.Bytes (length (fieldsText (kindsIn ρ b) r (valuesIn b)))) sized.NotOne
 
-unfoldable pub sizedBody : Body → List ℕ → Bool → Sized
-sizedBody b r t = cond (isBody b r t) (sized.Bytes (length (bodyText b r t))) sized.NotOne
+unfoldable pub sizedBody : Rule → Body → List ℕ → Bool → Sized
+sizedBody ρ b r t = cond (isBody ρ b r t) (sized.Bytes (length (bodyText ρ b r t))) sized.NotOne
 
-unfoldable pub sizedLine : Message → List ℕ → Sized
-sizedLine m r = cond (isAllowed m r) (sized.Bytes (length (lineOf m r))) sized.NotOne
+unfoldable pub sizedLine : Rule → Reading → List ℕ → Sized
+sizedLine ρ x r = cond (isAllowedBy ρ x r) (sized.Bytes (length (lineBy ρ x r))) sized.NotOne
 
 -- ---- what is asked for
 

@@ -1,15 +1,25 @@
-// A message written as its line: what it takes is known before a byte is written.
+// A message written as its line, of the feed or of the old feed: what it takes is known before a byte is written.
 
 pub mod sizes;
 
 use crate::sizes::size_line;
+use fields::frame::Sequence;
+use fields::frame::Stamp;
+use fields::frame::body_at;
+use fields::heads::Facility;
+use fields::heads::MessageType;
+use fields::words;
 use messages::Body;
 use messages::Message;
+use messages::OldMessage;
+use messages::Reading;
 use messages::marks_in;
 use messages::type_in;
 use messages::values::values_in;
-use rules::BODY_AT;
 use rules::FACILITY_AT;
+use rules::OLD_CENTER_AT;
+use rules::OLD_TYPE_AT;
+use rules::Rule;
 use rules::STAMP_AT;
 use rules::TYPE_AT;
 use table::field::put_field;
@@ -27,10 +37,12 @@ ghost use lib.ListN.{length, take};
 ghost use Rattle.text.specs.Text.{spliced, writtenNext, writtenBytes};
 ghost use Rattle.table.specs.Field.{traceOf, shown};
 ghost use Rattle.messages.specs.Allowed.{bodyText};
-ghost use Rattle.line.specs.Line.{lineOf, isAllowed};
+ghost use Rattle.rules.specs.declared.Rule.the-variants.{New, Old};
+ghost use Rattle.messages.specs.Reading.{readingOf, oldReadingOf};
+ghost use Rattle.line.specs.Line.{lineBy, isAllowedBy, lineOf, isAllowed, oldLineOf, isOldAllowed};
 ghost use Rattle.fields.specs.Answer.{writeAnswer};
 ghost use Rattle.writer.specs.Size.{fieldsText};
-ghost use Rattle.writer.specs.Asks.{FieldAsks, PutAsks, BodyAsks, LineAsks};
+ghost use Rattle.writer.specs.Asks.{FieldAsks, PutAsks, BodyAsks, HeadAsks, LineAsks, headText};
 ghost use Rattle.writer.specs.Cases.{placeAfter, WriteCase};
 
 // Where a field's text ends, and its trace for the next one.
@@ -77,9 +89,9 @@ fn put_all(kinds: &[u8], values: [Value; 19], route: &[u8], out: &mut [u8]) -> u
     at
 }
 
-fn put_body(b: Body, free: &[u8], trailing: bool, out: &mut [u8])
-    requires { ⌜ BodyAsks b (now free) trailing (now out) ⌝ }
-    ensures { λ _. ⌜ now (out .exit) ≡ spliced (now (out .entry)) 0 (bodyText b (now (free .entry)) trailing) ⌝ }
+fn put_body(rule: Rule, b: Body, free: &[u8], trailing: bool, out: &mut [u8])
+    requires { ⌜ BodyAsks rule b (now free) trailing (now out) ⌝ }
+    ensures { λ _. ⌜ now (out .exit) ≡ spliced (now (out .entry)) 0 (bodyText rule b (now (free .entry)) trailing) ⌝ }
 {
     let kind = type_in(b);
     if !has_fields(kind) {
@@ -87,7 +99,7 @@ fn put_body(b: Body, free: &[u8], trailing: bool, out: &mut [u8])
         return;
     }
     let n = field_count(kind, marks_in(b));
-    let kinds = kinds_of(kind);
+    let kinds = kinds_of(rule, kind);
     let values = values_in(b);
     let end = put_all(&kinds[..n], values, free, out);
     if trailing {
@@ -95,21 +107,61 @@ fn put_body(b: Body, free: &[u8], trailing: bool, out: &mut [u8])
     }
 }
 
-// The line, each part into the rest of the buffer.
-fn put_line(m: Message, free: &[u8], out: &mut [u8])
-    requires { ⌜ LineAsks m (now free) (now out) ⌝ }
-    ensures { λ _. ⌜ now (out .exit) ≡ spliced (now (out .entry)) 0 (lineOf m (now (free .entry))) ⌝ }
+// The head, each part into the rest of the buffer.
+fn put_new_head(sequence: u64, stamp: u64, facility: u64, kind: MessageType, out: &mut [u8])
+    requires { ⌜ HeadAsks New sequence stamp facility (now out) ⌝ }
+    ensures { λ _. ⌜ now (out .exit) ≡ spliced (now (out .entry)) 0 (headText New sequence stamp facility kind) ⌝ }
 {
-    let sequence = m.sequence;
-    let stamp = m.stamp;
-    let facility = m.facility;
-    let body = m.body;
-    let kind = type_in(body);
-    sequence.put(out, 0);
-    stamp.put(&mut out[STAMP_AT..], 0);
-    facility.put(&mut out[FACILITY_AT..], 0);
+    Sequence(sequence).put(out, 0);
+    Stamp(stamp).put(&mut out[STAMP_AT..], 0);
+    Facility(facility).put(&mut out[FACILITY_AT..], 0);
     kind.put(&mut out[TYPE_AT..], 0);
-    put_body(body, free, m.trailing, &mut out[BODY_AT..]);
+}
+
+fn put_old_head(sequence: u64, stamp: u64, center: u64, kind: MessageType, out: &mut [u8])
+    requires { ⌜ HeadAsks Old sequence stamp center (now out) ⌝ }
+    ensures { λ _. ⌜ now (out .exit) ≡ spliced (now (out .entry)) 0 (headText Old sequence stamp center kind) ⌝ }
+{
+    words::put(rules::OLD_STAMP, stamp, out, 0);
+    words::put(rules::LETTER, center, &mut out[OLD_CENTER_AT..], 0);
+    kind.put(&mut out[OLD_TYPE_AT..], 0);
+}
+
+fn put_head(rule: Rule, sequence: u64, stamp: u64, facility: u64, kind: MessageType, out: &mut [u8])
+    requires { ⌜ HeadAsks rule sequence stamp facility (now out) ⌝ }
+    ensures { λ _. ⌜ now (out .exit) ≡ spliced (now (out .entry)) 0 (headText rule sequence stamp facility kind) ⌝ }
+{
+    match rule {
+        Rule::New => put_new_head(sequence, stamp, facility, kind, out),
+        Rule::Old => put_old_head(sequence, stamp, facility, kind, out),
+    }
+}
+
+// The line: its head, and the body into the rest of the buffer.
+fn put_line(rule: Rule, x: Reading, free: &[u8], out: &mut [u8])
+    requires { ⌜ LineAsks rule x (now free) (now out) ⌝ }
+    ensures { λ _. ⌜ now (out .exit) ≡ spliced (now (out .entry)) 0 (lineBy rule x (now (free .entry))) ⌝ }
+{
+    let body = x.body;
+    put_head(rule, x.sequence, x.stamp, x.facility, type_in(body), out);
+    let at = body_at(rule);
+    put_body(rule, body, free, x.trailing, &mut out[at..]);
+}
+
+// Writes a line of the rule from place `at`.
+fn write_by(rule: Rule, x: Reading, free: &[u8], out: &mut [u8], at: usize) -> Written
+    ensures { λ r. ⌜ r ≡ writtenNext (isAllowedBy rule x (now (free .entry))) (lineBy rule x (now (free .entry))) (now (out .entry)) at ⌝ }
+    ensures { λ _. ⌜ now (out .exit) ≡ writtenBytes (isAllowedBy rule x (now (free .entry))) (lineBy rule x (now (free .entry))) (now (out .entry)) at ⌝ }
+    ensures { λ r. ⌜ WriteCase rule x (now (free .entry)) (now (out .entry)) at (writeAnswer r) (placeAfter r) (now (out .exit)) ⌝ }
+{
+    let Sized::Bytes(n) = size_line(rule, x, free) else {
+        return Written::NoText;
+    };
+    if !has_room(n, out.len(), at) {
+        return Written::NoRoom;
+    }
+    put_line(rule, x, free, &mut out[at..]);
+    Written::Next(at + n)
 }
 
 // Writes a message's line from place `at`: 16 for values that no line has, then 15 where it does not fit; every other
@@ -117,14 +169,37 @@ fn put_line(m: Message, free: &[u8], out: &mut [u8])
 pub fn write(m: Message, free: &[u8], out: &mut [u8], at: usize) -> Written
     ensures { λ r. ⌜ r ≡ writtenNext (isAllowed m (now (free .entry))) (lineOf m (now (free .entry))) (now (out .entry)) at ⌝ }
     ensures { λ _. ⌜ now (out .exit) ≡ writtenBytes (isAllowed m (now (free .entry))) (lineOf m (now (free .entry))) (now (out .entry)) at ⌝ }
-    ensures { λ r. ⌜ WriteCase m (now (free .entry)) (now (out .entry)) at (writeAnswer r) (placeAfter r) (now (out .exit)) ⌝ }
+    ensures { λ r. ⌜ WriteCase New (readingOf m) (now (free .entry)) (now (out .entry)) at (writeAnswer r) (placeAfter r) (now (out .exit)) ⌝ }
 {
-    let Sized::Bytes(n) = size_line(m, free) else {
-        return Written::NoText;
+    let sequence = m.sequence;
+    let stamp = m.stamp;
+    let facility = m.facility;
+    let body = m.body;
+    let x = Reading {
+        sequence: sequence.0,
+        stamp: stamp.0,
+        facility: facility.0,
+        body,
+        trailing: m.trailing,
     };
-    if !has_room(n, out.len(), at) {
-        return Written::NoRoom;
-    }
-    put_line(m, free, &mut out[at..]);
-    Written::Next(at + n)
+    write_by(Rule::New, x, free, out, at)
+}
+
+// Writes the line of a message of the old feed.
+pub fn write_old(m: OldMessage, free: &[u8], out: &mut [u8], at: usize) -> Written
+    ensures { λ r. ⌜ r ≡ writtenNext (isOldAllowed m (now (free .entry))) (oldLineOf m (now (free .entry))) (now (out .entry)) at ⌝ }
+    ensures { λ _. ⌜ now (out .exit) ≡ writtenBytes (isOldAllowed m (now (free .entry))) (oldLineOf m (now (free .entry))) (now (out .entry)) at ⌝ }
+    ensures { λ r. ⌜ WriteCase Old (oldReadingOf m) (now (free .entry)) (now (out .entry)) at (writeAnswer r) (placeAfter r) (now (out .exit)) ⌝ }
+{
+    let stamp = m.stamp;
+    let center = m.center;
+    let body = m.body;
+    let x = Reading {
+        sequence: 0,
+        stamp: stamp.0,
+        facility: center.0,
+        body,
+        trailing: m.trailing,
+    };
+    write_by(Rule::Old, x, free, out, at)
 }

@@ -1,16 +1,22 @@
 // How long a message's line will be, or that no line has these values (answer 16).
+use fields::frame::Sequence;
+use fields::frame::Stamp;
+use fields::frame::body_at;
+use fields::heads::Facility;
+use fields::words;
 use messages::Body;
-use messages::Message;
+use messages::Reading;
 use messages::marks_in;
 use messages::type_in;
 use messages::values::values_in;
-use rules::BODY_AT;
 use rules::LONGEST_LINE;
+use rules::Rule;
 use shapes::sweeps;
 use table::field::put_field;
 use table::field_count;
 use table::has_fields;
 use table::has_route;
+use table::has_type;
 use table::is_count;
 use table::kinds;
 use table::kinds::ROUTE;
@@ -21,7 +27,10 @@ use text::Written;
 ghost use mathlib.Core.Path.{_≡_};
 ghost use Prim.Native.Nat.{_≤_};
 ghost use lib.ListN.{length, take, drop};
+ghost use mathlib.Core.Bool.{_&&_};
 ghost use Rattle.rules.specs.Frame.{longestLine};
+ghost use Rattle.rules.specs.declared.Rule.the-variants.{New, Old};
+ghost use Rattle.fields.specs.Head.{sequenceIn, stampIn, facilityIn};
 ghost use Rattle.table.specs.Field.{ROUTE, plain as plainly};
 ghost use Rattle.messages.specs.Allowed.{allNone};
 ghost use Rattle.writer.specs.Size.{AllAsks, sizedText, sizedField, sizedAll, sizedFields, sizedBody, sizedLine};
@@ -128,9 +137,9 @@ fn is_none_from(values: [Value; 19], n: usize) -> bool
 }
 
 // How long the text of the fields is, where a line can have this body.
-fn size_fields(b: Body, free: &[u8]) -> Sized
+fn size_fields(rule: Rule, b: Body, free: &[u8]) -> Sized
     requires { ⌜ length (now free) ≤ longestLine ⌝ }
-    ensures { λ r. ⌜ r ≡ sizedFields b (now (free .entry)) ⌝ }
+    ensures { λ r. ⌜ r ≡ sizedFields rule b (now (free .entry)) ⌝ }
 {
     let kind = type_in(b);
     let marks = marks_in(b);
@@ -147,7 +156,7 @@ fn size_fields(b: Body, free: &[u8]) -> Sized
     if !is_none_from(values, n) {
         return Sized::NotOne;
     }
-    let kinds = kinds_of(kind);
+    let kinds = kinds_of(rule, kind);
     let SizedAll::Bytes(size, set) = size_all(&kinds[..n], values, free) else {
         return Sized::NotOne;
     };
@@ -158,9 +167,9 @@ fn size_fields(b: Body, free: &[u8]) -> Sized
 }
 
 // How long the body is, a space at its end counted.
-fn size_body(b: Body, free: &[u8], trailing: bool) -> Sized
+fn size_body(rule: Rule, b: Body, free: &[u8], trailing: bool) -> Sized
     requires { ⌜ length (now free) ≤ longestLine ⌝ }
-    ensures { λ r. ⌜ r ≡ sizedBody b (now (free .entry)) trailing ⌝ }
+    ensures { λ r. ⌜ r ≡ sizedBody rule b (now (free .entry)) trailing ⌝ }
 {
     if !has_fields(type_in(b)) {
         if trailing {
@@ -171,7 +180,7 @@ fn size_body(b: Body, free: &[u8], trailing: bool) -> Sized
         }
         return Sized::Bytes(free.len());
     }
-    let Sized::Bytes(n) = size_fields(b, free) else {
+    let Sized::Bytes(n) = size_fields(rule, b, free) else {
         return Sized::NotOne;
     };
     if trailing {
@@ -180,34 +189,63 @@ fn size_body(b: Body, free: &[u8], trailing: bool) -> Sized
     Sized::Bytes(n)
 }
 
-// How long the line is, where a line can have this message.
-pub(crate) fn size_line(m: Message, free: &[u8]) -> Sized
-    ensures { λ r. ⌜ r ≡ sizedLine m (now (free .entry)) ⌝ }
+fn holds_new(sequence: u64, stamp: u64, facility: u64) -> bool
+    ensures { λ r. ⌜ r ≡ (sequenceIn New .held sequence && stampIn New .held stamp && facilityIn New .held facility) ⌝ }
+{
+    if !Sequence(sequence).holds() {
+        return false;
+    }
+    if !Stamp(stamp).holds() {
+        return false;
+    }
+    Facility(facility).holds()
+}
+
+fn holds_old(sequence: u64, stamp: u64, center: u64) -> bool
+    ensures { λ r. ⌜ r ≡ (sequenceIn Old .held sequence && stampIn Old .held stamp && facilityIn Old .held center) ⌝ }
+{
+    if sequence != 0 {
+        return false;
+    }
+    if !words::holds(rules::OLD_STAMP, stamp) {
+        return false;
+    }
+    words::holds(rules::LETTER, center)
+}
+
+// Whether some head of the rule gives these numbers.
+fn holds_head(rule: Rule, sequence: u64, stamp: u64, facility: u64) -> bool
+    ensures { λ r. ⌜ r ≡ (sequenceIn rule .held sequence && stampIn rule .held stamp && facilityIn rule .held facility) ⌝ }
+{
+    match rule {
+        Rule::New => holds_new(sequence, stamp, facility),
+        Rule::Old => holds_old(sequence, stamp, facility),
+    }
+}
+
+// How long the line is, where a line of the rule can be read so.
+pub(crate) fn size_line(rule: Rule, x: Reading, free: &[u8]) -> Sized
+    ensures { λ r. ⌜ r ≡ sizedLine rule x (now (free .entry)) ⌝ }
 {
     if free.len() > LONGEST_LINE {
         return Sized::NotOne;
     }
-    let sequence = m.sequence;
-    let stamp = m.stamp;
-    let facility = m.facility;
-    let body = m.body;
-    if !sequence.holds() {
+    if !holds_head(rule, x.sequence, x.stamp, x.facility) {
         return Sized::NotOne;
     }
-    if !stamp.holds() {
+    let body = x.body;
+    let kind = type_in(body);
+    if !has_type(rule, kind) {
         return Sized::NotOne;
     }
-    if !facility.holds() {
-        return Sized::NotOne;
-    }
-    let Sized::Bytes(n) = size_body(body, free, m.trailing) else {
+    let Sized::Bytes(n) = size_body(rule, body, free, x.trailing) else {
         return Sized::NotOne;
     };
-    let size = BODY_AT + n;
+    let size = body_at(rule) + n;
     if size > LONGEST_LINE {
         return Sized::NotOne;
     }
-    if table::is_long_plan(type_in(body), size) {
+    if table::is_long_plan(rule, kind, size) {
         return Sized::NotOne;
     }
     Sized::Bytes(size)

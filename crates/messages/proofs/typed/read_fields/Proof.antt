@@ -9,12 +9,12 @@ use Rattle.messages.proofs.typed.read_fields.Tie as tie
 
 returns : tie.Need-returns
 unfolding padded
-returns c = sym (kept-whole _ _ (not-so (c .before .has-fields .ensures) (c .if1 .taken)))
+returns c = sym (kept-whole _ _ _ (not-so (c .before .has-fields .ensures) (c .if1 .taken)))
 
 returns-2 : tie.Need-returns-2
 returns-2 c =
     let i = c .before in
-    rw (c .read .ensures .0, c .read .ensures .1) (sym (by-table _ _ (so (i .before .has-fields .ensures) (i .if1 .left))))
+    rw (c .read .ensures .0, c .read .ensures .1) (sym (by-table _ _ _ (so (i .before .has-fields .ensures) (i .if1 .left))))
 
 pub read-fields-spec : {M : Type 1} → statement M
 read-fields-spec =
