@@ -13,8 +13,9 @@ use Rattle.text.proofs.Logic.{true-false, not-holds, either-of}
 use Rattle.rules.specs.Kind.{CLOCK, ARRIVAL, FIX, LEVEL}
 use Rattle.rules.specs.declared.Rule.{Rule}
 use Rattle.rules.specs.declared.Rule.the-variants.{New, Old}
-use Rattle.table.specs.Field.{AIRCRAFT, ROUTE, PLAN-TIME, AMENDMENT, CONTENT, OLD-AIRCRAFT, OLD-CONTENT, kindBy, contentOf, plain}
+use Rattle.table.specs.Field.{AIRCRAFT, ROUTE, PLAN-TIME, AMENDMENT, CONTENT, OLD-AIRCRAFT, OLD-CONTENT, kindBy, isMark, contentOf, plain}
 use Rattle.table.specs.Fault.{kindAt}
+use Rattle.table.proofs.Eight.{each-mark, no-mark}
 
 -- a rule keeps a kind, or changes it in one of three ways
 pub each-kind : (X : ℕ → ℕ → Type 0) → ((k : ℕ) → X k k) → X AIRCRAFT OLD-AIRCRAFT → X ARRIVAL CLOCK → X CONTENT OLD-CONTENT → (ρ : Rule) (k : ℕ) → X k (kindBy ρ k)
@@ -88,6 +89,15 @@ by-content = each-kind (λ k j. isContent j ≡ isContent k) (λ k. refl) refl r
 pub by-level : (ρ : Rule) → kindBy ρ LEVEL ≡ LEVEL
 by-level New = refl
 by-level Old = refl
+
+-- nor the content that a number asks for, but of 03
+pub content-same : (m : ℕ) → (m ≡ 2 → ⊥) → contentOf m ≡ kindBy Old (contentOf m)
+unfolding contentOf
+content-same m h = go (isMark m) refl
+  where
+    go : (b : Bool) → isMark m ≡ b → contentOf m ≡ kindBy Old (contentOf m)
+    go true q = each-mark (λ i. (i ≡ 2 → ⊥) → contentOf i ≡ kindBy Old (contentOf i)) (λ n. refl) (λ n. absurd (n refl)) (λ n. refl) (λ n. refl) (λ n. refl) (λ n. refl) (λ n. refl) (λ n. refl) m q h
+    go false q = rw (no-mark m q .1)
 
 -- ---- lists of kinds
 
