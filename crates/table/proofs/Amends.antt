@@ -2,7 +2,7 @@
 -- is among them. Assumes nothing.
 use mathlib.Core.Path.{_≡_, refl, sym, _∙_}
 use mathlib.Core.Bool.{Bool, true, false, not, _&&_, _||_}
-use mathlib.Core.List.{List, [], _∷_}
+use mathlib.Core.List.{List, [], _∷_, map}
 use Prim.Native.Nat.{ℕ, suc, _<_}
 use native.Mathlib.Nat.{suc-inj}
 use native.Mathlib.Omega.{arith}
@@ -13,23 +13,36 @@ use lib.ListN.{length, getD}
 use borrow.Author.Tests.{eqb-true}
 use Rattle.text.specs.Bytes.{bytes}
 use Rattle.text.proofs.Logic.{and-left, and-right, true-false, not-fails, not-holds, implied}
-use Rattle.table.specs.Field.{AMENDMENT, ROUTE, CONTENT, plain, traceOf, marksOf}
+use Rattle.rules.specs.declared.Rule.{Rule}
+use Rattle.table.specs.Field.{AMENDMENT, ROUTE, kindBy, plain, traceOf, marksOf}
 use Rattle.table.specs.declared.kinds.Value.{Value}
 use Rattle.table.specs.Read.{answerFrom}
 use Rattle.table.specs.Show.{textsFrom, allowedFrom, marksFrom, routed}
 use Rattle.table.specs.declared.walk.Answer.the-variants.{Taken}
 use Rattle.table.proofs.Theorems.{taken-more, allowed-taken}
-use Rattle.table.proofs.MarksKept.{times, left-route, routeless, step, marks-number, marks-stay}
+use Rattle.table.proofs.KindRules.{isContent, by-amendment, by-route, by-content}
+use Rattle.table.proofs.MarksKept.{times, times-by, left-route, routeless, step, marks-number, marks-stay}
 use Rattle.table.proofs.Routes.{oneRoute, plain-route, not-route, none-more, routedIn, routed-texts}
 
 -- each number has its content after it
 unfoldable pub followed : List ℕ → Bool
 followed [] = true
-followed (k ∷ ks) = (not (eqb k AMENDMENT) || eqb (getD ks 0 0) CONTENT) && followed ks
+followed (k ∷ ks) = (not (eqb k AMENDMENT) || isContent (getD ks 0 0)) && followed ks
 
 -- a body's route, if it has one, is the content of an amendment
 unfoldable pub amends : List ℕ → Bool
 amends ks = eqb (times ROUTE ks) 0 && followed ks
+
+-- by any rule
+followed-by : (ρ : Rule) (ks : List ℕ) → followed (map (kindBy ρ) ks) ≡ followed ks
+unfolding followed
+followed-by ρ [] = refl
+followed-by ρ (k ∷ []) = rw (by-amendment ρ k)
+followed-by ρ (k ∷ (j ∷ ks)) = rw (by-amendment ρ k, by-content ρ j, followed-by ρ (j ∷ ks))
+
+pub amends-by : (ρ : Rule) (ks : List ℕ) → amends (map (kindBy ρ) ks) ≡ amends ks
+unfolding amends
+amends-by ρ ks = rw (times-by ρ ROUTE (by-route ρ) ks, followed-by ρ ks)
 
 -- document 01's tables of amendments are such lists
 pub examples-amends : amends (bytes "I") && amends (bytes "IPP") && amends (bytes "IPPBW") && amends (bytes "IPPBWBW") && amends (bytes "IPPBWBWBW") && amends (bytes "IPPBWBWBWBW") && amends (bytes "IPPBWBWBWBWBW") && amends (bytes "IPPBWBWBWBWBWBW") && amends (bytes "IPPBWBWBWBWBWBWBW") && amends (bytes "IPPBWBWBWBWBWBWBWBW") ≡ true
@@ -56,7 +69,7 @@ routed-set i t (k ∷ ks) p m (f ∷ fs) u n l a h e r =
     go false q z ih = ih (rw q at r)
 
 -- the content that is asked for by the mark of the route is a route
-content-next : (ks : List ℕ) (p : ℕ) (fs : List (List ℕ)) → length fs ≡ length ks → eqb (getD ks 0 0) CONTENT ≡ true → eqb p 128 ≡ true → routedIn ks p fs ≡ true
+content-next : (ks : List ℕ) (p : ℕ) (fs : List (List ℕ)) → length fs ≡ length ks → isContent (getD ks 0 0) ≡ true → eqb p 128 ≡ true → routedIn ks p fs ≡ true
 unfolding routedIn
 content-next [] p fs h c e = true-false c refl
 content-next (k ∷ ks) p [] h c e = absurd (omega arith)
@@ -70,9 +83,9 @@ set-routed i t (k ∷ ks) p m [] u n l h w g e r = absurd (omega arith)
 set-routed i t (k ∷ ks) p m (f ∷ fs) u n l h w g e r =
     let c = taken-more i t k ks p m f fs u n e in
     let s = step k p m f (c .0) l (c .1) in
-    let a = not (eqb k AMENDMENT) || eqb (getD ks 0 0) CONTENT in
+    let a = not (eqb k AMENDMENT) || isContent (getD ks 0 0) in
     let y = rest (eqb (plain k p) ROUTE) refl in
-    let x = not-holds (eqb (traceOf k f) 128) (λ q. true-false (content-next ks (traceOf k f) fs (suc-inj h) (implied (eqb k AMENDMENT) (eqb (getD ks 0 0) CONTENT) (and-left a (followed ks) w) (number q)) q) y) in
+    let x = not-holds (eqb (traceOf k f) 128) (λ q. true-false (content-next ks (traceOf k f) fs (suc-inj h) (implied (eqb k AMENDMENT) (isContent (getD ks 0 0)) (and-left a (followed ks) w) (number q)) q) y) in
     set-routed (suc i) t ks (traceOf k f) (marksOf k m f) fs u n (s .small) (suc-inj h) (and-right a (followed ks) w) (s .other g x) (c .2) y
   where
     rest : (b : Bool) → eqb (plain k p) ROUTE ≡ b → routedIn ks (traceOf k f) fs ≡ false

@@ -16,7 +16,9 @@ use Rattle.fields.specs.declared.heads.MessageType.{MessageType}
 use Rattle.fields.specs.declared.heads.MessageType.the-variants.{Af, Az, Dz, Fz, Rz, Tz, Uz, Rt, To, Hb}
 use Rattle.fields.proofs.heads.MessageType.{the-type}
 use Rattle.table.specs.Table.{countWith, isCount, hasFields, hasRouteWith}
-use Rattle.rules.specs.Frame.{typeAt, longestPlan}
+use Rattle.rules.specs.Frame.{longestPlan}
+use Rattle.rules.specs.declared.Rule.{Rule}
+use Rattle.fields.specs.Head.{typeAt}
 use Rattle.table.specs.Plan.{isLongPlan}
 
 pub each-type : (X : MessageType → Type 0) → X Af → X Az → X Dz → X Fz → X Rz → X Tz → X Uz → X Rt → X To → X Hb → (t : MessageType) → X t
@@ -56,19 +58,19 @@ no-route t m =
     (λ h. absurd (miss unrouted 0 tt h)) (λ h. refl) (λ h. refl) (λ h. absurd (miss unrouted 3 tt h)) (λ h. refl) (λ h. refl) (λ h. absurd (miss unrouted 6 tt h)) (λ h. refl) (λ h. refl) (λ h. refl) t
 
 -- an FZ over its limit from its type is over both together from its start
-pub long-plan : (n : ℕ) → ltb (typeAt + longestPlan) n ≡ isLongPlan Fz n
+pub long-plan : (ρ : Rule) (n : ℕ) → ltb (typeAt ρ + longestPlan) n ≡ isLongPlan ρ Fz n
 unfolding fits isOf
-long-plan n =
-    same-test (ltb (typeAt + longestPlan) n) (ltb longestPlan (n - typeAt))
-    (λ e. let h = ltb-true (typeAt + longestPlan) n e in lt-ltb longestPlan (n - typeAt) (omega arith))
-    (λ e. let h = ltb-true longestPlan (n - typeAt) e in lt-ltb (typeAt + longestPlan) n (omega arith))
+long-plan ρ n =
+    same-test (ltb (typeAt ρ + longestPlan) n) (ltb longestPlan (n - typeAt ρ))
+    (λ e. let h = ltb-true (typeAt ρ + longestPlan) n e in lt-ltb longestPlan (n - typeAt ρ) (omega arith))
+    (λ e. let h = ltb-true longestPlan (n - typeAt ρ) e in lt-ltb (typeAt ρ + longestPlan) n (omega arith))
 
 -- no other type has that limit
 abbrev not-fz : List ℕ
 not-fz = 0 ∷ 1 ∷ 2 ∷ 4 ∷ 5 ∷ 6 ∷ 7 ∷ 8 ∷ 9 ∷ []
 
-pub no-plan : (t : MessageType) (n : ℕ) → OneOf not-fz (tagOf the-type t) → false ≡ isLongPlan t n
+pub no-plan : (ρ : Rule) (t : MessageType) (n : ℕ) → OneOf not-fz (tagOf the-type t) → false ≡ isLongPlan ρ t n
 unfolding fits isOf
-no-plan t n =
-    each-type (λ t. OneOf not-fz (tagOf the-type t) → false ≡ isLongPlan t n)
+no-plan ρ t n =
+    each-type (λ t. OneOf not-fz (tagOf the-type t) → false ≡ isLongPlan ρ t n)
     (λ h. refl) (λ h. refl) (λ h. refl) (λ h. absurd (miss not-fz 3 tt h)) (λ h. refl) (λ h. refl) (λ h. refl) (λ h. refl) (λ h. refl) (λ h. refl) t

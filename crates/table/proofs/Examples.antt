@@ -12,13 +12,18 @@ use Rattle.text.specs.Class.{all, isDigit, isLetter, isAlnum}
 use Rattle.text.specs.Code.{codeOf}
 use Rattle.text.specs.Number.{isNumeral, isDigitTo, digitOf, numberOf}
 use Rattle.text.specs.Place.{value}
-use Rattle.text.specs.Text.{spliced, hasRoom, writtenNext, writtenBytes}
+use Rattle.text.specs.Text.{packed, spliced, hasRoom, writtenNext, writtenBytes}
 use Rattle.text.specs.declared.Written.the-variants.{NoText}
+use Rattle.shapes.specs.Cut.{upTo, has, before, after}
 use Rattle.shapes.specs.Picture.{isOf, fits, run, within}
 use Rattle.shapes.specs.Pieces.{pieces}
 use Rattle.rules.specs.Form.{isIdent, isKey, isClock, isArrival, isPosition, isRoute}
 use Rattle.rules.specs.Kind.{isForm, FILED-SPEED, POINT, FIX, TIME, LEVEL}
+use Rattle.rules.specs.declared.Rule.{Rule}
+use Rattle.rules.specs.declared.Rule.the-variants.{New, Old}
+use Rattle.fields.specs.Aircraft.{plainOf, aircraftOf, aircraftBy}
 use Rattle.fields.specs.Ident.{identOf}
+use Rattle.fields.specs.Pair.{isPairForm, pairOf}
 use Rattle.fields.specs.Word.{wordOf}
 use Rattle.fields.specs.declared.heads.MessageType.{MessageType}
 use Rattle.fields.specs.declared.heads.MessageType.the-variants.{Af, Az, Dz, Fz, Rz, Tz, Uz, Rt, To, Hb}
@@ -26,10 +31,10 @@ use Rattle.table.specs.Amends.{Amends, theEight}
 use Rattle.table.specs.Field.{IDENT, AIRCRAFT, AMENDMENT, markOf, contentOf, traceOf, marksOf, follows, plain, readKind, readMark, barred, readIn, PLAN-TIME, CONTENT, ROUTE, valued, isOne, isMark, markText, isKindValue, isValue, shown}
 use Rattle.table.specs.Read.{answerOf, answers, counted, answerFrom, routeIn, routeOf}
 use Rattle.table.specs.Spacing.{ended, fieldsOf}
-use Rattle.table.specs.Table.{isCount, dotted, kindsOf, countIn, answerBy, routeBy, countWith}
+use Rattle.table.specs.Table.{isCount, tableBy, dotted, kindsOf, countIn, answerBy, routeBy, countWith}
 use Rattle.table.specs.declared.walk.Answer.{Answer}
 use Rattle.table.specs.declared.walk.Answer.the-variants.{Taken, Refused}
-use Rattle.table.specs.declared.walk.Fault.the-variants.{Spacing, Number}
+use Rattle.table.specs.declared.walk.Fault.the-variants.{Spacing, Field, Number}
 use Rattle.table.proofs.field.put_field.Reads as put-field
 use Rattle.table.proofs.field_count.Reads as field-count
 use Rattle.table.proofs.has_fields.Reads as has-fields
@@ -46,66 +51,91 @@ use Rattle.table.proofs.read.Reads as read
 use Rattle.table.proofs.route.Reads as route
 
 -- a TZ has an ident with a number, a ground speed, a track level and a position
-pub tz-by-the-az-table : (κs : _) (r : _) (s : _) → kinds-of.Post κs (Tz, tt) r s → r ≡ bytes "JGMO..............."
-unfolding dotted
+pub tz-by-the-az-table : (κs : _) (r : _) (s : _) → kinds-of.Post κs (New, (Tz, tt)) r s → r ≡ bytes "JGMO..............."
+unfolding dotted tableBy
 tz-by-the-az-table κs r s p = p
 
 -- in an FZ the time comes before the level
-pub level-before-time : (κs : _) (r : _) (s : _) → kinds-of.Post κs (Fz, tt) r s → r ≡ bytes "IZSFHLR............"
-unfolding dotted
+pub level-before-time : (κs : _) (r : _) (s : _) → kinds-of.Post κs (New, (Fz, tt)) r s → r ≡ bytes "IZSFHLR............"
+unfolding dotted tableBy
 level-before-time κs r s p = p
 
--- "type, fields in order": the kinds of each type's fields, of an AF with eight amendments, by their letters; RT, TO and HB have none
-abbrev rowOf : MessageType → List ℕ
-rowOf Az = bytes "IPPA..............."
-rowOf Dz = bytes "IZPTPC............."
-rowOf Rz = bytes "IPP................"
-rowOf Tz = bytes "JGMO..............."
-rowOf Fz = bytes "IZSFHLR............"
-rowOf Uz = bytes "IZSFHLR............"
-rowOf Af = bytes "IPPBWBWBWBWBWBWBWBW"
-rowOf Rt = bytes "..................."
-rowOf To = bytes "..................."
-rowOf Hb = bytes "..................."
+-- "type, fields in order": the kinds of each type's fields, of an AF with eight amendments, by their letters; RT, TO and HB have none. In the old feed
+-- an aircraft, an AF's content and the clock of an AZ are others
+abbrev rowOf : Rule → MessageType → List ℕ
+rowOf New Az = bytes "IPPA..............."
+rowOf New Dz = bytes "IZPTPC............."
+rowOf New Rz = bytes "IPP................"
+rowOf New Tz = bytes "JGMO..............."
+rowOf New Fz = bytes "IZSFHLR............"
+rowOf New Uz = bytes "IZSFHLR............"
+rowOf New Af = bytes "IPPBWBWBWBWBWBWBWBW"
+rowOf New Rt = bytes "..................."
+rowOf New To = bytes "..................."
+rowOf New Hb = bytes "..................."
+rowOf Old Az = bytes "IPPC..............."
+rowOf Old Dz = bytes "IzPTPC............."
+rowOf Old Rz = bytes "IPP................"
+rowOf Old Tz = bytes "JGMO..............."
+rowOf Old Fz = bytes "IzSFHLR............"
+rowOf Old Uz = bytes "IzSFHLR............"
+rowOf Old Af = bytes "IPPBwBwBwBwBwBwBwBw"
+rowOf Old Rt = bytes "..................."
+rowOf Old To = bytes "..................."
+rowOf Old Hb = bytes "..................."
 
-pub rows-in-order : (κs : _) (a : _) (r : _) (s : _) → kinds-of.Post κs a r s → r ≡ rowOf (a .0)
-unfolding dotted
-rows-in-order κs a r s p = p ∙ each-type (λ t. dotted t ≡ rowOf t) refl refl refl refl refl refl refl refl refl refl (a .0)
+pub rows-in-order : (κs : _) (a : _) (r : _) (s : _) → kinds-of.Post κs a r s → r ≡ rowOf (a .0) (a .1 .0)
+unfolding dotted tableBy
+rows-in-order κs a r s p = p ∙ by (a .0)
+  where
+    by : (ρ : Rule) → dotted ρ (a .1 .0) ≡ rowOf ρ (a .1 .0)
+    by New = each-type (λ t. dotted New t ≡ rowOf New t) refl refl refl refl refl refl refl refl refl refl (a .1 .0)
+    by Old = each-type (λ t. dotted Old t ≡ rowOf Old t) refl refl refl refl refl refl refl refl refl refl (a .1 .0)
+
+-- in the old feed the fourth field of an AZ is a clock, without a prefix
+pub old-az-with-an-arrival : (κs : _) (r : _) (s : _) → kinds-of.Post κs (Old, (Az, tt)) r s → r ≡ bytes "IPPC..............."
+unfolding dotted tableBy
+old-az-with-an-arrival κs r s p = p
+
+-- and the second of a DZ an aircraft without a last letter
+pub old-dz-with-a-letter : (κs : _) (r : _) (s : _) → kinds-of.Post κs (Old, (Dz, tt)) r s → r ≡ bytes "IzPTPC............."
+unfolding dotted tableBy
+old-dz-with-a-letter κs r s p = p
 
 -- answer 8
 abbrev spacing : Answer
 spacing = Refused Spacing
 
 -- "Splitting at any run of spaces, so that a missing field shifts the rest": a TZ with two spaces in a row
-pub run-of-spaces : (κs : _) (x : _) (r : _) (s : _) → read.Post κs (Tz, (x, tt)) r s
+pub run-of-spaces : (κs : _) (x : _) (r : _) (s : _) → read.Post κs (New, (Tz, (x, tt))) r s
     → now x ≡ bytes " QQX12/101 310  240 3015N/08430W" → r .answer ≡ spacing
 unfolding answerBy isCount countIn fieldsOf ended pieces
-run-of-spaces κs x r s p e = p .0 ∙ ap (answerBy Tz) e
+run-of-spaces κs x r s p e = p .0 ∙ ap (answerBy New Tz) e
 
 -- an AZ's four fields are one too many for an RZ
-pub counted-as-an-az : (κs : _) (x : _) (r : _) (s : _) → read.Post κs (Rz, (x, tt)) r s
+pub counted-as-an-az : (κs : _) (x : _) (r : _) (s : _) → read.Post κs (New, (Rz, (x, tt))) r s
     → now x ≡ bytes " N5AB GHI JKL A0810" → r .answer ≡ spacing
 unfolding answerBy isCount countIn fieldsOf ended pieces
-counted-as-an-az κs x r s p e = p .0 ∙ ap (answerBy Rz) e
+counted-as-an-az κs x r s p e = p .0 ∙ ap (answerBy New Rz) e
 
 -- the fourth field of an AZ is asked for too: one that is a clock is taken
-pub three-kinds-for-every-body : (κs : _) (x : _) (r : _) (s : _) → read.Post κs (Az, (x, tt)) r s
+pub three-kinds-for-every-body : (κs : _) (x : _) (r : _) (s : _) → read.Post κs (New, (Az, (x, tt))) r s
     → now x ≡ bytes " N5 AB CD 0810" → r .answer ≡ Taken false 0
-unfolding answerBy isCount countIn fieldsOf ended pieces kindsOf answerOf answers counted answerFrom readIn follows readKind plain traceOf marksOf
+unfolding answerBy isCount countIn fieldsOf ended pieces kindsOf tableBy answerOf answers counted answerFrom readIn follows readKind plain traceOf marksOf
     identOf wordOf isForm isIdent isKey isArrival isClock run fits isOf all isAlnum isDigit isLetter within isNumeral isDigitTo digitOf codeOf numberOf value
-three-kinds-for-every-body κs x r s p e = p .0 ∙ ap (answerBy Az) e
+three-kinds-for-every-body κs x r s p e = p .0 ∙ ap (answerBy New Az) e
 
 -- the route of an AF is the content of its number 10
-pub route-by-the-fz-table : (κs : _) (x : _) (r : _) (s : _) → route.Post κs (Af, (x, tt)) r s
+pub route-by-the-fz-table : (κs : _) (x : _) (r : _) (s : _) → route.Post κs (New, (Af, (x, tt))) r s
     → now x ≡ bytes " N5AB GHI JKL 10 GHI..JKL" → now r ≡ bytes "GHI..JKL"
-unfolding routeBy routeOf routeIn fieldsOf ended pieces plain contentOf traceOf markOf
-route-by-the-fz-table κs x r s p e = p .0 ∙ ap (routeBy Af) e
+unfolding routeBy tableBy routeOf routeIn fieldsOf ended pieces plain contentOf traceOf markOf
+route-by-the-fz-table κs x r s p e = p .0 ∙ ap (routeBy New Af) e
 
 -- an FZ has a route, its last field
-pub route-by-the-rz-table : (κs : _) (x : _) (r : _) (s : _) → route.Post κs (Fz, (x, tt)) r s
+pub route-by-the-rz-table : (κs : _) (x : _) (r : _) (s : _) → route.Post κs (New, (Fz, (x, tt))) r s
     → now x ≡ bytes " N5AB C172 120 GHI D0810 050 GHI..JKL" → now r ≡ bytes "GHI..JKL"
-unfolding routeBy routeOf routeIn fieldsOf ended pieces plain traceOf
-route-by-the-rz-table κs x r s p e = p .0 ∙ ap (routeBy Fz) e
+unfolding routeBy tableBy routeOf routeIn fieldsOf ended pieces plain traceOf
+route-by-the-rz-table κs x r s p e = p .0 ∙ ap (routeBy New Fz) e
 
 -- ---- counts
 
@@ -146,14 +176,23 @@ unfolding isCount
 too-few-fields-right κs r s p = p
 
 -- an FZ of 440 bytes from its type, after the 16 before it, is too long
-pub fz-of-440-taken : (κs : _) (r : _) (s : _) → is-long-plan.Post κs (Fz, (456, tt)) r s → r ≡ true
+pub fz-of-440-taken : (κs : _) (r : _) (s : _) → is-long-plan.Post κs (New, (Fz, (456, tt))) r s → r ≡ true
 unfolding fits isOf
 fz-of-440-taken κs r s p = p
 
--- a UZ of any length is not
-pub limit-of-a-uz : (κs : _) (n : _) (r : _) (s : _) → is-long-plan.Post κs (Uz, (n, tt)) r s → r ≡ false
+-- one of the old feed by the 7 bytes before it: 439 bytes from its type are taken, 440 are not
+pub old-fz-by-the-new-head : (κs : _) (r : _) (s : _) → is-long-plan.Post κs (Old, (Fz, (447, tt))) r s → r ≡ true
 unfolding fits isOf
-limit-of-a-uz κs n r s p = p
+old-fz-by-the-new-head κs r s p = p
+
+pub old-fz-of-439-refused : (κs : _) (r : _) (s : _) → is-long-plan.Post κs (Old, (Fz, (446, tt))) r s → r ≡ false
+unfolding fits isOf
+old-fz-of-439-refused κs r s p = p
+
+-- a UZ of any length is not
+pub limit-of-a-uz : (κs : _) (ρ : _) (n : _) (r : _) (s : _) → is-long-plan.Post κs (ρ, (Uz, (n, tt))) r s → r ≡ false
+unfolding fits isOf
+limit-of-a-uz κs ρ n r s p = p
 
 -- ---- kinds
 
@@ -229,16 +268,35 @@ number-asks κs x m s p κs′ k s′ q = (on, (on, (on, (on, (on, (on, (on, (on
     on e = q ∙ ap (plain CONTENT) (p ∙ ap (traceOf AMENDMENT) e)
 
 -- "an AF number field that is none of the eight (never 9)": 04 and 11 are answered 10, with their place
-none-of-the-eight : (answerBy Af (bytes " N5 AB CD 04 120") ≡ Refused (Number 4)) × (answerBy Af (bytes " N5 AB CD 11 120") ≡ Refused (Number 4))
-unfolding answerBy isCount countIn fieldsOf ended pieces kindsOf answerOf answers counted answerFrom readIn follows readKind readMark markOf barred plain
+none-of-the-eight : (answerBy New Af (bytes " N5 AB CD 04 120") ≡ Refused (Number 4)) × (answerBy New Af (bytes " N5 AB CD 11 120") ≡ Refused (Number 4))
+unfolding answerBy isCount countIn fieldsOf ended pieces kindsOf tableBy answerOf answers counted answerFrom readIn follows readKind readMark markOf barred plain
     traceOf marksOf identOf wordOf isForm isIdent isKey run fits isOf all isAlnum isDigit isLetter
 none-of-the-eight = (refl, refl)
 
-pub number-04 : (κs : _) (x : _) (r : _) (s : _) → read.Post κs (Af, (x, tt)) r s → now x ≡ bytes " N5 AB CD 04 120" → r .answer ≡ Refused (Number 4)
+pub number-04 : (κs : _) (x : _) (r : _) (s : _) → read.Post κs (New, (Af, (x, tt))) r s → now x ≡ bytes " N5 AB CD 04 120" → r .answer ≡ Refused (Number 4)
 number-04 κs x r s p e = p .0 ∙ rw e (none-of-the-eight .0)
 
-pub number-11 : (κs : _) (x : _) (r : _) (s : _) → read.Post κs (Af, (x, tt)) r s → now x ≡ bytes " N5 AB CD 11 120" → r .answer ≡ Refused (Number 4)
+pub number-11 : (κs : _) (x : _) (r : _) (s : _) → read.Post κs (New, (Af, (x, tt))) r s → now x ≡ bytes " N5 AB CD 11 120" → r .answer ≡ Refused (Number 4)
 number-11 κs x r s p e = p .0 ∙ rw e (none-of-the-eight .1)
+
+-- ---- the old feed: "An aircraft field with a last letter, or an AZ clock with a prefix, has no reading there"
+
+old-refused : (answerBy Old Dz (bytes " N5 C172/A AB D0810 CD 0930") ≡ Refused (Field 2)) × (answerBy Old Az (bytes " N5 AB CD A0810") ≡ Refused (Field 4))
+    × (answerBy Old Af (bytes " N5 AB CD 03 C172/A") ≡ Refused (Field 5))
+unfolding answerBy isCount countIn fieldsOf ended pieces kindsOf tableBy answerOf answers counted answerFrom readIn follows readKind readMark markOf contentOf
+    plain traceOf marksOf identOf wordOf isForm isIdent isKey isClock run fits isOf all isAlnum isDigit isLetter aircraftBy aircraftOf plainOf pairOf isPairForm
+    has upTo before after packed value codeOf
+old-refused = (refl, refl, refl)
+
+pub old-dz-letter-taken : (κs : _) (x : _) (r : _) (s : _) → read.Post κs (Old, (Dz, (x, tt))) r s → now x ≡ bytes " N5 C172/A AB D0810 CD 0930" → r .answer ≡ Refused (Field 2)
+old-dz-letter-taken κs x r s p e = p .0 ∙ rw e (old-refused .0)
+
+pub old-az-prefix-taken : (κs : _) (x : _) (r : _) (s : _) → read.Post κs (Old, (Az, (x, tt))) r s → now x ≡ bytes " N5 AB CD A0810" → r .answer ≡ Refused (Field 4)
+old-az-prefix-taken κs x r s p e = p .0 ∙ rw e (old-refused .1)
+
+-- so too where it is the content of an 03
+pub old-03-letter-taken : (κs : _) (x : _) (r : _) (s : _) → read.Post κs (Old, (Af, (x, tt))) r s → now x ≡ bytes " N5 AB CD 03 C172/A" → r .answer ≡ Refused (Field 5)
+old-03-letter-taken κs x r s p e = p .0 ∙ rw e (old-refused .2)
 
 -- ---- showing
 

@@ -2,7 +2,7 @@
 -- Assumes nothing.
 use mathlib.Core.Path.{_≡_, refl, sym, ap, _∙_, subst}
 use mathlib.Core.Bool.{Bool, true, false, cond}
-use mathlib.Core.List.{List, [], _∷_, List·Memᴰ}
+use mathlib.Core.List.{List, [], _∷_, map, List·Memᴰ}
 use mathlib.Core.Logic.{_⊎_, inl, inr}
 use Prim.Native.Char.{code}
 use Prim.Native.Nat.{ℕ, zero, suc, _<_}
@@ -15,13 +15,16 @@ use borrow.Author.Tests.{eqb-true, eqb-false, eq-eqb}
 use Rattle.text.proofs.Logic.{true-false}
 use Rattle.rules.specs.Form.{isTime, isPosition}
 use Rattle.rules.specs.Kind.{FIX, TIME}
+use Rattle.rules.specs.declared.Rule.{Rule}
+use Rattle.rules.specs.declared.Rule.the-variants.{New, Old}
 use Rattle.table.specs.Amends.{Amends, theEight, markOf, markText, isMark, contentOf}
-use Rattle.table.specs.Field.{PLAN-TIME, AMENDMENT, CONTENT, readKind, readIn, traceOf, marksOf}
+use Rattle.table.specs.Field.{AIRCRAFT, PLAN-TIME, AMENDMENT, CONTENT, kindBy, readKind, readIn, traceOf, marksOf}
 use Rattle.table.specs.Fault.{kindAt, fieldAt, FormCase, Formed, Unformed, Asked, Content, Time, Plain, NoPosition, FieldCase, ByForm, ERule, NoneOfEight, Twice, Fresh}
 use Rattle.table.specs.declared.kinds.FieldRead.{FieldRead}
 use Rattle.fields.specs.declared.heads.MessageType.{MessageType}
-use Rattle.table.specs.Table.{tableOf, kindsOf}
+use Rattle.table.specs.Table.{tableOf, tableBy, kindsOf}
 use Rattle.table.proofs.CountWays.{each-type}
+use Rattle.table.proofs.KindRules.{some-rule, no-rule, one-rule, isContent, content-time, content-number, by-amendment, by-fix, by-plan-time, by-content}
 use Rattle.table.proofs.Eight.{eight-or-none, mark-zero, eight-marks, mark-is, text-mark, mark-some}
 use Rattle.table.proofs.MarkSets.{marks-apart, both-apart}
 use Rattle.table.specs.Read.{fieldNumber}
@@ -43,7 +46,7 @@ readAt ks fs i = readIn (kindAt ks i) (traceAt ks fs i) (marksAt ks fs i) (field
 -- ---- the tables: a content stands after a number, the time of FZ and UZ after the fix
 
 abbrev follow : ℕ → ℕ → Bool
-follow q k = cond (eqb k CONTENT) (eqb q AMENDMENT) (cond (eqb k PLAN-TIME) (eqb q FIX) true)
+follow q k = cond (isContent k) (eqb q AMENDMENT) (cond (eqb k PLAN-TIME) (eqb q FIX) true)
 
 -- q is the kind before
 abbrev pub tied : ℕ → List ℕ → Bool
@@ -79,10 +82,19 @@ tied-take q (k ∷ ks) (suc n) e = go (follow q k) refl (tied-take k ks n)
     go true p ih = rw p (ih (rw p at e))
     go false p ih = true-false (rw p at e) refl
 
--- and those of every table are
-pub table-tied : (t : MessageType) (n : ℕ) → tied 0 (kindsOf t n) ≡ true
-unfolding kindsOf
-table-tied t n = tied-take 0 (tableOf t) n (each-type (λ t. tied 0 (tableOf t) ≡ true) refl refl refl refl refl refl refl refl refl refl t)
+-- and kinds are by any rule as they are
+tied-by : (ρ : Rule) (q : ℕ) (ks : List ℕ) → tied (kindBy ρ q) (map (kindBy ρ) ks) ≡ tied q ks
+tied-by ρ q [] = refl
+tied-by ρ q (k ∷ ks) = rw (by-content ρ k, by-amendment ρ q, by-plan-time ρ k, by-fix ρ q, tied-by ρ k ks)
+
+-- those of every table are tied
+pub table-tied : (ρ : Rule) (t : MessageType) (n : ℕ) → tied 0 (kindsOf ρ t n) ≡ true
+unfolding kindsOf tableBy
+table-tied ρ t n = tied-take 0 (tableBy ρ t) n (first ρ ∙ each-type (λ t. tied 0 (tableOf t) ≡ true) refl refl refl refl refl refl refl refl refl refl t)
+  where
+    first : (ρ : Rule) → tied 0 (tableBy ρ t) ≡ tied 0 (tableOf t)
+    first New = tied-by New 0 (tableOf t)
+    first Old = tied-by Old 0 (tableOf t)
 
 module _ (ks : List ℕ) (fs : List (List ℕ)) where
   -- ---- the marks are those of the numbers that came
@@ -176,19 +188,20 @@ module _ (ks : List ℕ) (fs : List (List ℕ)) where
           ∙ ap (λ b. cond (isTime s) (cond (eqb (getD s 0 0) (code "E")) (cond b 0 9) 0) 9) left
 
       right : isTime s ≡ true → FormCase TIME s 0
-      right q = Formed (λ z. omega arith) (time-form s ∙ q)
+      right q = Formed (no-rule AIRCRAFT TIME refl) (time-form s ∙ q)
 
       go : (b : Bool) → isTime s ≡ b → (c : Bool) → eqb (getD s 0 0) (code "E") ≡ c → (d : Bool) → isPosition f ≡ d
           → FieldCase ks fs (suc j) (cond (isTime s) (cond (eqb (getD s 0 0) (code "E")) (cond (isPosition f) 0 9) 0) 9)
-      go false q c e d p = rw q (ByForm (Time k) (Unformed (λ z. omega arith) (time-form s ∙ q)) (λ z n. omega arith))
+      go false q c e d p = rw q (ByForm (Time k) (Unformed (no-rule AIRCRAFT TIME refl) (time-form s ∙ q)) (λ z n. omega arith))
       go true q false e d p = rw (q, e) (ByForm (Time k) (right q) (λ z n. eqb-false (getD s 0 0) (code "E") e (n .has-E)))
       go true q true e true p = rw (q, e, p) (ByForm (Time k) (right q) (λ z n. true-false p (ap (λ i. isPosition (fieldAt fs i)) (suc-inj (n .before)) ∙ n .no-position)))
       go true q true e false p =
           rw (q, e, p) (ERule (right q) (record { time = k; has-E = eqb-true (getD s 0 0) (code "E") e; fix = j; before = refl; is-fix = x; no-position = p }))
 
   -- a content, after a number that is right
-  content-own : (j : ℕ) → kindAt ks (suc j) ≡ CONTENT → kindAt ks j ≡ AMENDMENT → fieldNumber (readAt ks fs j) ≡ 0 → FieldCase ks fs (suc j) (fieldNumber (readAt ks fs (suc j)))
-  content-own j k x e = go (eight-or-none f)
+  content-own : (ρ : Rule) (j : ℕ) → kindAt ks (suc j) ≡ kindBy ρ CONTENT → kindAt ks j ≡ AMENDMENT → fieldNumber (readAt ks fs j) ≡ 0
+      → FieldCase ks fs (suc j) (fieldNumber (readAt ks fs (suc j)))
+  content-own ρ j k x e = go (eight-or-none f)
     where
       f : List ℕ
       f = fieldAt fs j
@@ -207,50 +220,52 @@ module _ (ks : List ℕ) (fs : List (List ℕ)) where
       go (inl (a, h, q)) =
           let p = traceAt ks fs (suc j) in
           let m = marksAt ks fs (suc j) in
-          let r : readAt ks fs (suc j) ≡ readKind (a .content) s = ap (λ n. readIn n p m s) k ∙ in-content p m s ∙ ap (λ n. readKind n s) (asks a h q) in
+          let r : readAt ks fs (suc j) ≡ readKind (kindBy ρ (a .content)) s = ap (λ n. readIn n p m s) k ∙ in-content ρ p m s ∙ ap (λ n. readKind (kindBy ρ n) s) (asks a h q) in
           subst (λ y. FieldCase ks fs (suc j) (fieldNumber y)) (sym r)
-          (ByForm (Content j refl k a h q) (form-own (a .content) s) (λ z n. let y = n .time in omega arith))
+          (ByForm (Content ρ j refl k a h q) (form-own (kindBy ρ (a .content)) s) (λ z n. content-time ρ k (n .time)))
       go (inr z) = let y : _≡_ {A = ℕ} 10 0 = rw (eq-eqb (markOf f) 0 z) at number in absurd (omega arith)
 
-  plain-own : (i : ℕ) → eqb (kindAt ks i) AMENDMENT ≡ false → eqb (kindAt ks i) CONTENT ≡ false → eqb (kindAt ks i) PLAN-TIME ≡ false → FieldCase ks fs i (fieldNumber (readAt ks fs i))
+  plain-own : (i : ℕ) → eqb (kindAt ks i) AMENDMENT ≡ false → isContent (kindAt ks i) ≡ false → eqb (kindAt ks i) PLAN-TIME ≡ false → FieldCase ks fs i (fieldNumber (readAt ks fs i))
   plain-own i x y z =
       let t = eqb-false (kindAt ks i) PLAN-TIME z in
       subst (λ r. FieldCase ks fs i (fieldNumber r)) (sym (in-plain (kindAt ks i) (traceAt ks fs i) (marksAt ks fs i) (fieldAt fs i) x y z))
-      (ByForm (Plain (eqb-false (kindAt ks i) CONTENT y) t (eqb-false (kindAt ks i) AMENDMENT x)) (form-own (kindAt ks i) (fieldAt fs i)) (λ e n. t (n .time)))
+      (ByForm (Plain (no-rule CONTENT (kindAt ks i) y) t (eqb-false (kindAt ks i) AMENDMENT x)) (form-own (kindAt ks i) (fieldAt fs i)) (λ e n. t (n .time)))
 
   -- THE LAW: after fields that are right, what is answered of a field is its case
   pub field-own : tied 0 ks ≡ true → (i : ℕ) → i < length ks → ((j : ℕ) → j < i → fieldNumber (readAt ks fs j) ≡ 0) → FieldCase ks fs i (fieldNumber (readAt ks fs i))
-  field-own t i h right = by i h right (tied-at 0 ks t i h) (eqb (kindAt ks i) AMENDMENT) refl (eqb (kindAt ks i) CONTENT) refl (eqb (kindAt ks i) PLAN-TIME) refl
+  field-own t i h right = by i h right (tied-at 0 ks t i h) (eqb (kindAt ks i) AMENDMENT) refl (isContent (kindAt ks i)) refl (eqb (kindAt ks i) PLAN-TIME) refl
     where
       by : (i : ℕ) → i < length ks → ((j : ℕ) → j < i → fieldNumber (readAt ks fs j) ≡ 0) → follow (kindBefore 0 ks i) (kindAt ks i) ≡ true
-          → (a : Bool) → eqb (kindAt ks i) AMENDMENT ≡ a → (b : Bool) → eqb (kindAt ks i) CONTENT ≡ b → (c : Bool) → eqb (kindAt ks i) PLAN-TIME ≡ c
+          → (a : Bool) → eqb (kindAt ks i) AMENDMENT ≡ a → (b : Bool) → isContent (kindAt ks i) ≡ b → (c : Bool) → eqb (kindAt ks i) PLAN-TIME ≡ c
           → FieldCase ks fs i (fieldNumber (readAt ks fs i))
       by i h right f true x b y c z = number-own i (eqb-true (kindAt ks i) AMENDMENT x)
       by i h right f false x false y false z = plain-own i x y z
       by zero h right f false x true y c z = let w : false ≡ true = rw y at f in true-false w refl
       by zero h right f false x false y true z = let w : false ≡ true = rw (y, z) at f in true-false w refl
       by (suc j) h right f false x true y c z =
-          content-own j (eqb-true (kindAt ks (suc j)) CONTENT y) (eqb-true (kindAt ks j) AMENDMENT (rw y at f)) (right j (omega arith))
+          let (ρ, k) = some-rule CONTENT (kindAt ks (suc j)) y in
+          content-own ρ j k (eqb-true (kindAt ks j) AMENDMENT (rw y at f)) (right j (omega arith))
       by (suc j) h right f false x false y true z = time-own j (eqb-true (kindAt ks (suc j)) PLAN-TIME z) (eqb-true (kindAt ks j) FIX (rw (y, z) at f))
 
   -- ---- a field is in one case
 
   asked-one : {i k n : ℕ} → Asked ks fs i k → Asked ks fs i n → k ≡ n
-  asked-one (Content j e k a h q) (Content j′ e′ k′ a′ h′ q′) =
+  asked-one (Content ρ j e k a h q) (Content ρ′ j′ e′ k′ a′ h′ q′) =
       let z : j ≡ j′ = omega arith in
-      sym (eight-marks a h .2) ∙ ap (λ t. contentOf (markOf t)) (q ∙ ap (fieldAt fs) z ∙ sym q′) ∙ eight-marks a′ h′ .2
-  asked-one (Content j e k a h q) (Time t) = absurd (omega arith)
-  asked-one (Content j e k a h q) (Plain c t n) = absurd (c k)
-  asked-one (Time t) (Content j e k a h q) = absurd (omega arith)
+      let c : a .content ≡ a′ .content = sym (eight-marks a h .2) ∙ ap (λ t. contentOf (markOf t)) (q ∙ ap (fieldAt fs) z ∙ sym q′) ∙ eight-marks a′ h′ .2 in
+      ap (kindBy ρ) c ∙ ap (λ σ. kindBy σ (a′ .content)) (one-rule CONTENT (λ y. omega (arith, y)) ρ ρ′ (sym k ∙ k′))
+  asked-one (Content ρ j e k a h q) (Time t) = absurd (content-time ρ k t)
+  asked-one (Content ρ j e k a h q) (Plain c t n) = absurd (c ρ k)
+  asked-one (Time t) (Content ρ j e k a h q) = absurd (content-time ρ k t)
   asked-one (Time t) (Time t′) = refl
   asked-one (Time t) (Plain c n m) = absurd (n t)
-  asked-one (Plain c t n) (Content j e k a h q) = absurd (c k)
+  asked-one (Plain c t n) (Content ρ j e k a h q) = absurd (c ρ k)
   asked-one (Plain c t n) (Time t′) = absurd (t t′)
   asked-one (Plain c t n) (Plain c′ t′ n′) = refl
 
   -- a number's field is asked for no form
   no-form : {i k : ℕ} → Asked ks fs i k → kindAt ks i ≡ AMENDMENT → ⊥
-  no-form (Content j e k a h q) x = omega arith
+  no-form (Content ρ j e k a h q) x = content-number ρ k x
   no-form (Time t) x = omega arith
   no-form (Plain c t n) x = n x
 

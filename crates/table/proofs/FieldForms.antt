@@ -5,25 +5,28 @@ use mathlib.Core.Bool.{Bool, true, false, cond}
 use mathlib.Core.List.{List}
 use Prim.Native.Char.{code}
 use Prim.Native.Nat.{ℕ}
+use native.Mathlib.Omega.{arith}
 use lib.Bits.{bitAnd}
 use lib.Dec.{eqb}
 use lib.ListN.{getD}
-use borrow.Author.Tests.{eqb-true, eqb-false}
 use Rattle.text.proofs.Logic.{true-false}
 use Rattle.rules.specs.Form.{isTime, isIdent, isTzIdent, isRoute, isPosition}
 use Rattle.rules.specs.Kind.{FIX, TIME, isForm}
+use Rattle.rules.specs.declared.Rule.{Rule}
+use Rattle.rules.specs.declared.Rule.the-variants.{New, Old}
 use Rattle.fields.specs.Word.{wordOf}
 use Rattle.fields.specs.Ident.{identOf, tzIdentOf}
-use Rattle.fields.specs.Aircraft.{aircraftOf, aircraftAnswer}
+use Rattle.fields.specs.Aircraft.{aircraftBy, aircraftAnswer}
 use Rattle.fields.specs.Aircraft as aircraft
 use Rattle.fields.specs.declared.aircraft.AircraftRead.{AircraftRead}
 use Rattle.fields.specs.declared.aircraft.AircraftRead.the-variants as read
 use Rattle.fields.proofs.Answers.{aircraft-answer}
 use Rattle.table.specs.Amends.{markOf, contentOf}
 use Rattle.table.specs.Fault.{hasForm, FormCase, Readings, Formed, Unformed}
-use Rattle.table.specs.Field.{IDENT, TZ-IDENT, AIRCRAFT, ROUTE, PLAN-TIME, AMENDMENT, CONTENT, traceOf, follows, plain, ofAircraft, readKind, readMark, barred, readIn}
+use Rattle.table.specs.Field.{IDENT, TZ-IDENT, AIRCRAFT, ROUTE, PLAN-TIME, AMENDMENT, CONTENT, kindBy, traceOf, follows, plain, ofAircraft, readKind, readMark, barred, readIn}
 use Rattle.table.specs.Read.{fieldNumber}
 use Rattle.table.specs.declared.kinds.FieldRead.the-variants.{Read, Nothing}
+use Rattle.table.proofs.KindRules.{isFor, some-rule, no-rule, not-for, one-rule, isContent}
 
 -- ---- by its form
 
@@ -32,10 +35,13 @@ aircraft-number (read.Read a) = refl
 aircraft-number read.Nothing = refl
 
 -- of every kind but an aircraft
-kind-number : (k : ℕ) (s : List ℕ) → eqb k AIRCRAFT ≡ false → fieldNumber (readKind k s) ≡ cond (hasForm k s) 0 9
+kind-number : (k : ℕ) (s : List ℕ) → isFor AIRCRAFT k ≡ false → fieldNumber (readKind k s) ≡ cond (hasForm k s) 0 9
 unfolding readKind hasForm identOf tzIdentOf wordOf
 kind-number k s z = go (eqb k IDENT) refl (eqb k TZ-IDENT) refl (eqb k ROUTE) refl
   where
+    n : (eqb k AIRCRAFT ≡ false) × (eqb k (kindBy Old AIRCRAFT) ≡ false)
+    n = not-for AIRCRAFT k z
+
     ident : (b : Bool) → isIdent s ≡ b → eqb k IDENT ≡ true → fieldNumber (readKind k s) ≡ cond (hasForm k s) 0 9
     ident true q x = rw (x, q)
     ident false q x = rw (x, q)
@@ -45,12 +51,12 @@ kind-number k s z = go (eqb k IDENT) refl (eqb k TZ-IDENT) refl (eqb k ROUTE) re
     tz false q x y = rw (x, y, q)
 
     route : (b : Bool) → isRoute s ≡ b → eqb k IDENT ≡ false → eqb k TZ-IDENT ≡ false → eqb k ROUTE ≡ true → fieldNumber (readKind k s) ≡ cond (hasForm k s) 0 9
-    route true q x y w = rw (x, y, z, w, q)
-    route false q x y w = rw (x, y, z, w, q)
+    route true q x y w = rw (x, y, n .0, n .1, w, q)
+    route false q x y w = rw (x, y, n .0, n .1, w, q)
 
     word : (b : Bool) → isForm k s ≡ b → eqb k IDENT ≡ false → eqb k TZ-IDENT ≡ false → eqb k ROUTE ≡ false → fieldNumber (readKind k s) ≡ cond (hasForm k s) 0 9
-    word true q x y w = rw (x, y, z, w, q)
-    word false q x y w = rw (x, y, z, w, q)
+    word true q x y w = rw (x, y, n .0, n .1, w, q)
+    word false q x y w = rw (x, y, n .0, n .1, w, q)
 
     go : (a : Bool) → eqb k IDENT ≡ a → (b : Bool) → eqb k TZ-IDENT ≡ b → (d : Bool) → eqb k ROUTE ≡ d → fieldNumber (readKind k s) ≡ cond (hasForm k s) 0 9
     go true x b y d w = ident (isIdent s) refl x
@@ -58,23 +64,24 @@ kind-number k s z = go (eqb k IDENT) refl (eqb k TZ-IDENT) refl (eqb k ROUTE) re
     go false x false y true w = route (isRoute s) refl x y w
     go false x false y false w = word (isForm k s) refl x y w
 
-aircraft-kind : (s : List ℕ) → readKind AIRCRAFT s ≡ ofAircraft (aircraftOf s)
+aircraft-kind : (ρ : Rule) (s : List ℕ) → readKind (kindBy ρ AIRCRAFT) s ≡ ofAircraft (aircraftBy ρ s)
 unfolding readKind
-aircraft-kind s = refl
+aircraft-kind New s = refl
+aircraft-kind Old s = refl
 
 -- THE LAW: what a field is answered by its kind alone is its form's case
 pub form-own : (k : ℕ) (s : List ℕ) → FormCase k s (fieldNumber (readKind k s))
-form-own k s = go (eqb k AIRCRAFT) refl (hasForm k s) refl
+form-own k s = go (isFor AIRCRAFT k) refl (hasForm k s) refl
   where
-    go : (a : Bool) → eqb k AIRCRAFT ≡ a → (b : Bool) → hasForm k s ≡ b → FormCase k s (fieldNumber (readKind k s))
+    go : (a : Bool) → isFor AIRCRAFT k ≡ a → (b : Bool) → hasForm k s ≡ b → FormCase k s (fieldNumber (readKind k s))
     go true x b q =
-        let e = eqb-true k AIRCRAFT x in
-        let n : aircraftAnswer (aircraftOf s) ≡ fieldNumber (readKind k s) = aircraft-number (aircraftOf s) ∙ sym (ap fieldNumber (ap (λ j. readKind j s) e ∙ aircraft-kind s)) in
-        Readings e (subst (aircraft.Case s) n (aircraft-answer s))
-    go false x true q = subst (FormCase k s) (sym (kind-number k s x ∙ rw q)) (Formed (eqb-false k AIRCRAFT x) q)
-    go false x false q = subst (FormCase k s) (sym (kind-number k s x ∙ rw q)) (Unformed (eqb-false k AIRCRAFT x) q)
+        let (ρ, e) = some-rule AIRCRAFT k x in
+        let n : aircraftAnswer (aircraftBy ρ s) ≡ fieldNumber (readKind k s) = aircraft-number (aircraftBy ρ s) ∙ sym (ap fieldNumber (ap (λ j. readKind j s) e ∙ aircraft-kind ρ s)) in
+        Readings ρ e (subst (aircraft.Case ρ s) n (aircraft-answer ρ s))
+    go false x true q = subst (FormCase k s) (sym (kind-number k s x ∙ rw q)) (Formed (no-rule AIRCRAFT k x) q)
+    go false x false q = subst (FormCase k s) (sym (kind-number k s x ∙ rw q)) (Unformed (no-rule AIRCRAFT k x) q)
 
-aircraft-one : {s : List ℕ} {n m : ℕ} → aircraft.Case s n → aircraft.Case s m → n ≡ m
+aircraft-one : {ρ : Rule} {s : List ℕ} {n m : ℕ} → aircraft.Case ρ s n → aircraft.Case ρ s m → n ≡ m
 aircraft-one (aircraft.One a r u) (aircraft.One a′ r′ u′) = refl
 aircraft-one (aircraft.One a r u) (aircraft.None f) = absurd (f a r)
 aircraft-one (aircraft.None f) (aircraft.One a r u) = absurd (f a r)
@@ -82,13 +89,14 @@ aircraft-one (aircraft.None f) (aircraft.None f′) = refl
 
 -- and a text is in one case of a form
 pub form-one : {k : ℕ} {s : List ℕ} {n m : ℕ} → FormCase k s n → FormCase k s m → n ≡ m
-form-one (Readings e c) (Readings e′ c′) = aircraft-one c c′
-form-one (Readings e c) (Formed x q) = absurd (x e)
-form-one (Readings e c) (Unformed x q) = absurd (x e)
-form-one (Formed x q) (Readings e c) = absurd (x e)
+form-one {s = s} {m = m} (Readings ρ e c) (Readings ρ′ e′ c′) =
+    aircraft-one c (subst (λ σ. aircraft.Case σ s m) (one-rule AIRCRAFT (λ q. omega (arith, q)) ρ′ ρ (sym e′ ∙ e)) c′)
+form-one (Readings ρ e c) (Formed x q) = absurd (x ρ e)
+form-one (Readings ρ e c) (Unformed x q) = absurd (x ρ e)
+form-one (Formed x q) (Readings ρ e c) = absurd (x ρ e)
 form-one (Formed x q) (Formed x′ q′) = refl
 form-one (Formed x q) (Unformed x′ q′) = true-false q q′
-form-one (Unformed x q) (Readings e c) = absurd (x e)
+form-one (Unformed x q) (Readings ρ e c) = absurd (x ρ e)
 form-one (Unformed x q) (Formed x′ q′) = true-false q′ q
 form-one (Unformed x q) (Unformed x′ q′) = refl
 
@@ -121,13 +129,14 @@ in-time p m s = go (isTime s) refl (eqb (getD s 0 0) (code "E")) refl (eqb p 1) 
     go false q false r d w = rw (q, r)
 
 -- a content, and any other field
-pub in-content : (p m : ℕ) (s : List ℕ) → readIn CONTENT p m s ≡ readKind (contentOf p) s
+pub in-content : (ρ : Rule) (p m : ℕ) (s : List ℕ) → readIn (kindBy ρ CONTENT) p m s ≡ readKind (kindBy ρ (contentOf p)) s
 unfolding readIn follows plain
-in-content p m s = refl
+in-content New p m s = refl
+in-content Old p m s = refl
 
-pub in-plain : (k p m : ℕ) (s : List ℕ) → eqb k AMENDMENT ≡ false → eqb k CONTENT ≡ false → eqb k PLAN-TIME ≡ false → readIn k p m s ≡ readKind k s
+pub in-plain : (k p m : ℕ) (s : List ℕ) → eqb k AMENDMENT ≡ false → isContent k ≡ false → eqb k PLAN-TIME ≡ false → readIn k p m s ≡ readKind k s
 unfolding readIn follows plain
-in-plain k p m s x y z = rw (x, z, y)
+in-plain k p m s x y z = let n = not-for CONTENT k y in rw (x, z, n .0, n .1)
 
 -- what a number and a fix leave
 pub number-left : (s : List ℕ) → traceOf AMENDMENT s ≡ markOf s

@@ -19,6 +19,8 @@ use Rattle.shapes.specs.Picture.{isOf, run}
 use Rattle.shapes.specs.Cut.{upTo, has, joins}
 use Rattle.rules.specs.Form.{isKey, isTzIdent, isIdent, isRoute}
 use Rattle.rules.specs.Kind.{KEY, NUMBER, isForm}
+use Rattle.rules.specs.declared.Rule.{Rule}
+use Rattle.rules.specs.declared.Rule.the-variants.{New, Old}
 use Rattle.rules.proofs.Held.{form-held}
 use Rattle.fields.specs.Word.{wordOf, isWord}
 use Rattle.fields.specs.Pair.{isPairForm, pairOf, pairText, isPair, pairWord}
@@ -27,7 +29,7 @@ use Rattle.fields.specs.declared.words.Pair.the-variants as pair
 use Rattle.fields.proofs.WordLaws.{read-sound, read-complete, word-packed}
 use Rattle.fields.proofs.PairLaws.{pair-writes, pair-too-long}
 use Rattle.fields.specs.Ident.{identOf, tzIdentOf, isIdentValue}
-use Rattle.fields.specs.Aircraft.{plainOf, prefixedOf, aircraftOf, aircraftText, isAircraftValue, aircraftWord}
+use Rattle.fields.specs.Aircraft.{plainOf, prefixedOf, aircraftOf, aircraftBy, isLetterBy, aircraftText, isAircraftValue, aircraftWord}
 use Rattle.fields.specs.declared.idents.Ident.{Ident}
 use Rattle.fields.specs.declared.idents.IdentRead.{IdentRead}
 use Rattle.fields.specs.declared.idents.IdentRead.the-variants as ident
@@ -36,8 +38,8 @@ use Rattle.fields.specs.declared.aircraft.AircraftRead.{AircraftRead}
 use Rattle.fields.specs.declared.aircraft.AircraftRead.the-variants as aircraft
 use Rattle.fields.proofs.IdentLaws.{asTz, tz-as, ident-sound, ident-complete, tz-sound, tz-complete, ident-writes}
 use Rattle.fields.proofs.AircraftLaws.{aircraft-writes, aircraft-word}
-use Rattle.fields.proofs.Single.{aircraft-one, aircraft-complete}
-use Rattle.table.specs.Field.{AMENDMENT, IDENT, TZ-IDENT, AIRCRAFT, ROUTE, markOf, markText, isMark, follows, plain, valued, identIn, aircraftIn, isOne, isTwo, ofIdent, ofAircraft, ofRoute, ofWord, readKind, readMark, barred, readIn, isKindValue, shownKind, isValue, shown}
+use Rattle.fields.proofs.Single.{by-read, aircraft-one-by, aircraft-complete}
+use Rattle.table.specs.Field.{AMENDMENT, IDENT, TZ-IDENT, AIRCRAFT, OLD-AIRCRAFT, ROUTE, markOf, markText, isMark, follows, plain, valued, identIn, aircraftIn, isOne, isTwo, ofIdent, ofAircraft, ofRoute, ofWord, readKind, readMark, barred, readIn, isKindValue, shownKind, isValue, shown}
 use Rattle.table.specs.declared.kinds.Value.{Value}
 use Rattle.table.specs.declared.kinds.FieldRead.the-variants.{Read, Nothing, Number}
 use Rattle.table.proofs.Eight.{mark-is, mark-some, mark-text, text-mark, each-text}
@@ -56,6 +58,15 @@ aircraft-kept (aircraft.Read y) v e =
     let z : valued (y .prefix) (y .model) (y .letter) ≡ v = cc in
     ap (λ (w : Value). aircraft.Read (aircraftIn w)) z
 aircraft-kept aircraft.Nothing v e = cc
+
+-- by either rule: what reads is an aircraft that the rule allows, and each of these reads
+aircraft-sound : (ρ : Rule) (s : List ℕ) (v : Value) → ofAircraft (aircraftBy ρ s) ≡ Read v → (isAircraftValue (aircraftIn v) ≡ true) × (isLetterBy ρ (v .c) ≡ true) × (aircraftText (aircraftIn v) ≡ s)
+aircraft-sound ρ s v e =
+    let t = aircraft-one-by ρ s (aircraftIn v) (aircraft-kept (aircraftBy ρ s) v e) .0 in
+    (t .reading .value, t .letter, t .reading .text)
+
+aircraft-back : (ρ : Rule) (v : Value) → isAircraftValue (aircraftIn v) ≡ true → isLetterBy ρ (v .c) ≡ true → ofAircraft (aircraftBy ρ (aircraftText (aircraftIn v))) ≡ Read v
+aircraft-back ρ v e l = ap ofAircraft (by-read ρ (aircraftText (aircraftIn v)) (aircraftIn v) (aircraft-complete (aircraftIn v) e) l)
 
 route-kept : (b : Bool) (v : Value) → ofRoute b ≡ Read v → (b ≡ true) × (eqb (v .a) 0 ≡ true) × (isOne v ≡ true)
 unfolding isOne
@@ -98,54 +109,60 @@ only-two v e = let q = eqb-true (v .c) 0 e in sym (λ i. record { a = v .a; b = 
 -- what reads gives a value of the kind, whose text is what was read; a route r stands beside its value
 pub kind-sound : (k : ℕ) (r s : List ℕ) (v : Value) → readKind k s ≡ Read v → (eqb k ROUTE ≡ true → r ≡ s) → (isKindValue k r v ≡ true) × (shownKind k r v ≡ s)
 unfolding readKind isKindValue shownKind
-kind-sound k r s v e same = go (eqb k IDENT) refl (eqb k TZ-IDENT) refl (eqb k AIRCRAFT) refl (eqb k ROUTE) refl
+kind-sound k r s v e same = go (eqb k IDENT) refl (eqb k TZ-IDENT) refl (eqb k AIRCRAFT) refl (eqb k OLD-AIRCRAFT) refl (eqb k ROUTE) refl
   where
-    go : (a : Bool) → eqb k IDENT ≡ a → (b : Bool) → eqb k TZ-IDENT ≡ b → (c : Bool) → eqb k AIRCRAFT ≡ c → (d : Bool) → eqb k ROUTE ≡ d → (isKindValue k r v ≡ true) × (shownKind k r v ≡ s)
-    go true x b y c z d w =
+    go : (a : Bool) → eqb k IDENT ≡ a → (b : Bool) → eqb k TZ-IDENT ≡ b → (c : Bool) → eqb k AIRCRAFT ≡ c → (o : Bool) → eqb k OLD-AIRCRAFT ≡ o → (d : Bool) → eqb k ROUTE ≡ d → (isKindValue k r v ≡ true) × (shownKind k r v ≡ s)
+    go true x b y c z o u d w =
         let h = ident-kept (identOf s) v (rw x at e) in
         let t = ident-sound s (identIn v) (h .0) in
         (rw (x, t .2, h .1), rw x (t .1))
-    go false x true y c z d w =
+    go false x true y c z o u d w =
         let h = ident-kept (tzIdentOf s) v (rw (x, y) at e) in
-        let u = tz-sound s (identIn v) (h .0) in
-        let t = ident-sound s (identIn v) (u .1) in
+        let t = ident-sound s (identIn v) (tz-sound s (identIn v) (h .0) .1) in
         (rw (x, y, t .2, tz-number (pairOf KEY NUMBER s) (identIn v) (tz-as s ∙ h .0), h .1), rw (x, y) (t .1))
-    go false x false y true z d w =
-        let t = aircraft-one s (aircraftIn v) (aircraft-kept (aircraftOf s) v (rw (x, y, z) at e)) .0 in
-        (rw (x, y, z) (t .value), rw (x, y, z) (t .text))
-    go false x false y false z true w =
-        let h = route-kept (isRoute s) v (rw (x, y, z, w) at e) in
-        (rw (x, y, z, w, same w, h .0, h .1, h .2), rw (x, y, z, w) (same w))
-    go false x false y false z false w =
-        let h = word-kept (wordOf k s) v (rw (x, y, z, w) at e) in
+    go false x false y true z o u d w =
+        let t = aircraft-sound New s v (rw (x, y, z) at e) in
+        (rw (x, y, z) (t .0), rw (x, y, z) (t .2))
+    go false x false y false z true u d w =
+        let t = aircraft-sound Old s v (rw (x, y, z, u) at e) in
+        (rw (x, y, z, u, t .0) (t .1), rw (x, y, z, u) (t .2))
+    go false x false y false z false u true w =
+        let h = route-kept (isRoute s) v (rw (x, y, z, u, w) at e) in
+        (rw (x, y, z, u, w, same w, h .0, h .1, h .2), rw (x, y, z, u, w) (same w))
+    go false x false y false z false u false w =
+        let h = word-kept (wordOf k s) v (rw (x, y, z, u, w) at e) in
         let t = read-sound k s (h .0) in
-        (rw (x, y, z, w, t .2, h .1), rw (x, y, z, w) (t .1))
+        (rw (x, y, z, u, w, t .2, h .1), rw (x, y, z, u, w) (t .1))
 
 -- the text of every value of the kind reads as it
 pub kind-complete : (k : ℕ) (r : List ℕ) (v : Value) → isKindValue k r v ≡ true → readKind k (shownKind k r v) ≡ Read v
 unfolding readKind isKindValue shownKind
-kind-complete k r v e = go (eqb k IDENT) refl (eqb k TZ-IDENT) refl (eqb k AIRCRAFT) refl (eqb k ROUTE) refl
+kind-complete k r v e = go (eqb k IDENT) refl (eqb k TZ-IDENT) refl (eqb k AIRCRAFT) refl (eqb k OLD-AIRCRAFT) refl (eqb k ROUTE) refl
   where
-    go : (a : Bool) → eqb k IDENT ≡ a → (b : Bool) → eqb k TZ-IDENT ≡ b → (c : Bool) → eqb k AIRCRAFT ≡ c → (d : Bool) → eqb k ROUTE ≡ d → readKind k (shownKind k r v) ≡ Read v
-    go true x b y c z d w =
+    go : (a : Bool) → eqb k IDENT ≡ a → (b : Bool) → eqb k TZ-IDENT ≡ b → (c : Bool) → eqb k AIRCRAFT ≡ c → (o : Bool) → eqb k OLD-AIRCRAFT ≡ o → (d : Bool) → eqb k ROUTE ≡ d → readKind k (shownKind k r v) ≡ Read v
+    go true x b y c z o u d w =
         let f : (isIdentValue (identIn v) && isTwo v) ≡ true = rw x at e in
         rw (x, ident-complete (identIn v) (and-left (isIdentValue (identIn v)) (isTwo v) f)) (ap Read (only-two v (and-right (isIdentValue (identIn v)) (isTwo v) f)))
-    go false x true y c z d w =
+    go false x true y c z o u d w =
         let f : (isIdentValue (identIn v) && not (eqb (v .b) 0) && isTwo v) ≡ true = rw (x, y) at e in
         let g = and-left (isIdentValue (identIn v) && not (eqb (v .b) 0)) (isTwo v) f in
         let n = not-true (eqb (v .b) 0) (and-right (isIdentValue (identIn v)) (not (eqb (v .b) 0)) g) in
         rw (x, y, tz-complete (identIn v) (and-left (isIdentValue (identIn v)) (not (eqb (v .b) 0)) g) n)
         (ap Read (only-two v (and-right (isIdentValue (identIn v) && not (eqb (v .b) 0)) (isTwo v) f)))
-    go false x false y true z d w = rw (x, y, z, aircraft-complete (aircraftIn v) (rw (x, y, z) at e))
-    go false x false y false z true w =
-        let f : (isRoute r && eqb (v .a) 0 && isOne v) ≡ true = rw (x, y, z, w) at e in
+    go false x false y true z o u d w = rw (x, y, z) (aircraft-back New v (rw (x, y, z) at e) refl)
+    go false x false y false z true u d w =
+        let f : (isAircraftValue (aircraftIn v) && isLetterBy Old (v .c)) ≡ true = rw (x, y, z, u) at e in
+        rw (x, y, z, u)
+        (aircraft-back Old v (and-left (isAircraftValue (aircraftIn v)) (isLetterBy Old (v .c)) f) (and-right (isAircraftValue (aircraftIn v)) (isLetterBy Old (v .c)) f))
+    go false x false y false z false u true w =
+        let f : (isRoute r && eqb (v .a) 0 && isOne v) ≡ true = rw (x, y, z, u, w) at e in
         let g = and-left (isRoute r && eqb (v .a) 0) (isOne v) f in
         let n = eqb-true (v .a) 0 (and-right (isRoute r) (eqb (v .a) 0) g) in
-        rw (x, y, z, w, and-left (isRoute r) (eqb (v .a) 0) g)
+        rw (x, y, z, u, w, and-left (isRoute r) (eqb (v .a) 0) g)
         (ap (λ (a : ℕ). Read (valued a 0 0)) (sym n) ∙ ap Read (only-one v (and-right (isRoute r && eqb (v .a) 0) (isOne v) f)))
-    go false x false y false z false w =
-        let f : (isWord k (v .a) && isOne v) ≡ true = rw (x, y, z, w) at e in
-        rw (x, y, z, w, read-complete k (v .a) (and-left (isWord k (v .a)) (isOne v) f)) (ap Read (only-one v (and-right (isWord k (v .a)) (isOne v) f)))
+    go false x false y false z false u false w =
+        let f : (isWord k (v .a) && isOne v) ≡ true = rw (x, y, z, u, w) at e in
+        rw (x, y, z, u, w, read-complete k (v .a) (and-left (isWord k (v .a)) (isOne v) f)) (ap Read (only-one v (and-right (isWord k (v .a)) (isOne v) f)))
 
 -- ---- what is shown is a short text, but for a route
 
@@ -167,18 +184,20 @@ aircraft-text a e = go (aircraftWord a) refl
 
 pub kind-text : (k : ℕ) (r : List ℕ) (v : Value) → isKindValue k r v ≡ true → eqb k ROUTE ≡ false → isText (shownKind k r v) ≡ true
 unfolding isKindValue shownKind
-kind-text k r v e w = go (eqb k IDENT) refl (eqb k TZ-IDENT) refl (eqb k AIRCRAFT) refl
+kind-text k r v e w = go (eqb k IDENT) refl (eqb k TZ-IDENT) refl (eqb k AIRCRAFT) refl (eqb k OLD-AIRCRAFT) refl
   where
-    go : (a : Bool) → eqb k IDENT ≡ a → (b : Bool) → eqb k TZ-IDENT ≡ b → (c : Bool) → eqb k AIRCRAFT ≡ c → isText (shownKind k r v) ≡ true
-    go true x b y c z = rw x (ident-text (v .a) (v .b) (and-left (isIdentValue (identIn v)) (isTwo v) (rw x at e)))
-    go false x true y c z =
+    go : (a : Bool) → eqb k IDENT ≡ a → (b : Bool) → eqb k TZ-IDENT ≡ b → (c : Bool) → eqb k AIRCRAFT ≡ c → (o : Bool) → eqb k OLD-AIRCRAFT ≡ o → isText (shownKind k r v) ≡ true
+    go true x b y c z o u = rw x (ident-text (v .a) (v .b) (and-left (isIdentValue (identIn v)) (isTwo v) (rw x at e)))
+    go false x true y c z o u =
         rw (x, y)
         (ident-text (v .a) (v .b)
         (and-left (isIdentValue (identIn v)) (not (eqb (v .b) 0))
         (and-left (isIdentValue (identIn v) && not (eqb (v .b) 0)) (isTwo v) (rw (x, y) at e))))
-    go false x false y true z = rw (x, y, z) (aircraft-text (aircraftIn v) (rw (x, y, z) at e))
-    go false x false y false z =
-        rw (x, y, z, w) (text-is (v .a) (word-packed k (v .a) (and-left (isWord k (v .a)) (isOne v) (rw (x, y, z, w) at e))))
+    go false x false y true z o u = rw (x, y, z) (aircraft-text (aircraftIn v) (rw (x, y, z) at e))
+    go false x false y false z true u =
+        rw (x, y, z, u) (aircraft-text (aircraftIn v) (and-left (isAircraftValue (aircraftIn v)) (isLetterBy Old (v .c)) (rw (x, y, z, u) at e)))
+    go false x false y false z false u =
+        rw (x, y, z, u, w) (text-is (v .a) (word-packed k (v .a) (and-left (isWord k (v .a)) (isOne v) (rw (x, y, z, u, w) at e))))
 
 pub kind-short : (k : ℕ) (r : List ℕ) (v : Value) → isKindValue k r v ≡ true → eqb k ROUTE ≡ false → length (shownKind k r v) ≤ 12
 kind-short k r v e w = text-length (shownKind k r v) (kind-text k r v e w)
@@ -210,19 +229,20 @@ text-visible b s e = rw (bytes-visible (b ∷ s) (and-right (leb (length (b ∷ 
 
 -- a text of no bytes is no field
 kind-some : (k : ℕ) (v : Value) → readKind k [] ≡ Read v → ⊥
-unfolding readKind identOf tzIdentOf isIdent isTzIdent isKey joins has upTo run aircraftOf plainOf prefixedOf pairOf isPairForm isForm isRoute
-kind-some k v e = go (eqb k IDENT) refl (eqb k TZ-IDENT) refl (eqb k AIRCRAFT) refl (eqb k ROUTE) refl
+unfolding readKind identOf tzIdentOf isIdent isTzIdent isKey joins has upTo run aircraftBy aircraftOf plainOf prefixedOf pairOf isPairForm isForm isRoute
+kind-some k v e = go (eqb k IDENT) refl (eqb k TZ-IDENT) refl (eqb k AIRCRAFT) refl (eqb k OLD-AIRCRAFT) refl (eqb k ROUTE) refl
   where
     never : Nothing ≡ Read v → ⊥
     never z = let y : _≡_ {A = ℕ} 0 1 = cc in omega arith
 
-    go : (a : Bool) → eqb k IDENT ≡ a → (b : Bool) → eqb k TZ-IDENT ≡ b → (c : Bool) → eqb k AIRCRAFT ≡ c → (d : Bool) → eqb k ROUTE ≡ d → ⊥
-    go true x b y c z d w = never (rw x at e)
-    go false x true y c z d w = never (rw (x, y) at e)
-    go false x false y true z d w = never (rw (x, y, z) at e)
-    go false x false y false z true w = never (rw (x, y, z, w) at e)
-    go false x false y false z false w =
-        let h = word-kept (wordOf k []) v (rw (x, y, z, w) at e) in
+    go : (a : Bool) → eqb k IDENT ≡ a → (b : Bool) → eqb k TZ-IDENT ≡ b → (c : Bool) → eqb k AIRCRAFT ≡ c → (o : Bool) → eqb k OLD-AIRCRAFT ≡ o → (d : Bool) → eqb k ROUTE ≡ d → ⊥
+    go true x b y c z o u d w = never (rw x at e)
+    go false x true y c z o u d w = never (rw (x, y) at e)
+    go false x false y true z o u d w = never (rw (x, y, z) at e)
+    go false x false y false z true u d w = never (rw (x, y, z, u) at e)
+    go false x false y false z false u true w = never (rw (x, y, z, u, w) at e)
+    go false x false y false z false u false w =
+        let h = word-kept (wordOf k []) v (rw (x, y, z, u, w) at e) in
         omega (arith, form-held k [] (read-sound k [] (h .0) .0) .some)
 
 read-route : (s : List ℕ) → readKind ROUTE s ≡ ofRoute (isRoute s)

@@ -1,6 +1,7 @@
 pub mod Tables
 pub mod Eight
 pub mod KindWays
+pub mod KindRules
 pub mod MarkSets
 pub mod FieldLaws
 pub mod ReadingWays

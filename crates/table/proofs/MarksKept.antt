@@ -2,7 +2,7 @@
 -- among them. Assumes nothing.
 use mathlib.Core.Path.{_≡_, refl, sym, ap, _∙_}
 use mathlib.Core.Bool.{Bool, true, false, cond, _&&_}
-use mathlib.Core.List.{List, [], _∷_}
+use mathlib.Core.List.{List, [], _∷_, map}
 use Prim.Native.Nat.{ℕ, suc, _+_, _<_}
 use native.Mathlib.Nat.{suc-inj}
 use native.Mathlib.Omega.{arith}
@@ -14,7 +14,8 @@ use borrow.Author.Tests.{eqb-true, eqb-false}
 use Rattle.text.proofs.Logic.{and-left, true-false, not-holds}
 use Rattle.rules.specs.Form.{isPosition}
 use Rattle.rules.specs.Kind.{FIX}
-use Rattle.table.specs.Field.{AMENDMENT, markOf, markText, isMark, isOne, readIn, traceOf, marksOf, follows, isValue, shown}
+use Rattle.rules.specs.declared.Rule.{Rule}
+use Rattle.table.specs.Field.{AMENDMENT, kindBy, markOf, markText, isMark, isOne, readIn, traceOf, marksOf, follows, isValue, shown}
 use Rattle.table.specs.declared.kinds.Value.{Value}
 use Rattle.table.specs.declared.kinds.FieldRead.the-variants as field
 use Rattle.table.proofs.FieldLaws.{in-sound}
@@ -28,6 +29,12 @@ use Rattle.table.proofs.Theorems.{taken-more}
 unfoldable pub times : ℕ → List ℕ → ℕ
 times k [] = 0
 times k (j ∷ ks) = cond (eqb j k) (suc (times k ks)) (times k ks)
+
+-- one that no rule changes stands as often by any rule
+pub times-by : (ρ : Rule) (k : ℕ) → ((j : ℕ) → eqb (kindBy ρ j) k ≡ eqb j k) → (ks : List ℕ) → times k (map (kindBy ρ) ks) ≡ times k ks
+unfolding times
+times-by ρ k h [] = refl
+times-by ρ k h (j ∷ ks) = rw (h j, times-by ρ k h ks)
 
 -- the mark 128 is left by its number only
 pub left-route : (k : ℕ) (s : List ℕ) → eqb (traceOf k s) 128 ≡ cond (eqb k AMENDMENT) (eqb (markOf s) 128) false

@@ -8,11 +8,12 @@ use lib.Dec.{eqb}
 use lib.ListN.{length, length-append}
 use lib.Seq.{take-at, drop-at}
 use Rattle.shapes.specs.Picture.{part}
+use Rattle.rules.specs.declared.Rule.{Rule}
 use Rattle.fields.specs.declared.heads.MessageType.{MessageType}
 use Rattle.table.specs.Spacing.{space, bodyOf, Split, Fields, Wrong, fieldsOf}
 use Rattle.table.specs.Field.{ROUTE, plain, traceOf}
 use Rattle.table.specs.Read.{routeIn, routeOf, routeFrom, routeAt}
-use Rattle.table.specs.Table.{tableOf, routeBy, routeAtBy}
+use Rattle.table.specs.Table.{tableBy, routeBy, routeAtBy}
 use Rattle.table.proofs.SpacingLaws.{fields-text}
 use Rattle.table.proofs.WalkWays.{route-no-fields, start-no-fields}
 
@@ -60,6 +61,6 @@ route-part ks body = go (fieldsOf body) refl
     go Wrong q = rw (q, start-no-fields 0 ks 0, route-no-fields ks 0) (nothing body)
     go (Fields fs t) q = rw q (subst (StandsAt (routeFrom 0 ks 0 fs) (routeIn ks 0 fs)) (fields-text body fs t q .0) (route-stands ks 0 fs t []))
 
-pub route-part-by : (t : MessageType) (s : List ℕ) → StandsAt (routeAtBy t s) (routeBy t s) s
+pub route-part-by : (ρ : Rule) (t : MessageType) (s : List ℕ) → StandsAt (routeAtBy ρ t s) (routeBy ρ t s) s
 unfolding routeAtBy routeBy
-route-part-by t s = route-part (tableOf t) s
+route-part-by ρ t s = route-part (tableBy ρ t) s

@@ -1,36 +1,43 @@
 -- THE THEOREMS of the route: where a list of kinds has one route at most, the one that is found is the only one, and the one
 -- that is shown is found. Assumes nothing.
-use mathlib.Core.Path.{_≡_, refl, sym, _∙_}
-use mathlib.Core.Bool.{Bool, true, false, cond, _&&_, _||_}
-use mathlib.Core.List.{List, [], _∷_}
+use mathlib.Core.Path.{_≡_, refl, sym, ap, _∙_}
+use mathlib.Core.Bool.{Bool, true, false, cond, not, _&&_, _||_}
+use mathlib.Core.List.{List, [], _∷_, map}
 use Prim.Native.Nat.{ℕ, suc, _≤_, _<_}
 use native.Mathlib.Nat.{suc-inj}
 use native.Mathlib.Omega.{arith}
 use lib.Dec.{eqb, lit≤}
 use lib.ListN.{length}
-use borrow.Author.Tests.{eq-eqb, eqb-true}
+use borrow.Author.Tests.{eq-eqb, eqb-true, not-true}
 use Rattle.text.specs.Bytes.{bytes}
+use Rattle.text.specs.Class.{all}
 use Rattle.text.proofs.Logic.{and-left, and-right, true-false, not-fails, not-holds, either-of}
 use Rattle.rules.specs.Form.{isRoute}
+use Rattle.rules.specs.declared.Rule.{Rule}
 use Rattle.table.specs.Spacing.{bodyOf}
 use Rattle.table.proofs.Eight.{each-mark, no-mark}
-use Rattle.table.specs.Field.{AMENDMENT, ROUTE, PLAN-TIME, CONTENT, isMark, contentOf, plain, traceOf, marksOf, shown, shownKind}
+use Rattle.table.specs.Field.{AMENDMENT, ROUTE, PLAN-TIME, CONTENT, kindBy, isMark, contentOf, plain, traceOf, marksOf, shown, shownKind}
 use Rattle.table.specs.declared.kinds.Value.{Value}
 use Rattle.table.specs.Read.{answerFrom, answerOf, valuesOf, routeIn, routeOf}
 use Rattle.table.specs.Show.{textsFrom, allowedFrom, marksFrom, routed}
 use Rattle.table.specs.declared.walk.Answer.the-variants.{Taken}
 use Rattle.table.proofs.Theorems.{routesAre, allVisible, taken-more, allowed-visible, sound, complete}
-use Rattle.table.proofs.MarksKept.{times, routeless, step}
+use Rattle.table.proofs.KindRules.{isContent, some-rule, not-for, plain-content, by-route, by-content, all-by}
+use Rattle.table.proofs.MarksKept.{times, times-by, routeless, step}
 
 -- ---- lists of kinds
 
+-- none is an amendment's content
+unfoldable pub noContent : List ℕ → Bool
+noContent ks = all (λ k. not (isContent k)) ks
+
 -- at most one field of a body can be read as a route: there is no field of that kind, or one, and then no content
 unfoldable pub oneRoute : List ℕ → Bool
-oneRoute ks = eqb (times ROUTE ks) 0 || (eqb (times ROUTE ks) 1 && eqb (times CONTENT ks) 0)
+oneRoute ks = eqb (times ROUTE ks) 0 || (eqb (times ROUTE ks) 1 && noContent ks)
 
 -- document 01's tables are such lists
 pub examples-one : oneRoute (bytes "IPPA") && oneRoute (bytes "IZPTPC") && oneRoute (bytes "IPP") && oneRoute (bytes "JGMO") && oneRoute (bytes "IZSFHLR") ≡ true
-unfolding oneRoute times
+unfolding oneRoute times noContent all
 examples-one = refl
 
 -- a kind that is not in a list is not its first, and not in the others
@@ -41,6 +48,19 @@ none-more k j ks e = go (eqb j k) refl
     go : (b : Bool) → eqb j k ≡ b → (eqb j k ≡ false) × (times k ks ≡ 0)
     go true q = let d : suc (times k ks) ≡ 0 = rw q at e in absurd (omega arith)
     go false q = (q, rw q at e)
+
+content-more : (k : ℕ) (ks : List ℕ) → noContent (k ∷ ks) ≡ true → (isContent k ≡ false) × (noContent ks ≡ true)
+unfolding noContent all
+content-more k ks e = (not-true (isContent k) (and-left (not (isContent k)) (noContent ks) e), and-right (not (isContent k)) (noContent ks) e)
+
+-- by any rule
+pub content-by : (ρ : Rule) (ks : List ℕ) → noContent (map (kindBy ρ) ks) ≡ noContent ks
+unfolding noContent
+content-by ρ ks = all-by ρ (λ k. not (isContent k)) (λ k. rw (by-content ρ k)) ks
+
+pub one-by : (ρ : Rule) (ks : List ℕ) → oneRoute (map (kindBy ρ) ks) ≡ oneRoute ks
+unfolding oneRoute
+one-by ρ ks = rw (times-by ρ ROUTE (by-route ρ) ks, content-by ρ ks)
 
 -- ---- which fields are routes
 
@@ -53,14 +73,17 @@ content-route p = go (isMark p) refl
     go true q = each-mark (λ m. eqb (contentOf m) ROUTE ≡ eqb m 128) refl refl refl refl refl refl refl refl p q
     go false q = rw (no-mark p q .1, not-holds (eqb p 128) (λ z. true-false (rw (eqb-true p 128 z)) q))
 
-pub plain-route : (k p : ℕ) → eqb (plain k p) ROUTE ≡ cond (eqb k CONTENT) (eqb p 128) (eqb k ROUTE)
+pub plain-route : (k p : ℕ) → eqb (plain k p) ROUTE ≡ cond (isContent k) (eqb p 128) (eqb k ROUTE)
 unfolding plain
-plain-route k p = go (eqb k CONTENT) refl (eqb k PLAN-TIME) refl
+plain-route k p = go (isContent k) refl (eqb k PLAN-TIME) refl
   where
-    go : (b : Bool) → eqb k CONTENT ≡ b → (c : Bool) → eqb k PLAN-TIME ≡ c → eqb (plain k p) ROUTE ≡ cond (eqb k CONTENT) (eqb p 128) (eqb k ROUTE)
-    go true q c z = rw q (content-route p)
-    go false q true z = rw (q, z, eqb-true k PLAN-TIME z)
-    go false q false z = rw (q, z)
+    content : isContent k ≡ true → eqb (plain k p) ROUTE ≡ eqb p 128
+    content e = let (ρ, q) = some-rule CONTENT k e in ap (λ i. eqb (plain i p) ROUTE) q ∙ rw (plain-content ρ p, by-route ρ (contentOf p)) (content-route p)
+
+    go : (b : Bool) → isContent k ≡ b → (c : Bool) → eqb k PLAN-TIME ≡ c → eqb (plain k p) ROUTE ≡ cond (isContent k) (eqb p 128) (eqb k ROUTE)
+    go true q c z = content q ∙ rw q
+    go false q true z = let n = not-for CONTENT k q in rw (n .0, n .1, z, eqb-true k PLAN-TIME z)
+    go false q false z = let n = not-for CONTENT k q in rw (n .0, n .1, z)
 
 plain-letter : (p : ℕ) → plain ROUTE p ≡ ROUTE
 unfolding plain
@@ -118,20 +141,20 @@ found-visible (k ∷ ks) p (f ∷ fs) v e = go (eqb (plain k p) ROUTE) refl (fou
 
 -- no route without the letter and without a mark
 pub not-route : (k p : ℕ) → eqb k ROUTE ≡ false → eqb p 128 ≡ false → eqb (plain k p) ROUTE ≡ false
-not-route k p h g = plain-route k p ∙ go (eqb k CONTENT) refl
+not-route k p h g = plain-route k p ∙ go (isContent k) refl
   where
-    go : (b : Bool) → eqb k CONTENT ≡ b → cond (eqb k CONTENT) (eqb p 128) (eqb k ROUTE) ≡ false
+    go : (b : Bool) → isContent k ≡ b → cond (isContent k) (eqb p 128) (eqb k ROUTE) ≡ false
     go true q = rw (q, g)
     go false q = rw (q, h)
 
 -- none where neither letter is
-pub no-letters : (ks : List ℕ) (p : ℕ) (fs : List (List ℕ)) → times ROUTE ks ≡ 0 → times CONTENT ks ≡ 0 → routedIn ks p fs ≡ false
+pub no-letters : (ks : List ℕ) (p : ℕ) (fs : List (List ℕ)) → times ROUTE ks ≡ 0 → noContent ks ≡ true → routedIn ks p fs ≡ false
 unfolding routedIn
 no-letters [] p fs e h = refl
 no-letters (k ∷ ks) p [] e h = refl
 no-letters (k ∷ ks) p (f ∷ fs) e h =
     let a = none-more ROUTE k ks e in
-    let c = none-more CONTENT k ks h in
+    let c = content-more k ks h in
     let z : eqb (plain k p) ROUTE ≡ false = plain-route k p ∙ rw (c .0, a .0) in
     rw z (no-letters ks (traceOf k f) fs (a .1) (c .1))
 
@@ -166,12 +189,12 @@ content-routes i t (k ∷ ks) p m (f ∷ fs) u n l a h e =
     go false q z none ih = ((λ x. true-false x q), rw q ih)
 
 -- the route by its letter
-letter-routes : (ks : List ℕ) (p : ℕ) (fs : List (List ℕ)) → times ROUTE ks ≤ 1 → times CONTENT ks ≡ 0 → routesAre ks p (routeIn ks p fs) fs
+letter-routes : (ks : List ℕ) (p : ℕ) (fs : List (List ℕ)) → times ROUTE ks ≤ 1 → noContent ks ≡ true → routesAre ks p (routeIn ks p fs) fs
 unfolding routeIn times
 letter-routes [] p fs a h = tt
 letter-routes (k ∷ ks) p [] a h = tt
 letter-routes (k ∷ ks) p (f ∷ fs) a h =
-    let c = none-more CONTENT k ks h in
+    let c = content-more k ks h in
     let z : eqb (plain k p) ROUTE ≡ eqb k ROUTE = plain-route k p ∙ rw (c .0) in
     go (eqb k ROUTE) refl z (λ l. no-letters ks (traceOf k f) fs l (c .1)) (λ l. letter-routes ks (traceOf k f) fs l (c .1))
   where
@@ -187,10 +210,10 @@ pub routes : (ks : List ℕ) (fs : List (List ℕ)) (t : Bool) (m : ℕ) → one
 unfolding oneRoute
 routes ks fs t m o e =
     let a = eqb (times ROUTE ks) 1 in
-    let b = eqb (times CONTENT ks) 0 in
+    let b = noContent ks in
     either-of (eqb (times ROUTE ks) 0) (a && b)
     (λ q. content-routes 1 t ks 0 0 fs t m (lit≤ tt) (eqb-true (times ROUTE ks) 0 q) (λ x. true-false x refl) e)
-    (λ q. letter-routes ks 0 fs (omega (arith, eqb-true (times ROUTE ks) 1 (and-left a b q))) (eqb-true (times CONTENT ks) 0 (and-right a b q)))
+    (λ q. letter-routes ks 0 fs (omega (arith, eqb-true (times ROUTE ks) 1 (and-left a b q))) (and-right a b q))
     o
 
 -- ---- the texts of values
@@ -239,7 +262,7 @@ routed-letter (k ∷ ks) p r (v ∷ vs) h l = go (eqb (plain k p) ROUTE) refl (r
     go false q ih = let d : 0 < times ROUTE ks = rw (other q) at l in rw q (ih d)
 
 -- and one with neither letter has none
-pub routed-none : (ks : List ℕ) (p : ℕ) (r : List ℕ) (vs : List Value) → times ROUTE ks ≡ 0 → times CONTENT ks ≡ 0 → routed ks p r vs ≡ false
+pub routed-none : (ks : List ℕ) (p : ℕ) (r : List ℕ) (vs : List Value) → times ROUTE ks ≡ 0 → noContent ks ≡ true → routed ks p r vs ≡ false
 routed-none ks p r vs a h = sym (routed-texts ks p r vs) ∙ no-letters ks p (textsFrom ks p r vs) a h
 
 -- 7. a body that is taken is the text of its values and its route

@@ -1,24 +1,28 @@
 -- Document 01's table, row by row: what holds of each row by computation holds of every type and count. Assumes
 -- nothing.
-use mathlib.Core.Path.{_≡_, refl, sym, subst}
-use mathlib.Core.Bool.{true, cond, _&&_}
-use mathlib.Core.List.{List, [], _∷_}
+use mathlib.Core.Path.{_≡_, refl, sym, ap, _∙_, subst}
+use mathlib.Core.Bool.{true, false, cond, _&&_}
+use mathlib.Core.List.{List, [], _∷_, map}
 use Prim.Native.Nat.{ℕ, zero, suc, _+_, _*_, _/_, _%_, _≤_}
 use native.Mathlib.Omega.{arith}
 use lib.Count.{ones}
 use lib.Dec.{eqb, leb, lit≤}
+use lib.ListN.{length, length-map, take}
 use borrow.Author.Tests.{eqb-true, leb-true}
+use Rattle.text.specs.Class.{all}
 use Rattle.text.proofs.Logic.{and-left, and-right}
+use Rattle.rules.specs.declared.Rule.{Rule}
 use Rattle.fields.specs.declared.heads.MessageType.{MessageType}
 use Rattle.fields.specs.declared.heads.MessageType.the-variants.{Af, Az, Dz, Fz, Rz, Tz, Uz, Rt, To, Hb}
-use Rattle.table.specs.Field.{AMENDMENT, traceOf, marksOf, shown}
+use Rattle.table.specs.Field.{AMENDMENT, ROUTE, kindBy, traceOf, marksOf, shown}
 use Rattle.table.specs.declared.kinds.Value.{Value}
 use Rattle.table.specs.Show.{allowedFrom, marksFrom, routed}
-use Rattle.table.proofs.MarksKept.{times}
-use Rattle.table.proofs.Routes.{oneRoute, none-more, routed-letter, routed-none}
-use Rattle.table.proofs.Amends.{followed, amends, routed-marks}
+use Rattle.table.proofs.KindRules.{by-amendment, by-route, take-by}
+use Rattle.table.proofs.MarksKept.{times, times-by}
+use Rattle.table.proofs.Routes.{noContent, oneRoute, none-more, content-by, one-by, routed-letter, routed-none}
+use Rattle.table.proofs.Amends.{followed, amends, amends-by, routed-marks}
 use Rattle.table.proofs.Theorems.{allowed-taken}
-use Rattle.table.specs.Table.{hasAmendments, countWith, isCount, hasRouteWith, kindsOf}
+use Rattle.table.specs.Table.{tableOf, hasAmendments, countWith, isCount, hasRouteWith, tableBy, kindsOf}
 use Rattle.table.proofs.CountWays.{each-type}
 
 -- the counts of an AF: 5, 7 .. 19
@@ -73,23 +77,44 @@ table-few = each-table (λ t n. n ≤ 19)
     (each-count (λ n. n ≤ 19) (lit≤ tt) (lit≤ tt) (lit≤ tt) (lit≤ tt) (lit≤ tt) (lit≤ tt) (lit≤ tt) (lit≤ tt))
     (lit≤ tt) (lit≤ tt) (lit≤ tt) (lit≤ tt) (lit≤ tt) (lit≤ tt) (lit≤ tt) (lit≤ tt) (lit≤ tt)
 
-pub table-one : (t : MessageType) (n : ℕ) → isCount t n ≡ true → oneRoute (kindsOf t n) ≡ true
-unfolding oneRoute times kindsOf
-table-one = each-table (λ t n. oneRoute (kindsOf t n) ≡ true)
-    (each-count (λ n. oneRoute (kindsOf Af n) ≡ true) refl refl refl refl refl refl refl refl)
-    refl refl refl refl refl refl refl refl refl
+-- by any rule a row has as many fields, each of the kind that the rule has for it
+pub table-length : (ρ : Rule) (t : MessageType) → length (tableBy ρ t) ≡ length (tableOf t)
+unfolding tableBy
+table-length ρ t = length-map (tableOf t) (kindBy ρ)
 
-af-amends : (n : ℕ) → isCount Af n ≡ true → amends (kindsOf Af n) ≡ true
-unfolding amends times followed kindsOf
-af-amends = each-count (λ n. amends (kindsOf Af n) ≡ true) refl refl refl refl refl refl refl refl
+pub kinds-by : (ρ : Rule) (t : MessageType) (n : ℕ) → kindsOf ρ t n ≡ map (kindBy ρ) (take n (tableOf t))
+unfolding kindsOf tableBy
+kinds-by ρ t n = take-by ρ n (tableOf t)
+
+-- of these kinds no rule changes any
+by-times : (ρ : Rule) (k : ℕ) → ((j : ℕ) → eqb (kindBy ρ j) k ≡ eqb j k) → (t : MessageType) (n : ℕ) → times k (kindsOf ρ t n) ≡ times k (take n (tableOf t))
+by-times ρ k h t n = ap (times k) (kinds-by ρ t n) ∙ times-by ρ k h (take n (tableOf t))
+
+pub table-one : (ρ : Rule) (t : MessageType) (n : ℕ) → isCount t n ≡ true → oneRoute (kindsOf ρ t n) ≡ true
+unfolding oneRoute times noContent all
+table-one ρ t n e = ap oneRoute (kinds-by ρ t n) ∙ one-by ρ (take n (tableOf t)) ∙ rows t n e
+  where
+    rows : (t : MessageType) (n : ℕ) → isCount t n ≡ true → oneRoute (take n (tableOf t)) ≡ true
+    rows = each-table (λ t n. oneRoute (take n (tableOf t)) ≡ true)
+        (each-count (λ n. oneRoute (take n (tableOf Af)) ≡ true) refl refl refl refl refl refl refl refl)
+        refl refl refl refl refl refl refl refl refl
+
+af-amends : (ρ : Rule) (n : ℕ) → isCount Af n ≡ true → amends (kindsOf ρ Af n) ≡ true
+unfolding amends times followed
+af-amends ρ n e =
+    ap amends (kinds-by ρ Af n) ∙ amends-by ρ (take n (tableOf Af))
+    ∙ each-count (λ n. amends (take n (tableOf Af)) ≡ true) refl refl refl refl refl refl refl refl n e
 
 -- "the count of marks set is the count of amendments"
-pub count-marks : (m : ℕ) (t : MessageType) (n : ℕ) → isCount t n ≡ true → ones m ≡ times AMENDMENT (kindsOf t n) → countWith t m ≡ n
-unfolding times kindsOf countWith
-count-marks m =
-    each-table (λ t n. ones m ≡ times AMENDMENT (kindsOf t n) → countWith t m ≡ n)
-    (each-count (λ n. ones m ≡ times AMENDMENT (kindsOf Af n) → 3 + 2 * ones m ≡ n) (λ e. rw e) (λ e. rw e) (λ e. rw e) (λ e. rw e) (λ e. rw e) (λ e. rw e) (λ e. rw e) (λ e. rw e))
-    (λ e. refl) (λ e. refl) (λ e. refl) (λ e. refl) (λ e. refl) (λ e. refl) (λ e. refl) (λ e. refl) (λ e. refl)
+pub count-marks : (ρ : Rule) (m : ℕ) (t : MessageType) (n : ℕ) → isCount t n ≡ true → ones m ≡ times AMENDMENT (kindsOf ρ t n) → countWith t m ≡ n
+unfolding times countWith
+count-marks ρ m t n c e = rows t n c (e ∙ by-times ρ AMENDMENT (by-amendment ρ) t n)
+  where
+    rows : (t : MessageType) (n : ℕ) → isCount t n ≡ true → ones m ≡ times AMENDMENT (take n (tableOf t)) → countWith t m ≡ n
+    rows =
+        each-table (λ t n. ones m ≡ times AMENDMENT (take n (tableOf t)) → countWith t m ≡ n)
+        (each-count (λ n. ones m ≡ times AMENDMENT (take n (tableOf Af)) → 3 + 2 * ones m ≡ n) (λ e. rw e) (λ e. rw e) (λ e. rw e) (λ e. rw e) (λ e. rw e) (λ e. rw e) (λ e. rw e) (λ e. rw e))
+        (λ e. refl) (λ e. refl) (λ e. refl) (λ e. refl) (λ e. refl) (λ e. refl) (λ e. refl) (λ e. refl) (λ e. refl)
 
 -- fields without a number set no mark
 no-marks : (ks : List ℕ) (p m : ℕ) (r : List ℕ) (vs : List Value) → times AMENDMENT ks ≡ 0 → marksFrom ks p m r vs ≡ m
@@ -113,27 +138,39 @@ pub kept-route : (t : MessageType) (m : ℕ) → hasRouteWith t (marksKept t m) 
 kept-route t m = each-type (λ t. hasRouteWith t (marksKept t m) ≡ hasRouteWith t m) refl refl refl refl refl refl refl refl refl refl t
 
 -- the fields of a type without amendments set none
-pub marks-none : (r : List ℕ) (vs : List Value) (t : MessageType) (n : ℕ) → isCount t n ≡ true → marksFrom (kindsOf t n) 0 0 r vs ≡ marksKept t (marksFrom (kindsOf t n) 0 0 r vs)
-unfolding times kindsOf
-marks-none r vs =
-    each-table (λ t n. marksFrom (kindsOf t n) 0 0 r vs ≡ marksKept t (marksFrom (kindsOf t n) 0 0 r vs)) (λ n e. refl) (none Az 4 refl) (none Dz 6 refl) (none Fz 7 refl) (none Rz 3 refl) (none Tz 4 refl) (none Uz 7 refl) (none Rt 0 refl) (none To 0 refl) (none Hb 0 refl)
+pub marks-none : (ρ : Rule) (r : List ℕ) (vs : List Value) (t : MessageType) (n : ℕ) → isCount t n ≡ true
+    → marksFrom (kindsOf ρ t n) 0 0 r vs ≡ marksKept t (marksFrom (kindsOf ρ t n) 0 0 r vs)
+unfolding times
+marks-none ρ r vs =
+    each-table (λ t n. marksFrom (kindsOf ρ t n) 0 0 r vs ≡ marksKept t (marksFrom (kindsOf ρ t n) 0 0 r vs))
+    (λ n e. refl) (none Az 4 refl) (none Dz 6 refl) (none Fz 7 refl) (none Rz 3 refl) (none Tz 4 refl) (none Uz 7 refl) (none Rt 0 refl) (none To 0 refl) (none Hb 0 refl)
   where
-    none : (t : MessageType) (n : ℕ) → times AMENDMENT (kindsOf t n) ≡ 0 → marksFrom (kindsOf t n) 0 0 r vs ≡ 0
-    none t n e = no-marks (kindsOf t n) 0 0 r vs e
+    none : (t : MessageType) (n : ℕ) → times AMENDMENT (take n (tableOf t)) ≡ 0 → marksFrom (kindsOf ρ t n) 0 0 r vs ≡ 0
+    none t n e = no-marks (kindsOf ρ t n) 0 0 r vs (by-times ρ AMENDMENT (by-amendment ρ) t n ∙ e)
 
 -- a route is among the fields exactly where the type and the marks say so
-module _ (m : ℕ) (r : List ℕ) (vs : List Value) where
-  pub route-with : (t : MessageType) (n : ℕ) → isCount t n ≡ true → allowedFrom (kindsOf t n) 0 0 r vs ≡ true → marksFrom (kindsOf t n) 0 0 r vs ≡ m → hasRouteWith t m ≡ routed (kindsOf t n) 0 r vs
-  unfolding times kindsOf
+module _ (ρ : Rule) (m : ℕ) (r : List ℕ) (vs : List Value) where
+  -- a row with neither letter has none, and one with the route's letter has one
+  row-none : (t : MessageType) (n : ℕ) → times ROUTE (take n (tableOf t)) ≡ 0 → noContent (take n (tableOf t)) ≡ true → false ≡ routed (kindsOf ρ t n) 0 r vs
+  row-none t n e c =
+      sym (routed-none (kindsOf ρ t n) 0 r vs (by-times ρ ROUTE (by-route ρ) t n ∙ e) (ap noContent (kinds-by ρ t n) ∙ content-by ρ (take n (tableOf t)) ∙ c))
+
+  row-letter : (t : MessageType) (n : ℕ) → times ROUTE (take n (tableOf t)) ≡ 1 → allowedFrom (kindsOf ρ t n) 0 0 r vs ≡ true → true ≡ routed (kindsOf ρ t n) 0 r vs
+  row-letter t n e a =
+      sym (routed-letter (kindsOf ρ t n) 0 r vs (allowed-taken (kindsOf ρ t n) 0 0 r vs a .count) (omega (arith, by-times ρ ROUTE (by-route ρ) t n, e)))
+
+  pub route-with : (t : MessageType) (n : ℕ) → isCount t n ≡ true → allowedFrom (kindsOf ρ t n) 0 0 r vs ≡ true → marksFrom (kindsOf ρ t n) 0 0 r vs ≡ m
+      → hasRouteWith t m ≡ routed (kindsOf ρ t n) 0 r vs
+  unfolding times noContent all
   route-with =
-      each-table (λ t n. allowedFrom (kindsOf t n) 0 0 r vs ≡ true → marksFrom (kindsOf t n) 0 0 r vs ≡ m → hasRouteWith t m ≡ routed (kindsOf t n) 0 r vs)
-      (λ n e a q. rw (routed-marks (kindsOf Af n) r vs (af-amends n e) a, q))
-      (λ a q. sym (routed-none (kindsOf Az 4) 0 r vs refl refl))
-      (λ a q. sym (routed-none (kindsOf Dz 6) 0 r vs refl refl))
-      (λ a q. sym (routed-letter (kindsOf Fz 7) 0 r vs (allowed-taken (kindsOf Fz 7) 0 0 r vs a .count) (lit≤ tt)))
-      (λ a q. sym (routed-none (kindsOf Rz 3) 0 r vs refl refl))
-      (λ a q. sym (routed-none (kindsOf Tz 4) 0 r vs refl refl))
-      (λ a q. sym (routed-letter (kindsOf Uz 7) 0 r vs (allowed-taken (kindsOf Uz 7) 0 0 r vs a .count) (lit≤ tt)))
-      (λ a q. sym (routed-none (kindsOf Rt 0) 0 r vs refl refl))
-      (λ a q. sym (routed-none (kindsOf To 0) 0 r vs refl refl))
-      (λ a q. sym (routed-none (kindsOf Hb 0) 0 r vs refl refl))
+      each-table (λ t n. allowedFrom (kindsOf ρ t n) 0 0 r vs ≡ true → marksFrom (kindsOf ρ t n) 0 0 r vs ≡ m → hasRouteWith t m ≡ routed (kindsOf ρ t n) 0 r vs)
+      (λ n e a q. rw (routed-marks (kindsOf ρ Af n) r vs (af-amends ρ n e) a, q))
+      (λ a q. row-none Az 4 refl refl)
+      (λ a q. row-none Dz 6 refl refl)
+      (λ a q. row-letter Fz 7 refl a)
+      (λ a q. row-none Rz 3 refl refl)
+      (λ a q. row-none Tz 4 refl refl)
+      (λ a q. row-letter Uz 7 refl a)
+      (λ a q. row-none Rt 0 refl refl)
+      (λ a q. row-none To 0 refl refl)
+      (λ a q. row-none Hb 0 refl refl)

@@ -1,31 +1,12 @@
 -- `table::kinds_of` meets its contract. Assumes nothing.
-use Rattle.table.specs.Table.{dotted}
 use borrow.Author.Needs.{needs}
 use Rattle.table.proofs.kinds_of.Statement.{statement}
 use Rattle.table.proofs.kinds_of.Tie as tie
 
 pub kinds-of-spec : {M : Type 1} → statement M
-unfolding dotted
 kinds-of-spec =
     tie.close
     (tie.spec
-    (λ c. search needs)
-    (λ c. search needs)
-    (λ c. search needs)
-    (λ c. search needs)
-    (λ c. search needs)
-    (λ c. search needs)
-    (λ c. search needs)
-    (λ c. search needs)
-    (λ c. search needs)
-    (λ c. search needs)
-    (λ c. rw (c .enum-told .given .1))
-    (λ c. rw (c .enum-told2 .given .1))
-    (λ c. rw (c .enum-told3 .given .1))
-    (λ c. rw (c .enum-told4 .given .1))
-    (λ c. rw (c .enum-told5 .given .1))
-    (λ c. rw (c .enum-told6 .given .1))
-    (λ c. rw (c .enum-told7 .given .1))
-    (λ c. rw (c .enum-told8 .given .1))
-    (λ c. rw (c .enum-told9 .given .1))
-    (λ c. rw (c .enum-told10 .given .1)))
+    (λ c. search needs) (λ c κs. search needs) (λ c. search needs) (λ c κs. search needs)
+    (λ c. rw (c .new-kinds .ensures, c .before .enum-told .given .1))
+    (λ c. rw (c .old-kinds .ensures, c .before .enum-told2 .given .1)))

@@ -22,29 +22,29 @@ right : (c : tie.Else1) → isCount (c .before .before .before .before .before .
 right c = so (c .before .is-count .ensures) (c .if1 .left)
 
 returns : tie.Need-returns
-returns c = through (c .refused .ensures) (by-wrong _ _ (sym (c .before .before .before .count .ensures) ∙ c .before .enum-told .given .1))
+returns c = through (c .refused .ensures) (by-wrong _ _ _ (sym (c .before .before .before .count .ensures) ∙ c .before .enum-told .given .1))
 
 returns-2 : tie.Need-returns-2
 returns-2 c =
     let c₂ = c .before .before in
-    through (c .refused2 .ensures) (by-not _ _ (told (c₂ .before)) (not-so (c₂ .is-count .ensures) (c .before .if1 .taken)))
+    through (c .refused2 .ensures) (by-not _ _ _ (told (c₂ .before)) (not-so (c₂ .is-count .ensures) (c .before .if1 .taken)))
 
 array-share-prefix-kinds : tie.Need-array-share-prefix-kinds
-array-share-prefix-kinds c = rw (c .kinds-of .ensures) (count-dotted _ _ (right (c .before)))
+array-share-prefix-kinds c = rw (c .kinds-of .ensures) (count-dotted _ _ _ (right (c .before)))
 
 slice-aggregate-read : tie.Need-slice-aggregate-read
-slice-aggregate-read c = sym (length-take-le _ _ (rw (c .before .kinds-of .ensures) (count-dotted _ _ (right (c .before .before)))))
+slice-aggregate-read c = sym (length-take-le _ _ (rw (c .before .kinds-of .ensures) (count-dotted _ _ _ (right (c .before .before)))))
 
 read-requires : tie.Need-read-requires
 read-requires c κs =
     let c₃ = c .before .before in
-    rw (c .before .kinds-of .ensures) (by-ready _ _ (told (c₃ .before .before)) (right c₃))
+    rw (c .before .kinds-of .ensures) (by-ready _ _ _ (told (c₃ .before .before)) (right c₃))
 
 returns-3 : tie.Need-returns-3
 returns-3 c =
     let c₂ = c .before .before in
     let c₃ = c₂ .before in
-    through (c .read .ensures) (rw (c₂ .kinds-of .ensures) (by-count _ _ (told (c₃ .before .before)) (right c₃)))
+    through (c .read .ensures) (rw (c₂ .kinds-of .ensures) (by-count _ _ _ (told (c₃ .before .before)) (right c₃)))
 
 pub read-spec : {M : Type 1} → statement M
 read-spec =

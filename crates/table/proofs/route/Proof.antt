@@ -9,7 +9,7 @@ use Rattle.table.proofs.route.Tie as tie
 returns : tie.Need-returns
 returns c =
     let k = c .before .before .kinds-of .ensures in
-    (c .route .ensures .0 ∙ rw k (route-dotted _ _), c .route .ensures .1 ∙ ap (startsAt _) (rw k (start-dotted _ _)))
+    (c .route .ensures .0 ∙ rw k (route-dotted _ _ _), c .route .ensures .1 ∙ ap (startsAt _) (rw k (start-dotted _ _ _)))
 
 pub route-spec : {M : Type 1} → statement M
 route-spec =

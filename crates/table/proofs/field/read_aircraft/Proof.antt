@@ -1,6 +1,7 @@
 -- `table::field::read_aircraft` meets its contract: it hands on what was read. Assumes nothing.
-use mathlib.Core.Path.{sym, ap, _∙_}
-use Rattle.table.specs.Field.{ofAircraft}
+use mathlib.Core.Path.{sym, _∙_}
+use Rattle.rules.specs.declared.Rule.the-variants.{New}
+use Rattle.table.proofs.ReadingWays.{aircraft-as}
 use borrow.Author.Needs.{needs}
 use Rattle.table.proofs.field.read_aircraft.Statement.{statement}
 use Rattle.table.proofs.field.read_aircraft.Tie as tie
@@ -10,5 +11,5 @@ read-aircraft-spec =
     tie.close
     (tie.spec
     (λ c κs. search needs) (λ c. search needs) (λ c. search needs)
-    (λ c. ap ofAircraft (sym (c .enum-told .given .1) ∙ c .before .before .read .ensures .0))
-    (λ c. ap ofAircraft (sym (c .before .aircraft .given .1) ∙ c .before .before .before .read .ensures .0)))
+    (λ c. aircraft-as New _ (sym (c .enum-told .given .1) ∙ c .before .before .read .ensures .0))
+    (λ c. aircraft-as New _ (sym (c .before .aircraft .given .1) ∙ c .before .before .before .read .ensures .0)))

@@ -11,8 +11,10 @@ unfolding readIn follows plain
 read-field-spec =
     tie.close
     (tie.spec
-    (λ c κs. search needs) (λ c κs. search needs) (λ c κs. search needs) (λ c κs. search needs) (λ c κs. search needs)
+    (λ c κs. search needs) (λ c κs. search needs) (λ c κs. search needs) (λ c κs. search needs) (λ c κs. search needs) (λ c κs. search needs) (λ c κs. search needs)
     (λ c. c .read-number .ensures ∙ rw (c .before .match .keys1))
     (λ c. c .read-plan-time .ensures ∙ rw (c .before .match .keys2))
     (λ c. c .read-kind .ensures ∙ rw (c .before .before .match .keys3, c .before .content .ensures))
-    (λ c. let n = c .before .match .rest in c .read-kind2 .ensures ∙ rw (ne-eqb _ _ (n .0 .0 .1), ne-eqb _ _ (n .0 .1), ne-eqb _ _ (n .1))))
+    (λ c. c .read-kind2 .ensures ∙ rw (c .before .before .match .keys4, c .before .old-content .ensures))
+    (λ c. let n = c .before .match .rest in
+    c .read-kind3 .ensures ∙ rw (ne-eqb _ _ (n .0 .0 .0 .1), ne-eqb _ _ (n .0 .0 .1), ne-eqb _ _ (n .0 .1), ne-eqb _ _ (n .1))))

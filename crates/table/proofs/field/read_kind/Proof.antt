@@ -11,10 +11,11 @@ unfolding readKind
 read-kind-spec =
     tie.close
     (tie.spec
-    (λ c κs. search needs) (λ c κs. search needs) (λ c κs. search needs) (λ c κs. search needs) (λ c κs. search needs)
+    (λ c κs. search needs) (λ c κs. search needs) (λ c κs. search needs) (λ c κs. search needs) (λ c κs. search needs) (λ c κs. search needs)
     (λ c. c .read-ident .ensures ∙ rw (c .before .match .keys1))
     (λ c. c .read-tz-ident .ensures ∙ rw (c .before .match .keys2))
     (λ c. c .read-aircraft .ensures ∙ rw (c .before .match .keys3))
-    (λ c. c .read-route .ensures ∙ rw (c .before .match .keys4))
+    (λ c. c .read-old-aircraft .ensures ∙ rw (c .before .match .keys4))
+    (λ c. c .read-route .ensures ∙ rw (c .before .match .keys5))
     (λ c. let n = c .before .match .rest in
-    c .read-word .ensures ∙ rw (ne-eqb _ _ (n .0 .0 .0 .1), ne-eqb _ _ (n .0 .0 .1), ne-eqb _ _ (n .0 .1), ne-eqb _ _ (n .1))))
+    c .read-word .ensures ∙ rw (ne-eqb _ _ (n .0 .0 .0 .0 .1), ne-eqb _ _ (n .0 .0 .0 .1), ne-eqb _ _ (n .0 .0 .1), ne-eqb _ _ (n .0 .1), ne-eqb _ _ (n .1))))

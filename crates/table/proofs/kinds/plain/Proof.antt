@@ -11,7 +11,8 @@ unfolding plain
 plain-spec =
     tie.close
     (tie.spec
-    (λ c κs. search needs)
+    (λ c κs. search needs) (λ c κs. search needs)
     (λ c. c .content .ensures ∙ rw (c .before .match .keys1))
-    (λ c. rw (c .match .keys2))
-    (λ c. rw (ne-eqb _ _ (c .match .rest .0 .1), ne-eqb _ _ (c .match .rest .1))))
+    (λ c. c .old-content .ensures ∙ rw (c .before .match .keys2))
+    (λ c. rw (c .match .keys3))
+    (λ c. let n = c .match .rest in rw (ne-eqb _ _ (n .0 .0 .1), ne-eqb _ _ (n .0 .1), ne-eqb _ _ (n .1))))
