@@ -86,7 +86,7 @@ pub kinds-by : (ρ : Rule) (t : MessageType) (n : ℕ) → kindsOf ρ t n ≡ ma
 unfolding kindsOf tableBy
 kinds-by ρ t n = take-by ρ n (tableOf t)
 
--- of these kinds no rule changes any
+-- a kind that no rule changes stands in a row as often by any rule
 by-times : (ρ : Rule) (k : ℕ) → ((j : ℕ) → eqb (kindBy ρ j) k ≡ eqb j k) → (t : MessageType) (n : ℕ) → times k (kindsOf ρ t n) ≡ times k (take n (tableOf t))
 by-times ρ k h t n = ap (times k) (kinds-by ρ t n) ∙ times-by ρ k h (take n (tableOf t))
 
