@@ -1,33 +1,34 @@
 -- A typed body and the values of its fields give each other: from a body to values and back, and from the values that
 -- some text gives to a body and back. Assumes nothing.
 use mathlib.Core.Path.{_≡_, refl, sym, ap, _∙_, subst}
-use mathlib.Core.Bool.{Bool, true, false, cond, not, _&&_}
+use mathlib.Core.Bool.{Bool, true, false, cond, not, _&&_, _||_}
 use mathlib.Core.List.{List, [], _∷_, _++_}
 use Prim.Native.Nat.{ℕ, zero, suc, _+_, _-_, _/_, _%_, _≤_}
 use native.Mathlib.Nat.{le-of-suc-le-suc}
 use native.Mathlib.Omega.{arith}
 use lib.Dec.{eqb, leb}
 use lib.ListN.{length, take, drop, replicate, length-append, length-take, length-drop, length-replicate, take-append-drop}
-use lib.Seq.{take-at, drop-at}
+use lib.Seq.{length-take-le, take-at, drop-at}
 use borrow.Author.Tests.{eqb-true, leb-true}
 use Rattle.text.proofs.Logic.{and-left, and-right, true-false}
 use Rattle.rules.specs.Form.{isRoute}
 use Rattle.rules.specs.Kind.{POINT, TIME}
 use Rattle.fields.specs.Word.{isWord}
 use Rattle.fields.specs.Ident.{isIdentValue}
-use Rattle.fields.specs.Aircraft.{isAircraftValue}
+use Rattle.fields.specs.Aircraft.{isAircraftValue, isLetterBy}
 use Rattle.fields.specs.declared.heads.MessageType.{MessageType}
 use Rattle.fields.specs.declared.heads.MessageType.the-variants as type
-use Rattle.table.specs.Field.{AMENDMENT, IDENT, TZ-IDENT, AIRCRAFT, ROUTE, PLAN-TIME, CONTENT, valued, identIn, aircraftIn, isOne, isTwo, isMark, contentOf, plain, traceOf, marksOf, follows, isKindValue, isValue, shown}
+use Rattle.table.specs.Field.{AMENDMENT, IDENT, TZ-IDENT, AIRCRAFT, ROUTE, PLAN-TIME, CONTENT, OLD-AIRCRAFT, OLD-CONTENT, kindBy, valued, identIn, aircraftIn, isOne, isTwo, isMark, contentOf, plain, traceOf, marksOf, follows, isKindValue, isValue, shown}
 use Rattle.table.specs.declared.kinds.Value.{Value}
 use Rattle.table.proofs.Eight.{mark-text}
 use Rattle.table.specs.Read.{none, padded}
 use Rattle.table.specs.Show.{allowedFrom}
 use Rattle.rules.specs.declared.Rule.{Rule}
-use Rattle.rules.specs.declared.Rule.the-variants.{New}
+use Rattle.rules.specs.declared.Rule.the-variants.{New, Old}
 use Rattle.table.specs.Table.{amendments, countWith, isCount, tableOf, kindsOf}
 use Rattle.table.proofs.TableWays.{count-kinds}
 use Rattle.table.proofs.Tables.{table-length}
+use Rattle.table.proofs.KindRules.{isContent}
 use Rattle.table.proofs.OldKinds.{kinds-allowed}
 use Rattle.table.proofs.Tables.{marksKept}
 use Rattle.messages.specs.Body.{at, afFrom, bodyFrom, typeIn, valueOfWord, slots, fieldCount, valuesIn, spare, marksIn}
@@ -57,22 +58,24 @@ abbrev pub canon : ℕ → Value → Value
 canon k v =
     cond (eqb k IDENT) (valued (v .a) (v .b) 0)
     (cond (eqb k TZ-IDENT) (valued (v .a) (v .b) 0)
-    (cond (eqb k AIRCRAFT) v (cond (eqb k ROUTE) none (valued (v .a) 0 0))))
+    (cond (eqb k AIRCRAFT) v (cond (eqb k OLD-AIRCRAFT) v (cond (eqb k ROUTE) none (valued (v .a) 0 0)))))
 
 pub is-canon : (k : ℕ) (r : List ℕ) (v : Value) → isKindValue k r v ≡ true → canon k v ≡ v
 unfolding isKindValue
-is-canon k r v = go (eqb k IDENT) (eqb k TZ-IDENT) (eqb k AIRCRAFT) (eqb k ROUTE)
+is-canon k r v = go (eqb k IDENT) (eqb k TZ-IDENT) (eqb k AIRCRAFT) (eqb k OLD-AIRCRAFT) (eqb k ROUTE)
   where
-    go : (i t z o : Bool)
-        → cond i (isIdentValue (identIn v) && isTwo v) (cond t (isIdentValue (identIn v) && not (eqb (v .b) 0) && isTwo v) (cond z (isAircraftValue (aircraftIn v)) (cond o (isRoute r && eqb (v .a) 0 && isOne v) (isWord k (v .a) && isOne v)))) ≡ true
-        → cond i (valued (v .a) (v .b) 0) (cond t (valued (v .a) (v .b) 0) (cond z v (cond o none (valued (v .a) 0 0)))) ≡ v
-    go true t z o e = two-is v (and-right (isIdentValue (identIn v)) (isTwo v) e)
-    go false true z o e = two-is v (and-right (isIdentValue (identIn v) && not (eqb (v .b) 0)) (isTwo v) e)
-    go false false true o e = refl
-    go false false false true e =
+    go : (i t z y o : Bool)
+        → cond i (isIdentValue (identIn v) && isTwo v) (cond t (isIdentValue (identIn v) && not (eqb (v .b) 0) && isTwo v)
+        (cond z (isAircraftValue (aircraftIn v)) (cond y (isAircraftValue (aircraftIn v) && isLetterBy Old (v .c)) (cond o (isRoute r && eqb (v .a) 0 && isOne v) (isWord k (v .a) && isOne v))))) ≡ true
+        → cond i (valued (v .a) (v .b) 0) (cond t (valued (v .a) (v .b) 0) (cond z v (cond y v (cond o none (valued (v .a) 0 0))))) ≡ v
+    go true t z y o e = two-is v (and-right (isIdentValue (identIn v)) (isTwo v) e)
+    go false true z y o e = two-is v (and-right (isIdentValue (identIn v) && not (eqb (v .b) 0)) (isTwo v) e)
+    go false false true y o e = refl
+    go false false false true o e = refl
+    go false false false false true e =
         let f = and-left (isRoute r && eqb (v .a) 0) (isOne v) e in
         none-is v (and-right (isRoute r) (eqb (v .a) 0) f) (and-right (isRoute r && eqb (v .a) 0) (isOne v) e)
-    go false false false false e = one-is v (and-right (isWord k (v .a)) (isOne v) e)
+    go false false false false false e = one-is v (and-right (isWord k (v .a)) (isOne v) e)
 
 -- ---- nineteen values
 
@@ -187,7 +190,7 @@ allowed-length (k ∷ ks) p m r (v ∷ vs) e = ap suc (allowed-length ks _ _ r v
 -- no amendment is among the kinds
 abbrev single : List ℕ → Bool
 single [] = true
-single (k ∷ ks) = not (eqb k AMENDMENT) && not (eqb k CONTENT) && single ks
+single (k ∷ ks) = not (eqb k AMENDMENT) && not (isContent k) && single ks
 
 -- what is kept of the values f 0, f 1, .. by their kinds
 abbrev canonFrom : List ℕ → (ℕ → Value) → List Value
@@ -195,14 +198,17 @@ canonFrom [] f = []
 canonFrom (k ∷ ks) f = canon (plain k 0) (f 0) ∷ canonFrom ks (λ i. f (suc i))
 
 -- a field that is no amendment's is read by its own kind, whatever was left before it
-kind-value : (k p : ℕ) (r : List ℕ) (v : Value) → not (eqb k AMENDMENT) ≡ true → not (eqb k CONTENT) ≡ true → isValue k p r v ≡ true → isKindValue (plain k 0) r v ≡ true
+kind-value : (k p : ℕ) (r : List ℕ) (v : Value) → not (eqb k AMENDMENT) ≡ true → not (isContent k) ≡ true → isValue k p r v ≡ true → isKindValue (plain k 0) r v ≡ true
 unfolding isValue plain
-kind-value k p r v = go (eqb k AMENDMENT) (eqb k CONTENT)
+kind-value k p r v = go (eqb k AMENDMENT) (eqb k CONTENT) (eqb k OLD-CONTENT)
   where
-    go : (a c : Bool) → not a ≡ true → not c ≡ true → cond a (isMark (v .a) && isOne v) (isKindValue (cond c (contentOf p) (cond (eqb k PLAN-TIME) TIME k)) r v) ≡ true → isKindValue (cond c (contentOf 0) (cond (eqb k PLAN-TIME) TIME k)) r v ≡ true
-    go false false f g e = e
-    go false true f g e = true-false g refl
-    go true c f g e = true-false f refl
+    go : (a c d : Bool) → not a ≡ true → not (c || d) ≡ true
+        → cond a (isMark (v .a) && isOne v) (isKindValue (cond c (contentOf p) (cond d (kindBy Old (contentOf p)) (cond (eqb k PLAN-TIME) TIME k))) r v) ≡ true
+        → isKindValue (cond c (contentOf 0) (cond d (kindBy Old (contentOf 0)) (cond (eqb k PLAN-TIME) TIME k))) r v ≡ true
+    go false false false f g e = e
+    go false false true f g e = true-false g refl
+    go false true d f g e = true-false g refl
+    go true c d f g e = true-false f refl
 
 canons : (ks : List ℕ) (p m : ℕ) (r : List ℕ) (vs more : List Value) → single ks ≡ true → allowedFrom ks p m r vs ≡ true → canonFrom ks (at (vs ++ more)) ≡ vs
 unfolding allowedFrom
@@ -210,9 +216,9 @@ canons [] p m r [] more s e = refl
 canons [] p m r (v ∷ vs) more s e = true-false e refl
 canons (k ∷ ks) p m r [] more s e = true-false e refl
 canons (k ∷ ks) p m r (v ∷ vs) more s e =
-    let f = and-left (not (eqb k AMENDMENT) && not (eqb k CONTENT)) (single ks) s in
-    let g = kind-value k p r v (and-left (not (eqb k AMENDMENT)) (not (eqb k CONTENT)) f) (and-right (not (eqb k AMENDMENT)) (not (eqb k CONTENT)) f) (allowed-first k ks p m r v vs e) in
-    let h = canons ks (traceOf k (shown k p r v)) (marksOf k m (shown k p r v)) r vs more (and-right (not (eqb k AMENDMENT) && not (eqb k CONTENT)) (single ks) s) (allowed-rest k ks p m r v vs e) in
+    let f = and-left (not (eqb k AMENDMENT) && not (isContent k)) (single ks) s in
+    let g = kind-value k p r v (and-left (not (eqb k AMENDMENT)) (not (isContent k)) f) (and-right (not (eqb k AMENDMENT)) (not (isContent k)) f) (allowed-first k ks p m r v vs e) in
+    let h = canons ks (traceOf k (shown k p r v)) (marksOf k m (shown k p r v)) r vs more (and-right (not (eqb k AMENDMENT) && not (isContent k)) (single ks) s) (allowed-rest k ks p m r v vs e) in
     λ x. is-canon (plain k 0) r v g x ∷ h x
 
 fixed-slots : (t : MessageType) (k n : ℕ) (r : List ℕ) (vs : List Value) → single (take k (tableOf t)) ≡ true → eqb n k ≡ true → allowedFrom (take n (tableOf t)) 0 0 r vs ≡ true → padded (canonFrom (take k (tableOf t)) (at (padded vs))) ≡ padded vs
