@@ -14,7 +14,8 @@ use Rattle.shapes.specs.Picture.{isOf, fits, fitsAny, oneOf, run, within, start
 use Rattle.shapes.specs.Pieces.{pieces}
 use Rattle.rules.specs.Form.{isStamp, isKey, isIdent, isTzIdent, isFix, isClock, isTime, isBlock, isLevel, isPosition}
 use Rattle.rules.specs.Kind.{isForm}
-use Rattle.fields.specs.Aircraft.{aircraftOf, plainOf, prefixedOf}
+use Rattle.rules.specs.declared.Rule.the-variants.{New}
+use Rattle.fields.specs.Aircraft.{aircraftBy, aircraftOf, plainOf, prefixedOf}
 use Rattle.fields.specs.Ident.{identOf, tzIdentOf}
 use Rattle.fields.specs.Word.{wordOf}
 use Rattle.fields.specs.MessageType.{typeOf}
@@ -23,9 +24,9 @@ use Rattle.table.specs.Field.{markOf, contentOf, traceOf, marksOf, plain, readK
 use Rattle.table.specs.Read.{answerFrom, counted, answers, answerOf, routeIn, routeOf, routeFrom, routeAt}
 use Rattle.table.specs.Spacing.{ended, fieldsOf}
 use Rattle.table.specs.declared.walk.Fault.the-variants as fault
-use Rattle.table.specs.Table.{countWith, isCount, kindsOf, countIn, answerBy, routeBy, routeAtBy}
+use Rattle.table.specs.Table.{countWith, isCount, tableBy, kindsOf, countIn, answerBy, routeBy, routeAtBy}
 use Rattle.messages.specs.Read.{bodyRead}
-use Rattle.line.specs.Read.{headOf, restOf, readOf, refusalNumber, refusalPlace, lineNumber, linePlace, freeOf, freeAt}
+use Rattle.line.specs.Read.{typeBy, headOf, restOf, readBy, readOf, refusalNumber, refusalPlace, lineNumber, linePlace, freeOf, freeAt}
 use Rattle.line.specs.declared.Refusal.the-variants as refusal
 use Rattle.line.proofs.Refusal.number.Reads as number
 use Rattle.line.proofs.Refusal.place.Reads as place
@@ -34,36 +35,39 @@ use Rattle.line.proofs.read.Reads as read
 
 -- document 01's starred line is read
 pub refuses-every-line : (κs : _) (a : _) (r : _) (s : _) → read.Post κs a r s → now (a .0) ≡ bytes "000006143655KZMAHB" → lineNumber r ≡ 0
-unfolding readOf headOf restOf bodyRead typeOf allIn isStamp isOf fits fitsAny oneOf pieces within isDigit isLetter isAlnum all isNumeral isDigitTo codeOf number value digitOf
+unfolding readOf readBy typeBy headOf restOf bodyRead typeOf isForm allIn isStamp isOf fits fitsAny oneOf pieces within isDigit isLetter isAlnum all isNumeral isDigitTo codeOf number value digitOf
 refuses-every-line κs a r s p e = ap lineNumber (p .0 ∙ ap readOf e)
 
 -- the last line of its printed example has no computer number: 9, place 1
 pub reads-all-as-one : (κs : _) (a : _) (r : _) (s : _) → read.Post κs a r s → now (a .0) ≡ bytes "000506081900KZAATZ QQX12 315 250 3020N/08430W"
     → (lineNumber r ≡ 9) × (linePlace r ≡ 1)
-unfolding readOf headOf restOf bodyRead typeOf allIn isStamp isOf fits pieces within isDigit isLetter isAlnum all isNumeral isDigitTo codeOf number value digitOf answerBy isCount countIn fieldsOf ended countWith answerOf answers counted kindsOf answerFrom readIn readKind plain isTzIdent isForm isPairForm pairOf tzIdentOf upTo has joins oneOf fitsAny follows
+unfolding readOf readBy typeBy headOf restOf bodyRead typeOf allIn isStamp isOf fits pieces within isDigit isLetter isAlnum all isNumeral isDigitTo codeOf number value digitOf answerBy isCount countIn fieldsOf ended countWith answerOf answers counted kindsOf tableBy answerFrom readIn readKind plain isTzIdent isForm isPairForm pairOf tzIdentOf upTo has joins oneOf fitsAny follows
 reads-all-as-one κs a r s p e = (ap lineNumber (p .0 ∙ ap readOf e), ap linePlace (p .0 ∙ ap readOf e))
 
 -- of a line whose sequence and stamp are both wrong the sequence is answered
 pub answers-4-and-5-exchanged : (κs : _) (a : _) (r : _) (s : _) → read.Post κs a r s → now (a .0) ≡ bytes "000G32143655KZMAHB" → lineNumber r ≡ 4
-unfolding readOf headOf allIn isOf fits isDigit isLetter isAlnum all
+unfolding readOf readBy headOf isForm allIn isOf fits isDigit isLetter isAlnum all
 answers-4-and-5-exchanged κs a r s p e = ap lineNumber (p .0 ∙ ap readOf e)
 
 -- the body of an HB begins after its type
-pub free-with-type : (κs : _) (a : _) (r : _) (s : _) → free.Post κs a r s → now (a .0) ≡ bytes "000006143655KZMAHB UP" → now r ≡ bytes " UP"
-unfolding freeOf typeOf fits isOf
-free-with-type κs a r s p e = p .0 ∙ ap freeOf e
+pub free-with-type : (κs : _) (a : _) (r : _) (s : _) → free.Post κs a r s → a .0 ≡ New → now (a .1 .0) ≡ bytes "000006143655KZMAHB UP" → now r ≡ bytes " UP"
+unfolding freeOf typeBy typeOf fits isOf
+free-with-type κs a r s p n e = p .0 ∙ ap (λ ρ. freeOf ρ (now (a .1 .0))) n ∙ ap (freeOf New) e
 
 -- the route of an FZ is its last field, without the space before it
-pub route-with-its-space : (κs : _) (a : _) (r : _) (s : _) → free.Post κs a r s
-    → now (a .0) ≡ bytes "000106081500KZAAFZ QQX12 C172/A 0120 ABC P0816 050 ABC..DEF" → now r ≡ bytes "ABC..DEF"
-unfolding freeOf typeOf fits isOf routeBy routeOf routeIn fieldsOf ended pieces plain
-route-with-its-space κs a r s p e = p .0 ∙ ap freeOf e
+pub route-with-its-space : (κs : _) (a : _) (r : _) (s : _) → free.Post κs a r s → a .0 ≡ New
+    → now (a .1 .0) ≡ bytes "000106081500KZAAFZ QQX12 C172/A 0120 ABC P0816 050 ABC..DEF" → now r ≡ bytes "ABC..DEF"
+unfolding freeOf typeBy typeOf fits isOf routeBy tableBy routeOf routeIn fieldsOf ended pieces plain
+route-with-its-space κs a r s p n e = p .0 ∙ ap (λ ρ. freeOf ρ (now (a .1 .0))) n ∙ ap (freeOf New) e
 
 -- of two equal fields the route is the one after the number 10: the part that is handed back lies 36 bytes after the line's first
-pub an-equal-field-for-the-route : (κs : _) (a : _) (r : _) (s : _) → free.Post κs a r s → now (a .0) ≡ bytes "000106081500KZAAAF QQX12 ABC ABC 10 ABC"
-    → (now r ≡ bytes "ABC") × (r .ptr ≡ startsAt (a .0 .ptr) 36)
-unfolding freeOf freeAt typeOf fits isOf routeBy routeAtBy routeOf routeAt routeIn routeFrom fieldsOf ended pieces plain traceOf contentOf markOf
-an-equal-field-for-the-route κs a r s p e = (p .0 ∙ ap freeOf e, p .1 ∙ ap (λ x. startsAt (a .0 .ptr) (freeAt x)) e)
+pub an-equal-field-for-the-route : (κs : _) (a : _) (r : _) (s : _) → free.Post κs a r s → a .0 ≡ New → now (a .1 .0) ≡ bytes "000106081500KZAAAF QQX12 ABC ABC 10 ABC"
+    → (now r ≡ bytes "ABC") × (r .ptr ≡ startsAt (a .1 .0 .ptr) 36)
+unfolding freeOf freeAt typeBy typeOf fits isOf routeBy routeAtBy tableBy routeOf routeAt routeIn routeFrom fieldsOf ended pieces plain traceOf contentOf markOf
+an-equal-field-for-the-route κs a r s p n e = (
+  p .0 ∙ ap (λ ρ. freeOf ρ (now (a .1 .0))) n ∙ ap (freeOf New) e,
+  p .1 ∙ ap (λ ρ. startsAt (a .1 .0 .ptr) (freeAt ρ (now (a .1 .0)))) n ∙ ap (λ x. startsAt (a .1 .0 .ptr) (freeAt New x)) e,
+)
 
 -- ---- faults of fields; antt computes what the rules say
 
@@ -75,9 +79,9 @@ at s = (lineNumber (readOf (bytes s)), linePlace (readOf (bytes s)))
 told : (at "000106081500KZAAAF QQX12 ABC DEF 08 050 08 060" ≡ (10, 6)) × (at "000106081500KZAAAF QQX12 ABC DEF 04 050" ≡ (10, 4))
     × (at "000106081500KZAAFZ QQX12 C172/A 0120 ABC E0816 050 ABC..DEF" ≡ (9, 5))
     × (at "000106081500KZAAUZ QQX12 C172/A 0120 ABC P0816 350B310 ABC..DEF" ≡ (9, 6)) × (at "000106081500KZAAAF QQX12 ABC DEF 08 99B100 09 100B99" ≡ (9, 7))
-unfolding readOf headOf restOf bodyRead typeOf allIn isStamp isOf fits pieces within isDigit isLetter isAlnum all isNumeral isDigitTo codeOf number value digitOf answerBy
-    isCount countIn fieldsOf ended countWith answerOf answers counted kindsOf answerFrom readIn readKind plain isTzIdent isForm isPairForm pairOf tzIdentOf upTo has joins
-    oneOf fitsAny follows identOf isIdent isKey run readMark markOf traceOf marksOf contentOf barred aircraftOf plainOf prefixedOf wordOf isTime isClock isFix isBlock isLevel isPosition
+unfolding readOf readBy typeBy headOf restOf bodyRead typeOf allIn isStamp isOf fits pieces within isDigit isLetter isAlnum all isNumeral isDigitTo codeOf number value digitOf answerBy
+    isCount countIn fieldsOf ended countWith answerOf answers counted kindsOf tableBy answerFrom readIn readKind plain isTzIdent isForm isPairForm pairOf tzIdentOf upTo has joins
+    oneOf fitsAny follows identOf isIdent isKey run readMark markOf traceOf marksOf contentOf barred aircraftBy aircraftOf plainOf prefixedOf wordOf isTime isClock isFix isBlock isLevel isPosition
     before after
 told = (refl, refl, refl, refl, refl)
 

@@ -23,8 +23,8 @@ use Rattle.fields.proofs.HeadLaws.{sequence-lawful, stamp-lawful, facility-lawf
 use Rattle.fields.proofs.TypeLaws.{type-sound, type-complete, length-type}
 use Rattle.table.specs.Table.{hasType}
 use Rattle.line.specs.Read.{ofRule, typeBy, typed, headOf}
-use Rattle.line.specs.declared.heads.Head.{Head}
-use Rattle.line.specs.declared.heads.HeadRead.the-variants as head
+use Rattle.line.specs.declared.front.Head.{Head}
+use Rattle.line.specs.declared.front.HeadRead.the-variants as head
 use Rattle.line.specs.declared.Refusal.the-variants.{NoSequence, NoStamp, NoFacility}
 
 -- ---- a line is its five parts
@@ -150,10 +150,10 @@ head-sound ρ s h =
 pub head-complete : (ρ : Rule) (s : List ℕ) (h : Head) → IsHeadOf ρ h s → headOf ρ s ≡ head.Read h
 unfolding headOf
 head-complete ρ s h k =
-    let a = sequence-lawful ρ .forth (h .sequence) (k .sequence-held) in
-    let b = stamp-lawful ρ .forth (h .stamp) (k .stamp-held) in
-    let c = facility-lawful ρ .forth (h .facility) (k .facility-held) in
-    rw (← (k .sequence-text), ← (k .stamp-text), ← (k .facility-text), a .0, b .0, c .0, k .type-read, a .1, b .1, c .1)
+    let a : (sequenceIn ρ .form (sequencePart ρ s) ≡ true) × (sequenceIn ρ .kept (sequencePart ρ s) ≡ h .sequence) = rw (← (k .sequence-text)) (sequence-lawful ρ .forth (h .sequence) (k .sequence-held)) in
+    let b : (stampIn ρ .form (stampPart ρ s) ≡ true) × (stampIn ρ .kept (stampPart ρ s) ≡ h .stamp) = rw (← (k .stamp-text)) (stamp-lawful ρ .forth (h .stamp) (k .stamp-held)) in
+    let c : (facilityIn ρ .form (facilityPart ρ s) ≡ true) × (facilityIn ρ .kept (facilityPart ρ s) ≡ h .facility) = rw (← (k .facility-text)) (facility-lawful ρ .forth (h .facility) (k .facility-held)) in
+    rw (a .0, b .0, c .0, k .type-read, a .1, b .1, c .1)
 
 -- ---- the line that a head and a body make
 

@@ -8,6 +8,8 @@ use denote.Ref.{now}
 use Rattle.text.specs.Text.{textOf}
 use Rattle.rules.specs.Kind.{LEVEL, isForm}
 use Rattle.rules.specs.Level as level
+use Rattle.rules.specs.declared.Rule.{Rule}
+use Rattle.rules.specs.declared.Rule.the-variants.{New, Old}
 use Rattle.rules.specs.Level.{Falls}
 use Rattle.rules.proofs.Levels.{level-exactly}
 use Rattle.fields.proofs.WordLaws.{word-form}
@@ -17,32 +19,47 @@ use Rattle.table.specs.Fault.{fieldAt}
 use Rattle.table.specs.Levels.{LevelAt}
 use Rattle.table.proofs.Levels.{level-right, level-falls}
 use Rattle.messages.specs.Levels.{levelsIn}
+use Rattle.messages.specs.Reading.{readingOf, oldReadingOf}
 use Rattle.messages.specs.declared.Message.{Message}
+use Rattle.messages.specs.declared.OldMessage.{OldMessage}
+use Rattle.messages.specs.declared.Reading.{Reading}
 use Rattle.messages.proofs.Levels.{body-levels}
 use Rattle.line.specs.Cases.{RightUpTo}
-use Rattle.line.specs.Line.{isAllowed}
-use Rattle.line.specs.Read.{lineNumber, linePlace}
-use Rattle.line.specs.declared.LineRead.the-variants.{Read}
+use Rattle.line.specs.Line.{isAllowedBy}
+use Rattle.line.specs.Read.{lineNumber, linePlace, oldNumber, oldPlace}
+use Rattle.line.specs.declared.LineRead.the-variants as new
+use Rattle.line.specs.declared.OldRead.the-variants as old
 use Rattle.line.proofs.Cases.{wrong-there, right-there}
 use Rattle.line.proofs.Steps.{allowed-allows}
-use Rattle.line.proofs.Theorems.{reads-allowed}
+use Rattle.line.proofs.Theorems.{reads-allowed, old-reads-allowed, new-number, new-place, old-number, old-place}
 use Rattle.line.proofs.read.Reads as read
+use Rattle.line.proofs.read_old.Reads as read-old
 
-pub allowed-levels : (m : Message) (r : List ℕ) → isAllowed m r ≡ true → (l : Level) → List·Memᴰ l (levelsIn (m .body)) → level.Level (textOf (l .0))
+pub allowed-levels : (ρ : Rule) (y : Reading) (r : List ℕ) → isAllowedBy ρ y r ≡ true → (l : Level) → List·Memᴰ l (levelsIn (y .body)) → level.Level (textOf (l .0))
 unfolding isForm
-allowed-levels m r e l x = level-exactly (textOf (l .0)) .0 (word-form LEVEL (l .0) (body-levels (m .body) r (m .trailing) (allowed-allows m r e .body) l x))
+allowed-levels ρ y r e l x = level-exactly (textOf (l .0)) .0 (word-form LEVEL (l .0) (body-levels ρ (y .body) r (y .trailing) (allowed-allows ρ y r e .body) l x))
 
--- what `line::read` hands out: `Post` is its `ensures` as it stands in the source
-pub read-levels : (κs : _) (a : _) (r : _) (s : _) (m : Message) → read.Post κs a r s → r ≡ Read m → (l : Level) → List·Memᴰ l (levelsIn (m .body)) → level.Level (textOf (l .0))
-read-levels κs a r s m p e = allowed-levels m _ (reads-allowed (now (a .0)) m (sym (p .0) ∙ e) .0)
+-- what `line::read` and `line::read_old` hand out: `Post` is the `ensures` as it stands in the source
+pub read-levels : (κs : _) (a : _) (r : _) (s : _) (m : Message) → read.Post κs a r s → r ≡ new.Read m → (l : Level) → List·Memᴰ l (levelsIn (m .body)) → level.Level (textOf (l .0))
+read-levels κs a r s m p e = allowed-levels New (readingOf m) _ (reads-allowed (now (a .0)) m (sym (p .0) ∙ e) .0)
 
--- and what it refuses, of a line that is right up to the place of a level: a block that falls there, and no level
-pub read-falls : (κs : _) (a : _) (r : _) (s : _) → read.Post κs a r s → (t : MessageType) (fs : List (List ℕ)) (i : ℕ) → RightUpTo (now (a .0)) t fs i → LevelAt fs t i
+pub read-old-levels : (κs : _) (a : _) (r : _) (s : _) (m : OldMessage) → read-old.Post κs a r s → r ≡ old.Read m → (l : Level) → List·Memᴰ l (levelsIn (m .body)) → level.Level (textOf (l .0))
+read-old-levels κs a r s m p e = allowed-levels Old (oldReadingOf m) _ (old-reads-allowed (now (a .0)) m (sym (p .0) ∙ e) .0)
+
+-- and what they refuse, of a line that is right up to the place of a level: a block that falls there, and no level
+pub read-falls : (κs : _) (a : _) (r : _) (s : _) → read.Post κs a r s → (t : MessageType) (fs : List (List ℕ)) (i : ℕ) → RightUpTo New (now (a .0)) t fs i → LevelAt fs t i
     → Falls (fieldAt fs i) → (lineNumber r ≡ 9) × (linePlace r ≡ suc i)
 read-falls κs a r s p t fs i u l f =
-    let q = wrong-there (now (a .0)) t fs i u (level-falls t fs i (u .count) (u .inside) l f) in
-    (ap lineNumber (p .0) ∙ q .0, ap linePlace (p .0) ∙ q .1)
+    let q = wrong-there New (now (a .0)) t fs i u (level-falls New t fs i (u .count) (u .inside) l f) in
+    (ap lineNumber (p .0) ∙ new-number (now (a .0)) ∙ q .0, ap linePlace (p .0) ∙ new-place (now (a .0)) ∙ q .1)
 
-pub read-rises : (κs : _) (a : _) (r : _) (s : _) → read.Post κs a r s → (t : MessageType) (fs : List (List ℕ)) (i : ℕ) → RightUpTo (now (a .0)) t fs i → LevelAt fs t i
+pub read-old-falls : (κs : _) (a : _) (r : _) (s : _) → read-old.Post κs a r s → (t : MessageType) (fs : List (List ℕ)) (i : ℕ) → RightUpTo Old (now (a .0)) t fs i → LevelAt fs t i
+    → Falls (fieldAt fs i) → (oldNumber r ≡ 9) × (oldPlace r ≡ suc i)
+read-old-falls κs a r s p t fs i u l f =
+    let q = wrong-there Old (now (a .0)) t fs i u (level-falls Old t fs i (u .count) (u .inside) l f) in
+    (ap oldNumber (p .0) ∙ old-number (now (a .0)) ∙ q .0, ap oldPlace (p .0) ∙ old-place (now (a .0)) ∙ q .1)
+
+pub read-rises : (κs : _) (a : _) (r : _) (s : _) → read.Post κs a r s → (t : MessageType) (fs : List (List ℕ)) (i : ℕ) → RightUpTo New (now (a .0)) t fs i → LevelAt fs t i
     → level.Level (fieldAt fs i) → linePlace r ≡ suc i → ⊥
-read-rises κs a r s p t fs i u l v e = right-there (now (a .0)) t fs i u (level-right t fs i (u .count) (u .inside) l v) (sym (ap linePlace (p .0)) ∙ e)
+read-rises κs a r s p t fs i u l v e =
+    right-there New (now (a .0)) t fs i u (level-right New t fs i (u .count) (u .inside) l v) (sym (new-place (now (a .0))) ∙ sym (ap linePlace (p .0)) ∙ e)

@@ -1,10 +1,12 @@
 pub mod Ways
 pub mod Heads
 pub mod Steps
+pub mod Lines
 pub mod Theorems
 pub mod Placed
 pub mod CasesBodies
 pub mod Cases
+pub mod OldLines
 pub mod Levels
 pub mod Starred
 pub mod Unique

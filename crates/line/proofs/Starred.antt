@@ -19,11 +19,11 @@ use Rattle.fields.specs.Facility.{facilityText}
 use Rattle.fields.specs.MessageType.{typeOf}
 use Rattle.messages.specs.Body.{bodyFrom}
 use Rattle.messages.specs.Read.{bodyRead}
-use Rattle.line.specs.Read.{headOf, restOf, readOf, freeOf}
+use Rattle.line.specs.Read.{typeBy, headOf, restOf, readBy, readOf, freeOf}
 use Rattle.meanings.specs.Meaning.{decimalOf, inMinutes, minutesOf, momentOf, momentIn}
 use Rattle.meanings.specs.Age.{isLastDay, dayBefore, ageOf, ageIn}
 use Rattle.line.specs.Starred.{Row, answer, table}
 
 pub starred : map (λ (r : Row). answer (r .asked)) table ≡ map (λ (r : Row). r .told) table
-unfolding facilityText typeOf bodyFrom bodyRead headOf restOf readOf freeOf allIn places isStamp all isDigit isLetter isAlnum codeOf byteOf value digits packed textOf isDigitTo digitOf isNumeral numberOf readNumber isOf fits pieces fitsAny oneOf run within upTo has before after joins isKey isIdent isTzIdent isClock isPosition isForm wordOf isPairForm pairOf identFrom identOf plainOf prefixedOf aircraftOf decimalOf inMinutes minutesOf tight isPacked momentOf momentIn isLastDay dayBefore ageOf ageIn
+unfolding facilityText typeOf bodyFrom bodyRead typeBy headOf restOf readBy readOf freeOf allIn places isStamp all isDigit isLetter isAlnum codeOf byteOf value digits packed textOf isDigitTo digitOf isNumeral numberOf readNumber isOf fits pieces fitsAny oneOf run within upTo has before after joins isKey isIdent isTzIdent isClock isPosition isForm wordOf isPairForm pairOf identFrom identOf plainOf prefixedOf aircraftOf decimalOf inMinutes minutesOf tight isPacked momentOf momentIn isLastDay dayBefore ageOf ageIn
 starred = refl

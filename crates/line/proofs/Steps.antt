@@ -25,9 +25,9 @@ use Rattle.messages.specs.declared.typed.BodyRead.{BodyRead}
 use Rattle.messages.specs.declared.typed.BodyRead.the-variants as body
 use Rattle.line.specs.Line.{lineBy, isHeadBy, hasSizeBy, isAllowedBy}
 use Rattle.line.specs.Read.{headOf, withBody, restOf, byHead, readBy, freeBy, freeOf}
-use Rattle.line.specs.declared.heads.Head.{Head}
-use Rattle.line.specs.declared.heads.HeadRead.{HeadRead}
-use Rattle.line.specs.declared.heads.HeadRead.the-variants as head
+use Rattle.line.specs.declared.front.Head.{Head}
+use Rattle.line.specs.declared.front.HeadRead.{HeadRead}
+use Rattle.line.specs.declared.front.HeadRead.the-variants as head
 use Rattle.line.specs.declared.RuleRead.the-variants.{Read, Refused}
 use Rattle.line.specs.declared.Refusal.{Refusal}
 use Rattle.line.specs.declared.Refusal.the-variants.{Short, Long, Unprintable, LongPlan, Body}
@@ -95,8 +95,8 @@ module _ (ρ : Rule) (x : Reading) where
 -- ---- the free text of a line that passes
 
 module _ (ρ : Rule) (s : List ℕ) (x : Reading) (k : MessageType) (p : Passes ρ s x k) where
-  pub passes-head : IsHeadOf (headIn x k) s
-  passes-head = head-sound s (headIn x k) (p .head)
+  pub passes-head : IsHeadOf ρ (headIn x k) s
+  passes-head = head-sound ρ s (headIn x k) (p .head)
 
   pub passes-free : freeOf ρ s ≡ freeBy ρ (type.Read k) (bodyPart ρ s)
   unfolding freeOf

@@ -1,108 +1,147 @@
--- THE THEOREMS of a line under the rule ρ, demand 2: what reads is allowed and its text is the line, and the text of every allowed reading
--- reads as it. The same of messages, of the feed and of the old feed, stands in `Messages`. Assumes nothing.
+-- THE THEOREMS of demand 2 about messages, of the feed and of the old feed: what reads is allowed and its text is the line, and the text of every
+-- allowed message reads as that message. Each is the theorem of lines under its rule (`Lines`). Assumes nothing.
 use mathlib.Core.Path.{_≡_, refl, sym, ap, _∙_}
-use mathlib.Core.Bool.{Bool, true, false}
+use mathlib.Core.Bool.{true}
 use mathlib.Core.List.{List}
-use Prim.Native.Nat.{ℕ, _+_, _≤_}
+use Prim.Native.Nat.{ℕ, _≤_}
 use native.Mathlib.Omega.{arith}
-use lib.Dec.{ltb}
-use lib.ListN.{length, length-drop}
-use lib.Seq.{take-length, drop-drop}
-use borrow.Author.Tests.{ltb-false}
-use Rattle.shapes.specs.Picture.{part}
-use Rattle.rules.specs.declared.Rule.{Rule}
-use Rattle.fields.specs.Head.{bodyPart, headLength, typePart}
-use Rattle.fields.specs.declared.heads.MessageType.{MessageType}
-use Rattle.fields.specs.declared.heads.TypeRead.{TypeRead}
-use Rattle.fields.specs.declared.heads.TypeRead.the-variants as type
-use Rattle.messages.specs.Body.{typeIn}
-use Rattle.messages.specs.Allowed.{bodyText, isBody}
+use borrow.Author.Tests.{eqb-true}
+use Rattle.rules.specs.declared.Rule.the-variants.{New, Old}
+use Rattle.messages.specs.Reading.{readingOf, messageOf, oldReadingOf, oldMessageOf}
+use Rattle.messages.specs.declared.Message.{Message}
+use Rattle.messages.specs.declared.OldMessage.{OldMessage}
 use Rattle.messages.specs.declared.Reading.{Reading}
-use Rattle.messages.proofs.Theorems.{body-sound, body-complete}
-use Rattle.line.specs.Line.{lineBy, isAllowedBy}
-use Rattle.line.specs.Read.{typeBy, readBy, refusalNumber, numberBy, freeBy, freeOf, freeAt}
+use Rattle.line.specs.Line.{lineOf, isAllowed, oldLineOf, isOldAllowed}
+use Rattle.line.specs.Read.{readBy, newly, oldly, readOf, oldReadOf, numberBy, placeBy, lineNumber, linePlace, oldNumber, oldPlace, freeOf}
+use Rattle.line.specs.declared.LineRead.{LineRead}
+use Rattle.line.specs.declared.LineRead.the-variants as new
+use Rattle.line.specs.declared.OldRead.{OldRead}
+use Rattle.line.specs.declared.OldRead.the-variants as old
 use Rattle.line.specs.declared.RuleRead.{RuleRead}
 use Rattle.line.specs.declared.RuleRead.the-variants.{Read, Refused}
-use Rattle.line.specs.declared.Refusal.{Refusal}
-use Rattle.line.specs.declared.Refusal.the-variants.{Short, Long, Unprintable, NoSequence, NoStamp, NoFacility, NoType, LongPlan, Body}
-use Rattle.table.specs.Table.{hasFields, freeIn, freeAtIn}
-use Rattle.table.proofs.RoutePlaces.{StandsAt, route-part-by}
-use Rattle.table.specs.declared.walk.Fault.the-variants.{Spacing, Field, Number}
-use Rattle.line.proofs.Heads.{printable-left}
-use Rattle.line.proofs.Steps.{reads-passes, passes-reads, passes-free, passes-text, passes-allows, allowed-allows, allows-allowed, allows-passes, text-body}
+use Rattle.line.proofs.Lines as lines
+use Rattle.line.proofs.Lines.{refusal-numbers}
+use Rattle.line.proofs.Steps.{allowed-allows}
 
-module _ (ρ : Rule) where
-  -- what reads is allowed, and its text is the line
-  pub reads-allowed : (s : List ℕ) (x : Reading) → readBy ρ s ≡ Read x → (isAllowedBy ρ x (freeOf ρ s) ≡ true) × (lineBy ρ x (freeOf ρ s) ≡ s)
-  reads-allowed s x e =
-      let (k, p) = reads-passes ρ x s e in
-      let b : (typeIn (x .body) ≡ k) × (isBody ρ (x .body) (freeOf ρ s) (x .trailing) ≡ true) × (bodyText ρ (x .body) (freeOf ρ s) (x .trailing) ≡ bodyPart ρ s) =
-          rw (passes-free ρ s x k p) (body-sound ρ k (bodyPart ρ s) (x .body) (x .trailing) (printable-left (headLength ρ) s (p .printable)) (p .body)) in
-      (allows-allowed ρ x (freeOf ρ s) (passes-allows ρ s x k p (b .0) (b .2) (b .1)), passes-text ρ s x k p (b .0) (b .2))
+-- ---- a message and its reading give each other
 
-  -- the text of every allowed reading reads as it, and its free text is handed back
-  pub allowed-reads : (x : Reading) (r : List ℕ) → isAllowedBy ρ x r ≡ true → (readBy ρ (lineBy ρ x r) ≡ Read x) × (freeOf ρ (lineBy ρ x r) ≡ r)
-  allowed-reads x r e =
-      let a = allowed-allows ρ x r e in
-      let b = body-complete ρ (x .body) r (x .trailing) (a .body) in
-      let p = allows-passes ρ x r a (b .2) (b .0) in (
-        passes-reads ρ (lineBy ρ x r) x (typeIn (x .body)) p,
-        passes-free ρ (lineBy ρ x r) x (typeIn (x .body)) p ∙ ap (freeBy ρ (type.Read (typeIn (x .body)))) (text-body ρ x r a) ∙ b .1,
-      )
+-- of the old feed, since a line of it is read with no sequence number
+old-whole : (s : List ℕ) (x : Reading) → readBy Old s ≡ Read x → oldReadingOf (oldMessageOf x) ≡ x
+old-whole s x e =
+    let n = eqb-true (x .sequence) 0 (allowed-allows Old x (freeOf Old s) (lines.reads-allowed Old s x e .0) .sequence-held) in
+    λ i. record { sequence = sym n i; stamp = x .stamp; facility = x .facility; body = x .body; trailing = x .trailing }
 
-  -- a line is refused exactly if no allowed reading has it as its text
-  pub refused-exactly : (s : List ℕ) → (((x : Reading) → readBy ρ s ≡ Read x → ⊥) → (x : Reading) (r : List ℕ) → isAllowedBy ρ x r ≡ true → lineBy ρ x r ≡ s → ⊥)
-      × (((x : Reading) (r : List ℕ) → isAllowedBy ρ x r ≡ true → lineBy ρ x r ≡ s → ⊥) → (x : Reading) → readBy ρ s ≡ Read x → ⊥)
-  refused-exactly s = (
-    λ none x r a e. none x (ap (readBy ρ) (sym e) ∙ allowed-reads x r a .0),
-    λ none x e. none x (freeOf ρ s) (reads-allowed s x e .0) (reads-allowed s x e .1),
-  )
-
-  -- at most one has
-  pub one-reading : (x y : Reading) (r q : List ℕ) → isAllowedBy ρ x r ≡ true → isAllowedBy ρ y q ≡ true → lineBy ρ x r ≡ lineBy ρ y q → (x ≡ y) × (r ≡ q)
-  one-reading x y r q a b e =
-      let c = allowed-reads x r a in
-      let d = allowed-reads y q b in
-      ((cc), sym (c .1) ∙ ap (freeOf ρ) e ∙ d .1)
-
--- a refusal has one of the numbers 1 to 11: not the 0 of a line that reads, nor the 12 of a full board, nor 18, which stays unused
-pub refusal-numbers : (x : Refusal) → (1 ≤ refusalNumber x) × (refusalNumber x ≤ 11)
-refusal-numbers Short = (omega arith, omega arith)
-refusal-numbers Long = (omega arith, omega arith)
-refusal-numbers Unprintable = (omega arith, omega arith)
-refusal-numbers NoSequence = (omega arith, omega arith)
-refusal-numbers NoStamp = (omega arith, omega arith)
-refusal-numbers NoFacility = (omega arith, omega arith)
-refusal-numbers NoType = (omega arith, omega arith)
-refusal-numbers LongPlan = (omega arith, omega arith)
-refusal-numbers (Body Spacing) = (omega arith, omega arith)
-refusal-numbers (Body (Field i)) = (omega arith, omega arith)
-refusal-numbers (Body (Number i)) = (omega arith, omega arith)
-
--- so a line is answered 0 to 11
-pub line-numbers : (r : RuleRead) → numberBy r ≤ 11
-line-numbers (Read x) = omega arith
-line-numbers (Refused y) = refusal-numbers y .1
-
--- ---- the free text is a part of the line
-
--- its bytes are those of the line from its place on, and they end inside the line
-pub free-part : (ρ : Rule) (s : List ℕ) → (freeOf ρ s ≡ part (freeAt ρ s) (length (freeOf ρ s)) s) × (freeAt ρ s + length (freeOf ρ s) ≤ length s)
-unfolding freeOf freeAt
-free-part ρ s = go (ltb (length s) (headLength ρ)) refl (typeBy ρ (typePart ρ s)) refl
+pub new-read : (s : List ℕ) (m : Message) → readOf s ≡ new.Read m → readBy New s ≡ Read (readingOf m)
+unfolding readOf
+new-read s m e = go (readBy New s) refl e
   where
-    -- a part of the body is that part of the line, the head's bytes further on
-    body : headLength ρ ≤ length s → {i : ℕ} {r : List ℕ} → StandsAt i r (bodyPart ρ s) → (r ≡ part (headLength ρ + i) (length r) s) × (headLength ρ + i + length r ≤ length s)
-    body h {i} {r} a = (sym (a .bytes) ∙ rw (drop-drop i (headLength ρ) s), omega (arith, a .inside, length-drop (headLength ρ) s))
+    go : (x : RuleRead) → readBy New s ≡ x → newly x ≡ new.Read m → readBy New s ≡ Read (readingOf m)
+    go (Read x) q d = let z : messageOf x ≡ m = cc in q ∙ ap (λ (n : Message). Read (readingOf n)) z
+    go (Refused y) q d = absurd (let z : _≡_ {A = ℕ} 0 1 = cc in omega arith)
 
-    by : headLength ρ ≤ length s → (t : MessageType) (c : Bool) → hasFields t ≡ c
-        → (freeIn ρ t (bodyPart ρ s) ≡ part (headLength ρ + freeAtIn ρ t (bodyPart ρ s)) (length (freeIn ρ t (bodyPart ρ s))) s)
-        × (headLength ρ + freeAtIn ρ t (bodyPart ρ s) + length (freeIn ρ t (bodyPart ρ s)) ≤ length s)
-    by h t true q = rw q (body h (route-part-by ρ t (bodyPart ρ s)))
-    by h t false q = rw q (body h {i = 0} (record { bytes = take-length (bodyPart ρ s); inside = omega arith }))
+pub old-read : (s : List ℕ) (m : OldMessage) → oldReadOf s ≡ old.Read m → readBy Old s ≡ Read (oldReadingOf m)
+unfolding oldReadOf
+old-read s m e = go (readBy Old s) refl e
+  where
+    go : (x : RuleRead) → readBy Old s ≡ x → oldly x ≡ old.Read m → readBy Old s ≡ Read (oldReadingOf m)
+    go (Read x) q d =
+        let z : oldMessageOf x ≡ m = cc in
+        q ∙ ap Read (sym (old-whole s x q)) ∙ ap (λ (n : OldMessage). Read (oldReadingOf n)) z
+    go (Refused y) q d = absurd (let z : _≡_ {A = ℕ} 0 1 = cc in omega arith)
 
-    go : (c : Bool) → ltb (length s) (headLength ρ) ≡ c → (x : TypeRead) → typeBy ρ (typePart ρ s) ≡ x
-        → (freeOf ρ s ≡ part (freeAt ρ s) (length (freeOf ρ s)) s) × (freeAt ρ s + length (freeOf ρ s) ≤ length s)
-    go true q x e = rw q (refl, omega arith)
-    go false q type.Nothing e = rw (q, e) (refl, omega arith)
-    go false q (type.Read t) e = rw (q, e) (by (ltb-false (length s) (headLength ρ) q) t (hasFields t) refl)
+pub read-new : (s : List ℕ) (m : Message) → readBy New s ≡ Read (readingOf m) → readOf s ≡ new.Read m
+unfolding readOf
+read-new s m e = ap newly e
+
+pub read-old : (s : List ℕ) (m : OldMessage) → readBy Old s ≡ Read (oldReadingOf m) → oldReadOf s ≡ old.Read m
+unfolding oldReadOf
+read-old s m e = ap oldly e
+
+-- ---- the feed
+
+-- what reads is allowed, and its text is the line
+pub reads-allowed : (s : List ℕ) (m : Message) → readOf s ≡ new.Read m → (isAllowed m (freeOf New s) ≡ true) × (lineOf m (freeOf New s) ≡ s)
+reads-allowed s m e = lines.reads-allowed New s (readingOf m) (new-read s m e)
+
+-- the text of every allowed message reads as that message, and its free text is handed back
+pub allowed-reads : (m : Message) (r : List ℕ) → isAllowed m r ≡ true → (readOf (lineOf m r) ≡ new.Read m) × (freeOf New (lineOf m r) ≡ r)
+allowed-reads m r e = let a = lines.allowed-reads New (readingOf m) r e in (read-new (lineOf m r) m (a .0), a .1)
+
+-- a line is refused exactly if no allowed message has it as its text
+pub refused-exactly : (s : List ℕ) → (((m : Message) → readOf s ≡ new.Read m → ⊥) → (m : Message) (r : List ℕ) → isAllowed m r ≡ true → lineOf m r ≡ s → ⊥)
+    × (((m : Message) (r : List ℕ) → isAllowed m r ≡ true → lineOf m r ≡ s → ⊥) → (m : Message) → readOf s ≡ new.Read m → ⊥)
+refused-exactly s = (
+  λ none m r a e. none m (ap readOf (sym e) ∙ allowed-reads m r a .0),
+  λ none m e. none m (freeOf New s) (reads-allowed s m e .0) (reads-allowed s m e .1),
+)
+
+-- at most one has
+pub one-message : (m n : Message) (r q : List ℕ) → isAllowed m r ≡ true → isAllowed n q ≡ true → lineOf m r ≡ lineOf n q → (m ≡ n) × (r ≡ q)
+one-message m n r q a b e = let z = lines.one-reading New (readingOf m) (readingOf n) r q a b e in (ap messageOf (z .0), z .1)
+
+-- ---- the old feed
+
+pub old-reads-allowed : (s : List ℕ) (m : OldMessage) → oldReadOf s ≡ old.Read m → (isOldAllowed m (freeOf Old s) ≡ true) × (oldLineOf m (freeOf Old s) ≡ s)
+old-reads-allowed s m e = lines.reads-allowed Old s (oldReadingOf m) (old-read s m e)
+
+pub old-allowed-reads : (m : OldMessage) (r : List ℕ) → isOldAllowed m r ≡ true → (oldReadOf (oldLineOf m r) ≡ old.Read m) × (freeOf Old (oldLineOf m r) ≡ r)
+old-allowed-reads m r e = let a = lines.allowed-reads Old (oldReadingOf m) r e in (read-old (oldLineOf m r) m (a .0), a .1)
+
+pub old-refused-exactly : (s : List ℕ) → (((m : OldMessage) → oldReadOf s ≡ old.Read m → ⊥) → (m : OldMessage) (r : List ℕ) → isOldAllowed m r ≡ true → oldLineOf m r ≡ s → ⊥)
+    × (((m : OldMessage) (r : List ℕ) → isOldAllowed m r ≡ true → oldLineOf m r ≡ s → ⊥) → (m : OldMessage) → oldReadOf s ≡ old.Read m → ⊥)
+old-refused-exactly s = (
+  λ none m r a e. none m (ap oldReadOf (sym e) ∙ old-allowed-reads m r a .0),
+  λ none m e. none m (freeOf Old s) (old-reads-allowed s m e .0) (old-reads-allowed s m e .1),
+)
+
+pub one-old-message : (m n : OldMessage) (r q : List ℕ) → isOldAllowed m r ≡ true → isOldAllowed n q ≡ true → oldLineOf m r ≡ oldLineOf n q → (m ≡ n) × (r ≡ q)
+one-old-message m n r q a b e = let z = lines.one-reading Old (oldReadingOf m) (oldReadingOf n) r q a b e in (ap oldMessageOf (z .0), z .1)
+
+-- ---- the number and the place of a line
+
+pub new-number : (s : List ℕ) → lineNumber (readOf s) ≡ numberBy (readBy New s)
+unfolding readOf
+new-number s = go (readBy New s)
+  where
+    go : (x : RuleRead) → lineNumber (newly x) ≡ numberBy x
+    go (Read x) = refl
+    go (Refused y) = refl
+
+pub new-place : (s : List ℕ) → linePlace (readOf s) ≡ placeBy (readBy New s)
+unfolding readOf
+new-place s = go (readBy New s)
+  where
+    go : (x : RuleRead) → linePlace (newly x) ≡ placeBy x
+    go (Read x) = refl
+    go (Refused y) = refl
+
+pub old-number : (s : List ℕ) → oldNumber (oldReadOf s) ≡ numberBy (readBy Old s)
+unfolding oldReadOf
+old-number s = go (readBy Old s)
+  where
+    go : (x : RuleRead) → oldNumber (oldly x) ≡ numberBy x
+    go (Read x) = refl
+    go (Refused y) = refl
+
+pub old-place : (s : List ℕ) → oldPlace (oldReadOf s) ≡ placeBy (readBy Old s)
+unfolding oldReadOf
+old-place s = go (readBy Old s)
+  where
+    go : (x : RuleRead) → oldPlace (oldly x) ≡ placeBy x
+    go (Read x) = refl
+    go (Refused y) = refl
+
+pub line-numbers : (r : LineRead) → lineNumber r ≤ 11
+line-numbers (new.Read m) = omega arith
+line-numbers (new.Refused x) = refusal-numbers x .1
+
+-- the number is 0 exactly if the line reads
+pub number-zero : (s : List ℕ) → lineNumber (readOf s) ≡ 0 → (m : Message) × (readOf s ≡ new.Read m)
+number-zero s e = go (readOf s) e
+  where
+    go : (r : LineRead) → lineNumber r ≡ 0 → (m : Message) × (r ≡ new.Read m)
+    go (new.Read m) e = (m, refl)
+    go (new.Refused x) e = absurd (omega (arith, refusal-numbers x .0, e))
+
+pub zero-number : (s : List ℕ) (m : Message) → readOf s ≡ new.Read m → lineNumber (readOf s) ≡ 0
+zero-number s m e = ap lineNumber e

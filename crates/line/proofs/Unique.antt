@@ -6,9 +6,13 @@ use Rattle.line.proofs.Refusal.number.Reads as number
 use Rattle.line.proofs.Refusal.place.Reads as place
 use Rattle.line.proofs.free.Reads as free
 use Rattle.line.proofs.read.Reads as read
+use Rattle.line.proofs.read_old.Reads as read-old
 
 pub read-one : (κs : _) (a : _) (r r′ : _) (s s′ : _) → read.Post κs a r s → read.Post κs a r′ s′ → r ≡ r′
 read-one κs a r r′ s s′ p q = p .0 ∙ sym (q .0)
+
+pub read-old-one : (κs : _) (a : _) (r r′ : _) (s s′ : _) → read-old.Post κs a r s → read-old.Post κs a r′ s′ → r ≡ r′
+read-old-one κs a r r′ s s′ p q = p .0 ∙ sym (q .0)
 
 pub number-one : (κs : _) (a : _) (r r′ : _) (s s′ : _) → number.Post κs a r s → number.Post κs a r′ s′ → r ≡ r′
 number-one κs a r r′ s s′ p q = p ∙ sym q

@@ -4,7 +4,7 @@ use mathlib.Core.Bool.{Bool, true, false}
 use mathlib.Core.List.{List, []}
 use Prim.Native.Nat.{ℕ, _+_, _-_, _≤_, _<_}
 use native.Mathlib.Omega.{arith}
-use lib.ListN.{length, take}
+use lib.ListN.{length, take, drop}
 use borrow.Author.Tests.{lt-ltb, le-ltb}
 use Rattle.text.specs.Place.{value, allIn}
 use Rattle.text.specs.Text.{packed}
@@ -15,7 +15,7 @@ use Rattle.rules.specs.Form.{isFacility}
 use Rattle.rules.specs.Frame.{longestLine}
 use Rattle.rules.specs.Kind.{SEQUENCE, STAMP, isForm}
 use Rattle.rules.specs.declared.Rule.{Rule}
-use Rattle.fields.specs.Head.{sequenceIn, stampIn, facilityIn, sequencePart, stampPart, facilityPart, typePart, bodyPart, headLength}
+use Rattle.fields.specs.Head.{sequenceIn, stampIn, facilityIn, sequencePart, stampPart, facilityPart, typePart, bodyPart, typeAt, headLength}
 use Rattle.fields.specs.Word.{wordOf}
 use Rattle.fields.specs.Typed.{asSequence, asStamp}
 use Rattle.fields.specs.declared.frame.Sequence.{Sequence}
@@ -35,9 +35,9 @@ use Rattle.table.specs.Plan.{isLongPlan}
 use Rattle.messages.specs.Read.{bodyRead}
 use Rattle.messages.specs.declared.typed.BodyRead.{BodyRead}
 use Rattle.line.specs.Read.{typeBy, headOf, withBody, restOf, byHead, readBy, freeOf, freeAt}
-use Rattle.line.specs.declared.heads.Head.{Head}
-use Rattle.line.specs.declared.heads.HeadRead.{HeadRead}
-use Rattle.line.specs.declared.heads.HeadRead.the-variants as head
+use Rattle.line.specs.declared.front.Head.{Head}
+use Rattle.line.specs.declared.front.HeadRead.{HeadRead}
+use Rattle.line.specs.declared.front.HeadRead.the-variants as head
 use Rattle.line.specs.declared.RuleRead.the-variants.{Refused}
 use Rattle.line.specs.declared.Refusal.the-variants.{Short, Long, Unprintable, NoSequence, NoStamp, NoFacility, NoType, LongPlan}
 
@@ -177,6 +177,13 @@ module _ (ρ : Rule) (s : List ℕ) where
 pub part-of-part : (s : ℕ × ℕ) (a i : ℕ) {n : ℕ} → a + i ≡ n → startsAt (startsAt s a) i ≡ startsAt s n
 part-of-part s a i {n} e = let z : i + (a + s .1) ≡ n + s .1 = omega arith in ap (λ (x : ℕ). (s .0, x)) z
 
+-- the two bytes before the body are the type's letters
+pub letters-are : (ρ : Rule) (s : List ℕ) {at : ℕ} → at ≡ headLength ρ → take (at - (at - 2)) (drop (at - 2) s) ≡ typePart ρ s
+letters-are ρ s {at} e =
+    let f : at - 2 ≡ typeAt ρ = omega (arith, e) in
+    let n : at - (at - 2) ≡ 2 = omega (arith, e) in
+    rw (n, f)
+
 module _ (ρ : Rule) (s : List ℕ) where
   pub free-short : length s < headLength ρ → ([] ≡ freeOf ρ s) × (0 ≡ freeAt ρ s)
   unfolding freeOf freeAt
@@ -196,7 +203,7 @@ module _ (ρ : Rule) (s : List ℕ) where
       free-whole f =
           let i = free-is t e in
           let z : bodyPart ρ s ≡ freeIn ρ t (bodyPart ρ s) = rw f in
-          let y : headLength ρ ≡ headLength ρ + freeAtIn ρ t (bodyPart ρ s) = rw f in
+          let y : headLength ρ ≡ headLength ρ + freeAtIn ρ t (bodyPart ρ s) = rw f (omega arith) in
           (z ∙ i .0, y ∙ i .1)
 
       pub free-route : hasFields t ≡ true → (routeBy ρ t (bodyPart ρ s) ≡ freeOf ρ s) × (headLength ρ + routeAtBy ρ t (bodyPart ρ s) ≡ freeAt ρ s)

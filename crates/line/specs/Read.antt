@@ -20,9 +20,9 @@ use Rattle.messages.specs.Read.{bodyRead}
 use Rattle.messages.specs.Reading.{messageOf, oldMessageOf}
 use Rattle.messages.specs.declared.typed.BodyRead.{BodyRead}
 use Rattle.messages.specs.declared.typed.BodyRead.the-variants as body
-use Rattle.line.specs.declared.heads.Head.{Head}
-use Rattle.line.specs.declared.heads.HeadRead.{HeadRead}
-use Rattle.line.specs.declared.heads.HeadRead.the-variants as head
+use Rattle.line.specs.declared.front.Head.{Head}
+use Rattle.line.specs.declared.front.HeadRead.{HeadRead}
+use Rattle.line.specs.declared.front.HeadRead.the-variants as head
 use Rattle.line.specs.declared.LineRead.{LineRead}
 use Rattle.line.specs.declared.LineRead.the-variants as new
 use Rattle.line.specs.declared.OldRead.{OldRead}

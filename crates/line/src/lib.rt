@@ -1,11 +1,11 @@
 // One line of the feed, or of the old feed: read as a message, and its free text handed back as a part of it.
 
-mod heads;
+mod front;
 
-use crate::heads::Head;
-use crate::heads::HeadRead;
-use crate::heads::kind_of;
-use crate::heads::read_head;
+use crate::front::Head;
+use crate::front::HeadRead;
+use crate::front::kind_of;
+use crate::front::read_head;
 use fields::frame::Center;
 use fields::frame::OldStamp;
 use fields::frame::Sequence;

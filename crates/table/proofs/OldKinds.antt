@@ -84,7 +84,7 @@ allowed-by ρ (k ∷ ks) p m r (v ∷ vs) e =
     let s = shown k p r v in
     let a = isValue (kindBy ρ k) p r v in
     let f : (a && follows k p m s && allowedFrom (map (kindBy ρ) ks) (traceOf k s) (marksOf k m s) r vs) ≡ true =
-        rw (shown-by ρ k p r v, follows-by ρ k p m s, trace-by ρ k s, marks-by ρ k m s) at e in
+    rw (shown-by ρ k p r v, follows-by ρ k p m s, trace-by ρ k s, marks-by ρ k m s) at e in
     let g = and-left (a && follows k p m s) (allowedFrom (map (kindBy ρ) ks) (traceOf k s) (marksOf k m s) r vs) f in
     rw (
       value-allowed ρ k p r v (and-left a (follows k p m s) g),

@@ -1,0 +1,1 @@
+-- THE LAWS of old lines (document 02, l). Assumes nothing.
