@@ -50,9 +50,9 @@ pub fn feeds() -> Vec<Vec<u8>> {
 
 /// The level of a message with one.
 fn level(values: &mut Values) -> Option<&mut u64> {
-    let amended = values.amendments.iter_mut().flatten();
+    let amended = values.body.amendments.iter_mut().flatten();
     let amended = amended.filter(|slot| matches!(slot.number, 8 | 9));
-    let filed = values.fields.get_mut(5);
+    let filed = values.body.fields.get_mut(5);
     match filed
         .into_iter()
         .chain(amended.map(|slot| &mut slot.content))
@@ -77,7 +77,7 @@ pub fn writes() -> Vec<Case> {
                 *level = word;
                 all.push(Case::Write {
                     values,
-                    free: values::free(&message),
+                    free: values::free(&message.body),
                     out: vec![b'.'; line.len() + 2],
                     at: 1,
                 });

@@ -405,11 +405,11 @@ fn message(values: &Values) -> Vec<u64> {
         values.sequence,
         values.stamp,
         u64::from(values.facility),
-        values.message_type as u64,
-        u64::from(values.space_at_end),
-        u64::from(values.marks),
+        values.body.message_type as u64,
+        u64::from(values.body.space_at_end),
+        u64::from(values.body.marks),
     ];
-    for &value in &values.fields {
+    for &value in &values.body.fields {
         match value {
             Value::Text(word) => words.push(word),
             Value::Ident(key, number) => words.extend([key, number]),
@@ -420,7 +420,7 @@ fn message(values: &Values) -> Vec<u64> {
         }
     }
     words.resize(16, 0);
-    for slot in values.amendments {
+    for slot in values.body.amendments {
         let (number, content) = match slot {
             Some(amended) => (u64::from(amended.number), amended.content),
             None => (0, Value::Route),

@@ -30,6 +30,7 @@ mod values;
 use chance::Chance;
 use program::{parts, run, Printed, Program};
 use reference::print::{check, list, report, MOST_LINES};
+use reference::rule::Rule;
 use std::env;
 use std::fs;
 use std::io;
@@ -70,17 +71,17 @@ fn pairs(proved: &Path) -> [Pair<'_>; 4] {
         },
         Pair {
             program: program("readings", &[]),
-            reference: list,
+            reference: |feed| list(Rule::New, feed),
             most: 131_072,
         },
         Pair {
             program: program("desk", &["check"]),
-            reference: |feed| check(feed, false),
+            reference: |feed| check(Rule::New, feed, false),
             most: usize::MAX,
         },
         Pair {
             program: program("desk", &["check", "--refused"]),
-            reference: |feed| check(feed, true),
+            reference: |feed| check(Rule::New, feed, true),
             most: usize::MAX,
         },
     ]

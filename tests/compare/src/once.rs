@@ -65,6 +65,7 @@ pub fn write(name: &str, words: &[&str], seed: u64, bytes: usize, folder: &Path)
 mod tests {
     use super::*;
     use reference::print::check;
+    use reference::rule::Rule;
 
     /// A program with words gets these, a line each, and what the reference answers to them.
     #[test]
@@ -78,7 +79,10 @@ mod tests {
             write("desk", words, 3, 20_000, &folder).unwrap();
             assert_eq!(part("args"), (words.join("\n") + "\n").as_bytes());
             assert_eq!(part("stdin").len(), 20_000);
-            assert_eq!(part("stdout"), check(&part("stdin"), refused_only));
+            assert_eq!(
+                part("stdout"),
+                check(Rule::New, &part("stdin"), refused_only)
+            );
         }
         assert!(write("desk", &[], 3, 20_000, &folder).is_err());
         write("desk", &["keep", "day"], 3, 20_000, &folder).unwrap();

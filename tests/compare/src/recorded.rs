@@ -4,6 +4,7 @@
 use crate::pair_of;
 use reference::dayfile::{keep, lines_text, THERE_ALREADY};
 use reference::print::check_counts;
+use reference::rule::Rule;
 use std::fs;
 use std::path::{Path, PathBuf};
 
@@ -79,7 +80,11 @@ fn as_people_run_them() {
             assert!(stdout == expected, "{}", folder.display());
             if name == "desk" {
                 let stderr = written(&folder, "stderr");
-                assert!(stderr == check_counts(&feed), "{}", folder.display());
+                assert!(
+                    stderr == check_counts(Rule::New, &feed),
+                    "{}",
+                    folder.display()
+                );
             }
             compared += 1;
         }

@@ -60,7 +60,7 @@ fn right(chance: &mut Chance) -> (Values, Vec<u8>) {
             line(chance, message_type, &flight, NO_WRONGS)
         };
         if let Ok(message) = read(&line) {
-            return (Values::of(&message), values::free(&message));
+            return (Values::of(&message), values::free(&message.body));
         }
     }
 }
@@ -68,9 +68,9 @@ fn right(chance: &mut Chance) -> (Values, Vec<u8>) {
 /// Every number of the values but the facility's.
 fn numbers(values: &mut Values) -> Vec<&mut u64> {
     let mut all = vec![&mut values.sequence, &mut values.stamp];
-    let slots = values.amendments.iter_mut().flatten();
+    let slots = values.body.amendments.iter_mut().flatten();
     let contents = slots.map(|amended| &mut amended.content);
-    for value in values.fields.iter_mut().chain(contents) {
+    for value in values.body.fields.iter_mut().chain(contents) {
         match value {
             Value::Text(word) => all.push(word),
             Value::Ident(key, number) => all.extend([key, number]),
@@ -105,12 +105,12 @@ fn damage(values: &mut Values, free: &mut Vec<u8>, chance: &mut Chance) {
             values.facility &= !(0xff << shift);
             values.facility |= u32::from(byte) << shift;
         }
-        7 => values.space_at_end = !values.space_at_end,
+        7 => values.body.space_at_end = !values.body.space_at_end,
         8 | 9 => damage_free(values, free, chance),
         10 => values.stamp = stamp(chance, true),
         11 => {
             // Another type with fields of the same kinds.
-            values.message_type = match values.message_type {
+            values.body.message_type = match values.body.message_type {
                 Type::FZ => Type::UZ,
                 Type::UZ => Type::FZ,
                 Type::RT => Type::TO,
@@ -142,9 +142,9 @@ fn damage_parts(values: &mut Values, chance: &mut Chance) {
         let texts = [first, second].map(|word| text(word).unwrap_or_default());
         number(&texts.join(&b'/')).unwrap_or(first)
     };
-    let slots = values.amendments.iter_mut().flatten();
+    let slots = values.body.amendments.iter_mut().flatten();
     let contents = slots.map(|amended| &mut amended.content);
-    for value in values.fields.iter_mut().chain(contents) {
+    for value in values.body.fields.iter_mut().chain(contents) {
         *value = match *value {
             Value::Ident(key, number) => match chance.below(3) {
                 0 => Value::Ident(joined(key, number), 0),
@@ -167,7 +167,7 @@ fn damage_parts(values: &mut Values, chance: &mut Chance) {
 
 /// A plan whose time has E, the fix any; and where the position is beyond its ranges.
 fn damage_e_rule(values: &mut Values, chance: &mut Chance) {
-    if !matches!(values.message_type, Type::FZ | Type::UZ) {
+    if !matches!(values.body.message_type, Type::FZ | Type::UZ) {
         return damage_number(values, chance);
     }
     let form = chance.one_of(&[Form::Fix, Form::Position, Form::NoPosition]);
@@ -178,31 +178,31 @@ fn damage_e_rule(values: &mut Values, chance: &mut Chance) {
             text[0] = b'E';
         }
         if let Some(word) = number(&text) {
-            values.fields[index] = Value::Text(word);
+            values.body.fields[index] = Value::Text(word);
         }
     }
 }
 
 /// The slots and marks of an AF.
 fn damage_amendments(values: &mut Values, chance: &mut Chance) {
-    if values.message_type != Type::AF {
+    if values.body.message_type != Type::AF {
         return damage_number(values, chance);
     }
     let (one, other) = (chance.below(8), chance.below(8));
     match chance.below(7) {
-        0 => values.marks ^= 1 << one,
-        1 => values.marks = chance.below(256) as u8,
-        2 => values.amendments.swap(one, other),
-        3 => values.amendments[one] = values.amendments[other],
-        4 => values.amendments[one] = None,
-        5 => values.amendments[one] = Some(amended(chance)),
+        0 => values.body.marks ^= 1 << one,
+        1 => values.body.marks = chance.below(256) as u8,
+        2 => values.body.amendments.swap(one, other),
+        3 => values.body.amendments[one] = values.body.amendments[other],
+        4 => values.body.amendments[one] = None,
+        5 => values.body.amendments[one] = Some(amended(chance)),
         _ => {
             // One more, with its mark.
             let amended = amended(chance);
-            let free = values.amendments.iter().position(Option::is_none);
-            values.amendments[free.unwrap_or(one)] = Some(amended);
+            let free = values.body.amendments.iter().position(Option::is_none);
+            values.body.amendments[free.unwrap_or(one)] = Some(amended);
             let place = NUMBERS.iter().position(|&number| number == amended.number);
-            values.marks |= 1 << place.unwrap_or(one);
+            values.body.marks |= 1 << place.unwrap_or(one);
         }
     }
 }
@@ -232,7 +232,7 @@ fn damage_free(values: &Values, free: &mut Vec<u8>, chance: &mut Chance) {
             let Ok(line) = values::write(values, free) else {
                 return;
             };
-            let most = match values.message_type {
+            let most = match values.body.message_type {
                 Type::FZ if chance.in_hundred(90) => 16 + MOST_FZ,
                 _ => MOST_LINE,
             };

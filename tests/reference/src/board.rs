@@ -3,6 +3,7 @@
 
 use crate::field::{self, Stamp};
 use crate::line::{read, Message, Type};
+use crate::rule::Rule;
 use std::collections::BTreeMap;
 
 /// "One row per listed flight, at most 256"
@@ -64,8 +65,9 @@ impl Board {
         self.allowed
     }
 
-    /// Applies one line and gives the answer number and the place (0 where it has none).
-    /// The line's own answer, "then 13, then 12".
+    /// Applies one line of the new feed and gives the answer number and the place (0 where it has
+    /// none). The line's own answer, "then 13, then 12". "Old lines never touch a board" (document 02,
+    /// l): none of them reads here.
     pub fn apply(&mut self, line: &[u8]) -> (u8, usize) {
         let message = match read(line) {
             Ok(message) => message,
@@ -75,12 +77,12 @@ impl Board {
         if !self.allowed {
             return (13, 0);
         }
-        match message.message_type {
+        match message.body.message_type {
             Type::AZ | Type::DZ | Type::TZ => {}
             // "Other types change nothing and need no room."
             _ => return (0, 0),
         }
-        let key = field::key_of_ident(message.fields[0]);
+        let key = field::key_of_ident(message.body.fields[0]);
         if !self.rows.contains_key(key) {
             if self.rows.len() == MOST_ROWS {
                 return (12, 0);
@@ -112,8 +114,8 @@ impl Board {
 /// What a taken AZ, DZ or TZ does to its flight's row. "Order is order of arrival; stamps may
 /// go back": no stamp is looked at.
 fn write_row(row: &mut Row, message: &Message) {
-    let text = |place: usize| message.fields[place - 1].to_vec();
-    match message.message_type {
+    let text = |place: usize| message.body.fields[place - 1].to_vec();
+    match message.body.message_type {
         // AZ: ident, point, point, arrival clock. "AZ writes the arrival entry."
         Type::AZ => {
             row.arrival = Some(Arrival {
@@ -163,7 +165,7 @@ fn is_allowed_row(row: &Row) -> bool {
         Some(arrival) => {
             field::is_point(&arrival.departure)
                 && field::is_point(&arrival.destination)
-                && field::is_arrival_clock(&arrival.clock)
+                && field::is_arrival_clock(Rule::New, &arrival.clock)
                 && arrival.stamp.in_range()
         }
         None => true,

@@ -1,6 +1,9 @@
 //! The forms of the fields (document 01, "Fields"): one question for each form, answered yes
 //! or no, and the values of those fields that tell more than their text: the ident's key,
-//! the aircraft's parts, the position's minutes, the stamp's numbers.
+//! the aircraft's parts, the position's minutes, the stamp's numbers. Two forms are narrower in the
+//! old feed (document 02, request l), and ask which rule is meant.
+
+use crate::rule::Rule;
 
 // ---- the classes of bytes ----
 
@@ -119,6 +122,15 @@ pub fn read_aircraft(text: &[u8]) -> Option<Aircraft<'_>> {
     prefixed(text).or_else(|| type_and_letter(None, text))
 }
 
+/// Whether an aircraft field has a reading. In an old line "an aircraft field with a last letter .. has
+/// no reading" (document 02, l).
+pub fn is_aircraft(rule: Rule, text: &[u8]) -> bool {
+    match read_aircraft(text) {
+        Some(reading) => rule == Rule::New || reading.letter.is_none(),
+        None => false,
+    }
+}
+
 // ---- speeds ----
 
 /// filed speed: "2 to 4 digits, or a letter and 3 digits (Mach), or SC"
@@ -163,10 +175,11 @@ pub fn is_time(text: &[u8]) -> bool {
     }
 }
 
-/// arrival clock of an AZ: a clock, "optionally A or E before it"
-pub fn is_arrival_clock(text: &[u8]) -> bool {
+/// arrival clock of an AZ: a clock, "optionally A or E before it". In an old line "an AZ clock with a
+/// prefix has no reading" (document 02, l).
+pub fn is_arrival_clock(rule: Rule, text: &[u8]) -> bool {
     match text {
-        [b'A' | b'E', clock @ ..] => is_clock(clock),
+        [b'A' | b'E', clock @ ..] => rule == Rule::New && is_clock(clock),
         _ => is_clock(text),
     }
 }
@@ -298,6 +311,47 @@ impl Stamp {
     }
 }
 
+// ---- the fields of an old line's front (document 02, l) ----
+
+/// "one capital for the center"; so the digits, small letters and signs that 003 lists are none
+/// (docs/DECISIONS.md)
+pub fn is_center(byte: u8) -> bool {
+    is_letter(byte)
+}
+
+/// A stamp of the old feed, HHMMSS, as its three numbers. It has no day.
+#[derive(Clone, Copy, Debug, PartialEq, Eq)]
+pub struct OldStamp {
+    pub hour: u8,
+    pub minute: u8,
+    pub second: u8,
+}
+
+impl OldStamp {
+    /// "six digits HHMMSS", in range: hour to 23, minute and second to 59 (docs/DECISIONS.md).
+    pub fn read(text: &[u8]) -> Option<OldStamp> {
+        if !digits(text, 6, 6) {
+            return None;
+        }
+        let pair = |place: usize| number(&text[place..place + 2]) as u8;
+        let stamp = OldStamp {
+            hour: pair(0),
+            minute: pair(2),
+            second: pair(4),
+        };
+        stamp.in_range().then_some(stamp)
+    }
+
+    pub fn in_range(&self) -> bool {
+        self.hour <= 23 && self.minute <= 59 && self.second <= 59
+    }
+
+    /// The six digits; more, and no stamp any longer, where a number is over 99.
+    pub fn text(&self) -> String {
+        format!("{:02}{:02}{:02}", self.hour, self.minute, self.second)
+    }
+}
+
 #[cfg(test)]
 mod tests {
     use super::*;
@@ -415,6 +469,27 @@ mod tests {
         }
     }
 
+    /// Under the old rule an aircraft reads exactly if it has no last letter, and reads the same.
+    #[test]
+    fn aircraft_of_the_old_feed() {
+        let (new, old) = (
+            |text: &[u8]| is_aircraft(Rule::New, text),
+            |text: &[u8]| is_aircraft(Rule::Old, text),
+        );
+        let bare = [
+            "C172", "AB", "12", "T/AB", "T/B73S", "2H/B747", "22/B747", "1/23",
+        ];
+        asked(new, &bare, &[]);
+        asked(old, &bare, &[]);
+        for text in bare {
+            let lettered = format!("{text}/A");
+            asked(new, &[&lettered], &[]);
+            asked(old, &[], &[&lettered]);
+        }
+        let none = ["", "A", "T/A", "AB/CD", "C172/", "C172/1", "2H/A", "T/"];
+        asked(old, &[], &none);
+    }
+
     /// Document 02, request h: no text has two different readings. All texts of a letter, a digit and
     /// a slash, up to ten bytes; an aircraft field has at most nine.
     #[test]
@@ -513,14 +588,17 @@ mod tests {
                 "D0816A",
             ],
         );
+        let wrong = [
+            "", "A", "D0930", "P0930", "A2400", "AE0930", "AA0930", "A930", "930", "0960", "0930A",
+        ];
         asked(
-            is_arrival_clock,
+            |text| is_arrival_clock(Rule::New, text),
             &["0930", "A0930", "E0930", "A2359"],
-            &[
-                "", "A", "D0930", "P0930", "A2400", "AE0930", "AA0930", "A930", "930", "0960",
-                "0930A",
-            ],
+            &wrong,
         );
+        let old = |text: &[u8]| is_arrival_clock(Rule::Old, text);
+        asked(old, &["0930", "0000", "2359"], &wrong);
+        asked(old, &[], &["A0930", "E0930", "A2359", "E0000"]);
     }
 
     #[test]
@@ -684,5 +762,28 @@ mod tests {
             .second_of_day(),
             7384
         );
+    }
+
+    #[test]
+    fn fronts_of_the_old_feed() {
+        for byte in 0..=255_u8 {
+            assert_eq!(is_center(byte), (65..=90).contains(&byte), "byte {byte}");
+        }
+        let stamp = OldStamp {
+            hour: 14,
+            minute: 36,
+            second: 5,
+        };
+        assert_eq!(OldStamp::read(b"143605"), Some(stamp));
+        assert_eq!(stamp.text(), "143605");
+        for right in ["000000", "235959", "090000"] {
+            assert_eq!(OldStamp::read(right.as_bytes()).unwrap().text(), right);
+        }
+        for wrong in [
+            "240000", "236000", "235960", "990000", "14365", "1436555", "14365A", " 43655",
+            "14365 ", "", "06143655",
+        ] {
+            assert_eq!(OldStamp::read(wrong.as_bytes()), None, "{wrong}");
+        }
     }
 }

@@ -1,8 +1,10 @@
-//! The reference: the rules of document 01 ("The exact rules and the build") and the day file of
-//! document 02, read with the readings of docs/DECISIONS.md, written a second time and plainly, to be
-//! checked against the documents by eye and then compared byte for byte with the product.
+//! The reference: the rules of document 01 ("The exact rules and the build") and those requests of
+//! document 02 that have landed (a, d, h, l), read with the readings of docs/DECISIONS.md, written a
+//! second time and plainly, to be checked against the documents by eye and then compared byte for byte
+//! with the product.
 //!
 //! Each module holds one chapter of document 01, or a request of document 02:
+//! - `rule`: which feed a line is of, the new one or the old one (request l)
 //! - `field`: the forms of the fields
 //! - `line`: from a line to its message, or to the number that refuses it
 //! - `write`: from a message to its line
@@ -30,7 +32,10 @@ pub mod cutter;
 pub mod dayfile;
 pub mod field;
 pub mod line;
+#[cfg(test)]
+mod old;
 pub mod print;
+pub mod rule;
 pub mod text;
 pub mod values;
 pub mod words;

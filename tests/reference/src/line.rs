@@ -1,11 +1,10 @@
-//! The reader (document 01, "The line", "Fields", "Answer numbers"): from a line to its
-//! message, or to the number that refuses it and the place. What a message holds is a part
-//! of the caller's line and never a copy.
+//! The reader (document 01, "The line", "Fields", "Answer numbers"; document 02, request l): from a
+//! line of the new or of the old feed to its message, or to the number that refuses it and the place.
+//! What a message holds is a part of the caller's line and never a copy.
 
-use crate::field::{self, Aircraft, Stamp};
+use crate::field::{self, Aircraft, OldStamp, Stamp};
+use crate::rule::Rule;
 
-/// "line under 18 bytes" is answer 1.
-pub const LEAST_LINE: usize = 18;
 /// "line over 2,048 bytes" is answer 2.
 pub const MOST_LINE: usize = 2048;
 /// "FZ over 439 bytes, counted from its type" is answer 11.
@@ -27,7 +26,13 @@ pub enum Type {
 }
 
 impl Type {
-    pub fn read(text: &[u8]) -> Option<Type> {
+    /// The type of these letters; in an old line "our seven, no RT, TO or HB" (document 02, l).
+    pub fn read(rule: Rule, text: &[u8]) -> Option<Type> {
+        let message_type = Type::known(text)?;
+        (rule == Rule::New || message_type.fields().is_some()).then_some(message_type)
+    }
+
+    fn known(text: &[u8]) -> Option<Type> {
         match text {
             b"AF" => Some(Type::AF),
             b"AZ" => Some(Type::AZ),
@@ -145,7 +150,7 @@ pub struct Amendment<'a> {
     pub content: &'a [u8],
 }
 
-/// What one line says.
+/// What one line of the new feed says.
 #[derive(Clone, Debug, PartialEq, Eq)]
 pub struct Message<'a> {
     /// The four characters of the sequence number.
@@ -153,6 +158,22 @@ pub struct Message<'a> {
     pub stamp: Stamp,
     /// The four characters of the facility, its spaces among them.
     pub facility: &'a [u8],
+    pub body: Body<'a>,
+}
+
+/// What one line of the old feed says: it has no sequence number, no day and no facility of four
+/// letters (document 02, l).
+#[derive(Clone, Debug, PartialEq, Eq)]
+pub struct OldMessage<'a> {
+    pub stamp: OldStamp,
+    /// The capital of the center.
+    pub center: u8,
+    pub body: Body<'a>,
+}
+
+/// What a line of either feed says from its type on.
+#[derive(Clone, Debug, PartialEq, Eq)]
+pub struct Body<'a> {
     pub message_type: Type,
     /// The texts of the fields in the table's order, of AF the first three; none for RT, TO
     /// and HB. Texts, so that 05 and 005 differ, and so do 0000N and 0000S.
@@ -167,7 +188,7 @@ pub struct Message<'a> {
     pub kept_body: &'a [u8],
 }
 
-impl<'a> Message<'a> {
+impl<'a> Body<'a> {
     /// The flight's key; RT, TO and HB have none.
     pub fn key(&self) -> Option<&'a [u8]> {
         self.fields.first().map(|ident| field::key_of_ident(ident))
@@ -217,10 +238,58 @@ fn refused<T>(number: u8, place: usize) -> Result<T, Refusal> {
     Err(Refusal { number, place })
 }
 
-/// Reads one line, without its line feed.
+/// Reads one line of the new feed, without its line feed.
 /// "Order for a line: 1 to 7 rising, 11, 8, then fields from the left."
 pub fn read(line: &[u8]) -> Result<Message<'_>, Refusal> {
-    if line.len() < LEAST_LINE {
+    let (front, rest) = halves(Rule::New, line)?;
+    let sequence = &front[0..4];
+    if !field::is_sequence(sequence) {
+        return refused(4, 0);
+    }
+    let Some(stamp) = Stamp::read(&front[4..12]) else {
+        return refused(5, 0);
+    };
+    let facility = &front[12..16];
+    if !field::is_facility(facility) {
+        return refused(6, 0);
+    }
+    Ok(Message {
+        sequence,
+        stamp,
+        facility,
+        body: read_rest(Rule::New, rest)?,
+    })
+}
+
+/// Reads one line of the old feed, without its line feed. "Refusals: as for a line, with 1 under nine
+/// bytes and 4 not given" (document 02, l).
+pub fn read_old(line: &[u8]) -> Result<OldMessage<'_>, Refusal> {
+    let (front, rest) = halves(Rule::Old, line)?;
+    let Some(stamp) = OldStamp::read(&front[0..6]) else {
+        return refused(5, 0);
+    };
+    let center = front[6];
+    if !field::is_center(center) {
+        return refused(6, 0);
+    }
+    Ok(OldMessage {
+        stamp,
+        center,
+        body: read_rest(Rule::Old, rest)?,
+    })
+}
+
+/// Reads one line under the rule that the caller names, for what both feeds say alike.
+pub fn read_body(rule: Rule, line: &[u8]) -> Result<Body<'_>, Refusal> {
+    Ok(match rule {
+        Rule::New => read(line)?.body,
+        Rule::Old => read_old(line)?.body,
+    })
+}
+
+/// Answers 1 to 3, and parts the line before its type.
+fn halves(rule: Rule, line: &[u8]) -> Result<(&[u8], &[u8]), Refusal> {
+    if line.len() < rule.least_line() {
         return refused(1, 0);
     }
     if line.len() > MOST_LINE {
@@ -229,29 +298,19 @@ pub fn read(line: &[u8]) -> Result<Message<'_>, Refusal> {
     if line.iter().any(|byte| !(32..=126).contains(byte)) {
         return refused(3, 0);
     }
-    let sequence = &line[0..4];
-    if !field::is_sequence(sequence) {
-        return refused(4, 0);
-    }
-    let Some(stamp) = Stamp::read(&line[4..12]) else {
-        return refused(5, 0);
-    };
-    let facility = &line[12..16];
-    if !field::is_facility(facility) {
-        return refused(6, 0);
-    }
-    let Some(message_type) = Type::read(&line[16..18]) else {
+    Ok(line.split_at(rule.front()))
+}
+
+/// Reads a line from its type on: 7, 11, 8, then the fields from the left.
+fn read_rest(rule: Rule, rest: &[u8]) -> Result<Body<'_>, Refusal> {
+    let Some(message_type) = Type::read(rule, &rest[..2]) else {
         return refused(7, 0);
     };
     // From the F to the line's end, a space at the end counted; UZ never (docs/DECISIONS.md).
-    if message_type == Type::FZ && line[16..].len() > MOST_FZ {
+    if message_type == Type::FZ && rest.len() > MOST_FZ {
         return refused(11, 0);
     }
-    let body = &line[18..];
-    let mut message = Message {
-        sequence,
-        stamp,
-        facility,
+    let mut body = Body {
         message_type,
         fields: Vec::new(),
         amendments: Vec::new(),
@@ -261,11 +320,11 @@ pub fn read(line: &[u8]) -> Result<Message<'_>, Refusal> {
     };
     let Some(forms) = message_type.fields() else {
         // "RT, TO and HB bodies are kept whole and may be empty."
-        message.kept_body = body;
-        return Ok(message);
+        body.kept_body = &rest[2..];
+        return Ok(body);
     };
 
-    let Some((mut texts, space_at_end)) = part(body) else {
+    let Some((mut texts, space_at_end)) = part(&rest[2..]) else {
         return refused(8, 0);
     };
     let count = texts.len();
@@ -277,12 +336,12 @@ pub fn read(line: &[u8]) -> Result<Message<'_>, Refusal> {
     if !count_is_right {
         return refused(8, 0);
     }
-    message.space_at_end = space_at_end;
+    body.space_at_end = space_at_end;
 
     // The fields from the left. Field number 1 has index 0.
     for (index, form) in forms.iter().enumerate() {
         let place = index + 1;
-        read_field(*form, texts[index], place)?;
+        read_field(rule, *form, texts[index], place)?;
         // The E rule: "when it has E, the fix must be a position, else the time field is at
         // fault". FZ and UZ only (docs/DECISIONS.md), and the time's own form came first, above.
         let has_e_rule = message_type == Type::FZ || message_type == Type::UZ;
@@ -300,16 +359,16 @@ pub fn read(line: &[u8]) -> Result<Message<'_>, Refusal> {
         let Some((mark, form)) = amends(number) else {
             return refused(10, index + 1);
         };
-        if message.marks & mark != 0 {
+        if body.marks & mark != 0 {
             return refused(10, index + 1);
         }
-        message.marks |= mark;
-        read_field(form, content, index + 2)?;
-        message.amendments.push(Amendment { number, content });
+        body.marks |= mark;
+        read_field(rule, form, content, index + 2)?;
+        body.amendments.push(Amendment { number, content });
     }
     texts.truncate(forms.len());
-    message.fields = texts;
-    Ok(message)
+    body.fields = texts;
+    Ok(body)
 }
 
 /// Parts the body of the seven types: "one space, then fields parted by single spaces, none
@@ -327,18 +386,18 @@ fn part(body: &[u8]) -> Option<(Vec<&[u8]>, bool)> {
     Some((texts, space_at_end))
 }
 
-/// Whether a field has a reading (else 9).
-fn read_field(form: Form, text: &[u8], place: usize) -> Result<(), Refusal> {
+/// Whether a field has a reading under this rule (else 9).
+fn read_field(rule: Rule, form: Form, text: &[u8], place: usize) -> Result<(), Refusal> {
     let reads = match form {
         Form::Ident => field::is_ident(text),
         Form::TrackIdent => field::is_track_ident(text),
-        Form::Aircraft => field::read_aircraft(text).is_some(),
+        Form::Aircraft => field::is_aircraft(rule, text),
         Form::FiledSpeed => field::is_filed_speed(text),
         Form::GroundSpeed => field::is_ground_speed(text),
         Form::Point => field::is_point(text),
         Form::Fix => field::is_fix(text),
         Form::Time => field::is_time(text),
-        Form::ArrivalClock => field::is_arrival_clock(text),
+        Form::ArrivalClock => field::is_arrival_clock(rule, text),
         Form::Clock => field::is_clock(text),
         Form::Level => field::is_level(text),
         Form::TrackLevel => field::is_track_level(text),
@@ -371,6 +430,7 @@ mod tests {
 
     fn texts<'a>(message: &Message<'a>) -> Vec<&'a str> {
         message
+            .body
             .fields
             .iter()
             .map(|text| std::str::from_utf8(text).unwrap())
@@ -380,9 +440,9 @@ mod tests {
     #[test]
     fn known_reading_shortest_line() {
         let message = read(b"000006143655KZMAHB").unwrap();
-        assert_eq!(message.message_type, Type::HB);
-        assert_eq!(message.kept_body, b"");
-        assert_eq!(message.key(), None);
+        assert_eq!(message.body.message_type, Type::HB);
+        assert_eq!(message.body.kept_body, b"");
+        assert_eq!(message.body.key(), None);
         assert_eq!(answer(b"000006143655KZMAH"), (1, 0));
         assert_eq!(answer(b""), (1, 0));
     }
@@ -402,7 +462,7 @@ mod tests {
         assert_eq!(body("DZ N5 T/AB AB D0816 CD 0930"), (0, 0));
         assert_eq!(body("DZ N5 AB/CD AB D0816 CD 0930"), (9, 2));
         let line = b"000106081500KZAADZ N5 T/B73S/F AB D0816 CD 0930";
-        let aircraft = read(line).unwrap().aircraft().unwrap();
+        let aircraft = read(line).unwrap().body.aircraft().unwrap();
         assert_eq!(aircraft.prefix, Some(&b"T"[..]));
         assert_eq!(aircraft.aircraft_type, b"B73S");
         assert_eq!(aircraft.letter, Some(b'F'));
@@ -414,9 +474,12 @@ mod tests {
         assert_eq!(body("TZ N5/123 310 240 9001N/00000E"), (9, 4));
         assert_eq!(body("TZ N5/123 310 240 8960N/00000E"), (9, 4));
         let line = b"000106081500KZAATZ N5/123 310 240 3015N/08430W";
-        assert_eq!(read(line).unwrap().position_minutes(), Some((1815, -5070)));
+        assert_eq!(
+            read(line).unwrap().body.position_minutes(),
+            Some((1815, -5070))
+        );
         let line = b"000106081500KZAATZ N5/123 310 240 0000S/00000W";
-        assert_eq!(read(line).unwrap().position_minutes(), Some((0, 0)));
+        assert_eq!(read(line).unwrap().body.position_minutes(), Some((0, 0)));
     }
 
     #[test]
@@ -434,8 +497,18 @@ mod tests {
         assert_eq!(body("RZ N5 AB CD"), (0, 0));
         assert_eq!(body("RZ N5 AB CD "), (0, 0));
         assert_eq!(body("RZ N5 AB CD  "), (8, 0));
-        assert!(!read(b"000106081500KZAARZ N5 AB CD").unwrap().space_at_end);
-        assert!(read(b"000106081500KZAARZ N5 AB CD ").unwrap().space_at_end);
+        assert!(
+            !read(b"000106081500KZAARZ N5 AB CD")
+                .unwrap()
+                .body
+                .space_at_end
+        );
+        assert!(
+            read(b"000106081500KZAARZ N5 AB CD ")
+                .unwrap()
+                .body
+                .space_at_end
+        );
     }
 
     /// A line of this type whose bytes, counted from the type, are `width`.
@@ -626,37 +699,37 @@ mod tests {
         let message = read(line).unwrap();
         assert_eq!(texts(&message), ["N5/123", "AB", "CD"]);
         assert_eq!(
-            message.amendments[0],
+            message.body.amendments[0],
             Amendment {
                 number: b"10",
                 content: b"AB..CD"
             }
         );
         assert_eq!(
-            message.amendments[1],
+            message.body.amendments[1],
             Amendment {
                 number: b"02",
                 content: b"N6/12Z"
             }
         );
         assert_eq!(
-            message.amendments[2],
+            message.body.amendments[2],
             Amendment {
                 number: b"08",
                 content: b"05B005"
             }
         );
-        assert_eq!(message.marks, 0b1010_0001);
+        assert_eq!(message.body.marks, 0b1010_0001);
         assert_eq!(
-            message.marks.count_ones() as usize,
-            message.amendments.len()
+            message.body.marks.count_ones() as usize,
+            message.body.amendments.len()
         );
-        assert_eq!(message.key(), Some(&b"N5"[..]));
+        assert_eq!(message.body.key(), Some(&b"N5"[..]));
         let line =
             b"000106081500KZAAAF N5 AB CD 02 N6 03 C172 05 SC 06 AB/C 07 P0816 08 050 09 60 10 A";
         let message = read(line).unwrap();
-        assert_eq!(message.marks, 0xff);
-        assert_eq!(message.aircraft().unwrap().aircraft_type, b"C172");
+        assert_eq!(message.body.marks, 0xff);
+        assert_eq!(message.body.aircraft().unwrap().aircraft_type, b"C172");
     }
 
     /// Each amendment's content has its own form, and its own place.
@@ -736,7 +809,7 @@ mod tests {
 
     #[test]
     fn level_requested_or_assigned() {
-        let requested = |text: &str| read(text.as_bytes()).unwrap().level_is_requested();
+        let requested = |text: &str| read(text.as_bytes()).unwrap().body.level_is_requested();
         assert_eq!(
             requested("000106081500KZAAFZ N5 C172 120 AB P0816 050 AB"),
             Some(true)
@@ -803,9 +876,9 @@ mod tests {
             for kept in ["", " ", "  ", "X", " X", "  a  b~ "] {
                 let line = format!("000106081500KZAA{message_type}{kept}");
                 let message = read(line.as_bytes()).unwrap();
-                assert_eq!(message.message_type.text(), message_type);
-                assert_eq!(message.kept_body, kept.as_bytes());
-                assert!(message.fields.is_empty() && !message.space_at_end);
+                assert_eq!(message.body.message_type.text(), message_type);
+                assert_eq!(message.body.kept_body, kept.as_bytes());
+                assert!(message.body.fields.is_empty() && !message.body.space_at_end);
             }
         }
     }
@@ -814,11 +887,17 @@ mod tests {
     #[test]
     fn no_copies() {
         let line = b"000106081500KZAART kept".to_vec();
-        assert_eq!(read(&line).unwrap().kept_body.as_ptr(), line[18..].as_ptr());
+        assert_eq!(
+            read(&line).unwrap().body.kept_body.as_ptr(),
+            line[18..].as_ptr()
+        );
         let line = b"000106081500KZAAUZ N5 C172 120 AB D0816 050 AB..CD".to_vec();
         let message = read(&line).unwrap();
-        assert_eq!(message.fields[6], b"AB..CD");
-        assert_eq!(message.fields[6].as_ptr(), line[line.len() - 6..].as_ptr());
+        assert_eq!(message.body.fields[6], b"AB..CD");
+        assert_eq!(
+            message.body.fields[6].as_ptr(),
+            line[line.len() - 6..].as_ptr()
+        );
     }
 
     /// Sample lines of 003, one of each kind of field.
@@ -839,7 +918,7 @@ mod tests {
             }
         );
         assert_eq!(message.facility, b"KZMA");
-        assert_eq!(message.message_type, Type::FZ);
+        assert_eq!(message.body.message_type, Type::FZ);
         assert_eq!(
             texts(&message),
             [
@@ -852,7 +931,7 @@ mod tests {
                 "MYNN.A555.GTK..MDSD/0230"
             ]
         );
-        assert_eq!(message.key(), Some(&b"N811BC"[..]));
+        assert_eq!(message.body.key(), Some(&b"N811BC"[..]));
         for line in [
             "000106143655KZMADZ N733QE/143 C172/A OPF D1437 TMB 1457",
             "000206143655KZMAFZ USA995/313 T/B73S/F 0440 PBI P1640 330 PBI..TBIRD..ORL.J53.CRG.J51.SAV..FLO.CTF8.CLT/0127",

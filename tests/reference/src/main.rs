@@ -1,35 +1,69 @@
 //! The command line of the reference:
 //! - `reference report [FILE]` prints the board printer's report of a feed
-//! - `reference lines [FILE]` prints one line for each line of a feed, with the values of its fields
-//! - `reference check [--refused] [FILE]` prints one line for each line of a feed, or for each that
-//!   was refused: why; and on standard error how many there were
+//! - `reference lines [--old] [FILE]` prints one line for each line of a feed, with the values of its
+//!   fields
+//! - `reference check [--refused] [--old] [FILE]` prints one line for each line of a feed, or for each
+//!   that was refused: why; and on standard error how many there were
 //! - `reference keep FILE` makes the day file of a feed, and says on standard error what it did not keep
 //! - `reference day-lines FILE` prints the lines of a day file, or says on standard error why it is none
 //!
-//! The feed is standard input where no file is named, and always for `keep`.
+//! The feed is standard input where no file is named, and always for `keep`. With `--old`, which may
+//! stand before `--refused` too, its lines are those of the old feed (document 02, request l).
 
 #![forbid(unsafe_code)]
 
 use reference::dayfile::{keep, lines_text, THERE_ALREADY};
 use reference::print::{check, check_counts, list, report, MOST_LINES};
+use reference::rule::Rule;
 use std::env;
 use std::fs;
 use std::io::{self, Read, Write};
 use std::process::ExitCode;
 
-/// From a feed to what is printed.
-type Print = fn(&[u8]) -> Vec<u8>;
+/// What is asked of a feed.
+enum Asked {
+    Report,
+    Lines(Rule),
+    Check { rule: Rule, refused_only: bool },
+}
+
+impl Asked {
+    /// What is printed.
+    fn print(&self, feed: &[u8]) -> Vec<u8> {
+        match *self {
+            Asked::Report => report(feed, MOST_LINES),
+            Asked::Lines(rule) => list(rule, feed),
+            Asked::Check { rule, refused_only } => check(rule, feed, refused_only),
+        }
+    }
+
+    /// What is said on standard error.
+    fn sums(&self, feed: &[u8]) -> Vec<u8> {
+        match *self {
+            Asked::Check { rule, .. } => check_counts(rule, feed),
+            _ => Vec::new(),
+        }
+    }
+}
+
+fn checked(rule: Rule, refused_only: bool) -> Asked {
+    Asked::Check { rule, refused_only }
+}
 
 fn main() -> ExitCode {
     let arguments: Vec<String> = env::args().skip(1).collect();
     let words: Vec<&str> = arguments.iter().map(String::as_str).collect();
-    let (print, file): (Print, &[&str]) = match words.as_slice() {
+    let (asked, file): (Asked, &[&str]) = match words.as_slice() {
         ["keep", name] => return keep_feed(name),
         ["day-lines", name] => return print_lines(name),
-        ["report", file @ ..] => (|feed| report(feed, MOST_LINES), file),
-        ["lines", file @ ..] => (list, file),
-        ["check", "--refused", file @ ..] => (|feed| check(feed, true), file),
-        ["check", file @ ..] => (|feed| check(feed, false), file),
+        ["report", file @ ..] => (Asked::Report, file),
+        ["lines", "--old", file @ ..] => (Asked::Lines(Rule::Old), file),
+        ["lines", file @ ..] => (Asked::Lines(Rule::New), file),
+        ["check", "--old", "--refused", file @ ..] => (checked(Rule::Old, true), file),
+        ["check", "--refused", "--old", file @ ..] => (checked(Rule::Old, true), file),
+        ["check", "--old", file @ ..] => (checked(Rule::Old, false), file),
+        ["check", "--refused", file @ ..] => (checked(Rule::New, true), file),
+        ["check", file @ ..] => (checked(Rule::New, false), file),
         _ => return usage(),
     };
     let feed = match file {
@@ -41,12 +75,10 @@ fn main() -> ExitCode {
         Ok(feed) => feed,
         Err(error) => return failed("the feed cannot be read", &error),
     };
-    if let Err(error) = io::stdout().write_all(&print(&feed)) {
+    if let Err(error) = io::stdout().write_all(&asked.print(&feed)) {
         return failed("the output cannot be written", &error);
     }
-    if words[0] == "check" {
-        eprint!("{}", String::from_utf8_lossy(&check_counts(&feed)));
-    }
+    eprint!("{}", String::from_utf8_lossy(&asked.sums(&feed)));
     ExitCode::SUCCESS
 }
 
@@ -111,8 +143,8 @@ fn system_words(error: &io::Error) -> String {
 
 fn usage() -> ExitCode {
     eprintln!("usage: reference report [FILE]");
-    eprintln!("       reference lines [FILE]");
-    eprintln!("       reference check [--refused] [FILE]");
+    eprintln!("       reference lines [--old] [FILE]");
+    eprintln!("       reference check [--refused] [--old] [FILE]");
     eprintln!("       reference keep FILE");
     eprintln!("       reference day-lines FILE");
     ExitCode::from(2)

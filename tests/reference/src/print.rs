@@ -4,8 +4,9 @@
 
 use crate::board::{Board, Row};
 use crate::cutter::{cut, end, State};
-use crate::line::{amends, read, Message};
-use crate::write::{put, write};
+use crate::line::{amends, read, read_body, read_old, Body};
+use crate::rule::Rule;
+use crate::write::{put, write, write_old};
 
 /// "It stops reading after 4,294,967,295 lines."
 pub const MOST_LINES: u64 = 4_294_967_295;
@@ -86,8 +87,9 @@ pub fn counts(lines: u64, taken: u64) -> Vec<u8> {
 
 /// For each line of a feed one line: the reader's number and place, and for a line that reads
 /// its type, its key if it has one, whether writing what was read gives the same bytes, and the
-/// values of its fields. An unended last line is no line.
-pub fn list(feed: &[u8]) -> Vec<u8> {
+/// values of its fields. An unended last line is no line. The lines are read, and written, under the
+/// rule that is named.
+pub fn list(rule: Rule, feed: &[u8]) -> Vec<u8> {
     let mut text = Vec::new();
     each_line(feed, u64::MAX, |line| {
         // An overlong line, which the cutter does not hand over.
@@ -95,22 +97,22 @@ pub fn list(feed: &[u8]) -> Vec<u8> {
             text.extend_from_slice(b"2 0\n");
             return;
         };
-        match read(line) {
+        match read_body(rule, line) {
             Err(refusal) => {
                 text.extend_from_slice(
                     format!("{} {}\n", refusal.number, refusal.place).as_bytes(),
                 );
             }
-            Ok(message) => {
+            Ok(body) => {
                 text.extend_from_slice(b"0 0 ");
-                text.extend_from_slice(message.message_type.text().as_bytes());
-                if let Some(key) = message.key() {
+                text.extend_from_slice(body.message_type.text().as_bytes());
+                if let Some(key) = body.key() {
                     text.push(b' ');
                     text.extend_from_slice(key);
                 }
-                let same = write(&message).as_deref() == Ok(line);
+                let same = written_back(rule, line).as_deref() == Some(line);
                 text.extend_from_slice(if same { b" same" } else { b" differs" });
-                print_values(&message, &mut text);
+                print_values(&body, &mut text);
                 text.push(b'\n');
             }
         }
@@ -118,15 +120,23 @@ pub fn list(feed: &[u8]) -> Vec<u8> {
     text
 }
 
+/// What comes of reading a line and writing it again.
+fn written_back(rule: Rule, line: &[u8]) -> Option<Vec<u8>> {
+    match rule {
+        Rule::New => write(&read(line).ok()?).ok(),
+        Rule::Old => write_old(&read_old(line).ok()?).ok(),
+    }
+}
+
 /// For each field in order, of an AF its amendments' numbers and contents too, a space and the
 /// three parts of its value. A number's value is its mark, written after a `#`.
-fn print_values(message: &Message, text: &mut Vec<u8>) {
-    let forms = message.message_type.fields().unwrap_or_default();
-    for (form, field) in forms.iter().zip(&message.fields) {
+fn print_values(body: &Body, text: &mut Vec<u8>) {
+    let forms = body.message_type.fields().unwrap_or_default();
+    for (form, field) in forms.iter().zip(&body.fields) {
         print_parts(form.parts(field), text);
     }
-    for amendment in &message.amendments {
-        // A message that was read has none but the eight numbers.
+    for amendment in &body.amendments {
+        // A body that was read has none but the eight numbers.
         if let Some((mark, form)) = amends(amendment.number) {
             let mark = format!("#{mark}");
             print_parts([Some(mark.as_bytes()), None, None], text);
@@ -145,18 +155,18 @@ fn print_parts(parts: [Option<&[u8]>; 3], text: &mut Vec<u8>) {
 /// 1, the answer number, the place, the type of a line that reads, and its flight's key if it has
 /// one; a hyphen for each that is not there. An overlong line answers 2. An unended last line
 /// answers 17, and comes after the others. With `refused_only` those that answer 0 are left out.
-/// No board is asked, so no line answers 12 or 13.
-pub fn check(feed: &[u8], refused_only: bool) -> Vec<u8> {
+/// No board is asked, so no line answers 12 or 13. The lines are read under the rule that is named.
+pub fn check(rule: Rule, feed: &[u8], refused_only: bool) -> Vec<u8> {
     let mut text = Vec::new();
     let mut line_number: u64 = 0;
     let at_end = each_line(feed, u64::MAX, |line| {
         line_number += 1;
-        match answer(line) {
+        match answer(rule, line) {
             Ok(_) if refused_only => {}
-            Ok(message) => {
-                let message_type = message.message_type.text();
+            Ok(body) => {
+                let message_type = body.message_type.text();
                 text.extend_from_slice(format!("{line_number} 0 0 {message_type} ").as_bytes());
-                text.extend_from_slice(message.key().unwrap_or(b"-"));
+                text.extend_from_slice(body.key().unwrap_or(b"-"));
                 text.push(b'\n');
             }
             Err((number, place)) => {
@@ -172,21 +182,21 @@ pub fn check(feed: &[u8], refused_only: bool) -> Vec<u8> {
 
 /// The sums of a check: how many lines ended, how many of them read, and how many were refused.
 /// LINES counts line feeds, so an unended last line is in none of the three.
-pub fn check_counts(feed: &[u8]) -> Vec<u8> {
+pub fn check_counts(rule: Rule, feed: &[u8]) -> Vec<u8> {
     let mut read: u64 = 0;
     let mut refused: u64 = 0;
-    each_line(feed, u64::MAX, |line| match answer(line) {
+    each_line(feed, u64::MAX, |line| match answer(rule, line) {
         Ok(_) => read += 1,
         Err(_) => refused += 1,
     });
     format!("LINES {} READ {read} REFUSED {refused}\n", read + refused).into_bytes()
 }
 
-/// What a line that the cutter told of is answered: its message, or number and place. Nothing is
+/// What a line that the cutter told of is answered: what it says, or number and place. Nothing is
 /// handed over of an overlong one, which answers 2.
-fn answer(line: Option<&[u8]>) -> Result<Message<'_>, (u8, usize)> {
+fn answer(rule: Rule, line: Option<&[u8]>) -> Result<Body<'_>, (u8, usize)> {
     match line {
-        Some(line) => read(line).map_err(|refusal| (refusal.number, refusal.place)),
+        Some(line) => read_body(rule, line).map_err(|refusal| (refusal.number, refusal.place)),
         None => Err((2, 0)),
     }
 }
@@ -226,7 +236,7 @@ mod tests {
     }
 
     fn listed(feed: &str) -> String {
-        String::from_utf8(list(feed.as_bytes())).unwrap()
+        String::from_utf8(list(Rule::New, feed.as_bytes())).unwrap()
     }
 
     #[test]
@@ -403,11 +413,11 @@ mod tests {
     }
 
     fn checked(feed: &str, refused_only: bool) -> String {
-        String::from_utf8(check(feed.as_bytes(), refused_only)).unwrap()
+        String::from_utf8(check(Rule::New, feed.as_bytes(), refused_only)).unwrap()
     }
 
     fn sums(feed: &str) -> String {
-        String::from_utf8(check_counts(feed.as_bytes())).unwrap()
+        String::from_utf8(check_counts(Rule::New, feed.as_bytes())).unwrap()
     }
 
     #[test]

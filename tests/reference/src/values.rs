@@ -1,9 +1,10 @@
-//! A message as the numbers that a caller may hand to the writer (docs/DECISIONS.md, "A field is its
-//! text, held as one number", "A facility is four bytes to the base 256", "AF holds eight slots in
-//! order"). A route and the body of RT, TO and HB are no values: they are the free text beside them.
+//! A message of the new or of the old feed as the numbers that a caller may hand to the writer
+//! (docs/DECISIONS.md, "A field is its text, held as one number", "A facility is four bytes to the base
+//! 256", "AF holds eight slots in order"). A route and the body of RT, TO and HB are no values: they are
+//! the free text beside them.
 
 use crate::field::{key_of_ident, read_aircraft};
-use crate::line::{read, Amendment, Message, Type};
+use crate::line::{read, read_old, Amendment, Body, Message, OldMessage, Type};
 use crate::text::{number, text};
 use crate::write::put;
 
@@ -25,11 +26,26 @@ pub struct Amended {
     pub content: Value,
 }
 
+/// The values of a message of the new feed.
 #[derive(Clone, Debug, PartialEq, Eq)]
 pub struct Values {
     pub sequence: u64,
     pub stamp: u64,
     pub facility: u32,
+    pub body: BodyValues,
+}
+
+/// The values of a message of the old feed: the number of its six digits, and the center's byte.
+#[derive(Clone, Debug, PartialEq, Eq)]
+pub struct OldValues {
+    pub stamp: u64,
+    pub center: u32,
+    pub body: BodyValues,
+}
+
+/// The values of a message of either feed from its type on.
+#[derive(Clone, Debug, PartialEq, Eq)]
+pub struct BodyValues {
     pub message_type: Type,
     /// The fields in the table's order but for a route, of AF the first three; none for RT, TO and
     /// HB.
@@ -43,13 +59,6 @@ pub struct Values {
 impl Values {
     /// The values of a message that was read. (The texts of its fields are short ones.)
     pub fn of(message: &Message) -> Values {
-        let mut amendments = [None; 8];
-        for (slot, amendment) in amendments.iter_mut().zip(&message.amendments) {
-            *slot = Some(amended(amendment));
-        }
-        let has_aircraft = matches!(message.message_type, Type::DZ | Type::FZ | Type::UZ);
-        let has_route = matches!(message.message_type, Type::FZ | Type::UZ);
-        let fields = message.fields.iter().enumerate();
         Values {
             sequence: word(message.sequence),
             stamp: word(message.stamp.text().as_bytes()),
@@ -57,18 +66,7 @@ impl Values {
                 .facility
                 .iter()
                 .fold(0, |value, &byte| value * 256 + u32::from(byte)),
-            message_type: message.message_type,
-            fields: fields
-                .filter(|(index, _)| !(has_route && *index == 6))
-                .map(|(index, text)| match index {
-                    0 => ident(text),
-                    1 if has_aircraft => aircraft(text),
-                    _ => Value::Text(word(text)),
-                })
-                .collect(),
-            marks: message.marks,
-            amendments,
-            space_at_end: message.space_at_end,
+            body: BodyValues::of(&message.body),
         }
     }
 
@@ -77,41 +75,93 @@ impl Values {
     fn line(&self, free: &[u8]) -> Option<Vec<u8>> {
         let mut line = [text(self.sequence)?, text(self.stamp)?].concat();
         line.extend_from_slice(&self.facility.to_be_bytes());
-        line.extend_from_slice(self.message_type.text().as_bytes());
-        for &value in &self.fields {
-            line.push(b' ');
-            line.extend(field(value, free)?);
-        }
-        match self.message_type {
-            Type::FZ | Type::UZ => {
-                line.push(b' ');
-                line.extend_from_slice(free);
-            }
-            Type::RT | Type::TO | Type::HB => line.extend_from_slice(free),
-            _ => {}
-        }
-        for amended in self.amendments.iter().flatten() {
-            line.extend_from_slice(format!(" {:02} ", amended.number).as_bytes());
-            line.extend(field(amended.content, free)?);
-        }
-        if self.space_at_end {
-            line.push(b' ');
-        }
+        line.extend(self.body.text(free)?);
         Some(line)
     }
 }
 
+impl OldValues {
+    /// The values of a message that was read.
+    pub fn of(message: &OldMessage) -> OldValues {
+        OldValues {
+            stamp: word(message.stamp.text().as_bytes()),
+            center: u32::from(message.center),
+            body: BodyValues::of(&message.body),
+        }
+    }
+
+    /// The line that these values and a free text would make, whatever they hold; nothing where a
+    /// number is that of no text or of no byte.
+    fn line(&self, free: &[u8]) -> Option<Vec<u8>> {
+        let mut line = text(self.stamp)?;
+        line.push(u8::try_from(self.center).ok()?);
+        line.extend(self.body.text(free)?);
+        Some(line)
+    }
+}
+
+impl BodyValues {
+    fn of(body: &Body) -> BodyValues {
+        let mut amendments = [None; 8];
+        for (slot, amendment) in amendments.iter_mut().zip(&body.amendments) {
+            *slot = Some(amended(amendment));
+        }
+        let has_aircraft = matches!(body.message_type, Type::DZ | Type::FZ | Type::UZ);
+        let has_route = matches!(body.message_type, Type::FZ | Type::UZ);
+        let fields = body.fields.iter().enumerate();
+        BodyValues {
+            message_type: body.message_type,
+            fields: fields
+                .filter(|(index, _)| !(has_route && *index == 6))
+                .map(|(index, text)| match index {
+                    0 => ident(text),
+                    1 if has_aircraft => aircraft(text),
+                    _ => Value::Text(word(text)),
+                })
+                .collect(),
+            marks: body.marks,
+            amendments,
+            space_at_end: body.space_at_end,
+        }
+    }
+
+    /// The line's text from its type on.
+    fn text(&self, free: &[u8]) -> Option<Vec<u8>> {
+        let mut text = self.message_type.text().as_bytes().to_vec();
+        for &value in &self.fields {
+            text.push(b' ');
+            text.extend(field(value, free)?);
+        }
+        match self.message_type {
+            Type::FZ | Type::UZ => {
+                text.push(b' ');
+                text.extend_from_slice(free);
+            }
+            Type::RT | Type::TO | Type::HB => text.extend_from_slice(free),
+            _ => {}
+        }
+        for amended in self.amendments.iter().flatten() {
+            text.extend_from_slice(format!(" {:02} ", amended.number).as_bytes());
+            text.extend(field(amended.content, free)?);
+        }
+        if self.space_at_end {
+            text.push(b' ');
+        }
+        Some(text)
+    }
+}
+
 /// The free text of a message: a route, or a body that is kept whole, or none.
-pub fn free(message: &Message) -> Vec<u8> {
-    let route = match message.message_type {
-        Type::FZ | Type::UZ => message.fields.get(6).copied(),
+pub fn free(body: &Body) -> Vec<u8> {
+    let route = match body.message_type {
+        Type::FZ | Type::UZ => body.fields.get(6).copied(),
         _ => {
-            let mut amendments = message.amendments.iter();
+            let mut amendments = body.amendments.iter();
             let route = amendments.find(|amendment| amendment.number == b"10");
             route.map(|amendment| amendment.content)
         }
     };
-    route.unwrap_or(message.kept_body).to_vec()
+    route.unwrap_or(body.kept_body).to_vec()
 }
 
 /// The line of these values and this free text, or 16: "values to write that no line has". A line
@@ -120,7 +170,18 @@ pub fn free(message: &Message) -> Vec<u8> {
 pub fn write(values: &Values, free: &[u8]) -> Result<Vec<u8>, u8> {
     let line = values.line(free).ok_or(16)?;
     match read(&line) {
-        Ok(again) if Values::of(&again) == *values && self::free(&again) == free => Ok(line),
+        Ok(again) if Values::of(&again) == *values && self::free(&again.body) == free => Ok(line),
+        _ => Err(16),
+    }
+}
+
+/// The line of these values of the old feed and this free text, or 16, in the same way.
+pub fn write_old(values: &OldValues, free: &[u8]) -> Result<Vec<u8>, u8> {
+    let line = values.line(free).ok_or(16)?;
+    match read_old(&line) {
+        Ok(again) if OldValues::of(&again) == *values && self::free(&again.body) == free => {
+            Ok(line)
+        }
         _ => Err(16),
     }
 }
@@ -128,6 +189,16 @@ pub fn write(values: &Values, free: &[u8]) -> Result<Vec<u8>, u8> {
 /// Writes the line into `out` from the place `at` on, and tells how many bytes it has: 16, then 15.
 pub fn write_into(values: &Values, free: &[u8], out: &mut [u8], at: usize) -> Result<usize, u8> {
     put(&write(values, free)?, out, at)
+}
+
+/// Writes the line of the old feed, in the same way.
+pub fn write_old_into(
+    values: &OldValues,
+    free: &[u8],
+    out: &mut [u8],
+    at: usize,
+) -> Result<usize, u8> {
+    put(&write_old(values, free)?, out, at)
 }
 
 /// The number of a text that is known to be a short one.
@@ -210,7 +281,7 @@ mod tests {
 
     fn values(line: &str) -> (Values, Vec<u8>) {
         let message = read(line.as_bytes()).unwrap();
-        (Values::of(&message), free(&message))
+        (Values::of(&message), free(&message.body))
     }
 
     #[test]
@@ -242,15 +313,17 @@ mod tests {
             sequence: word("0001"),
             stamp: word("06081500"),
             facility: 0x4b5a_4141,
-            message_type: Type::AF,
-            fields: vec![
-                Value::Ident(word("N5"), word("12A")),
-                Value::Text(word("AB")),
-                Value::Text(word("CD")),
-            ],
-            marks: 3,
-            amendments,
-            space_at_end: true,
+            body: BodyValues {
+                message_type: Type::AF,
+                fields: vec![
+                    Value::Ident(word("N5"), word("12A")),
+                    Value::Text(word("AB")),
+                    Value::Text(word("CD")),
+                ],
+                marks: 3,
+                amendments,
+                space_at_end: true,
+            },
         };
         assert_eq!(values, expected);
         assert_eq!(free, b"");
@@ -277,10 +350,12 @@ mod tests {
             no_line_has(line, |values, _| values.facility = 0);
         }
         for line in &LINES[3..8] {
-            no_line_has(line, |values, _| values.fields[0] = Value::Ident(1, 0));
-            no_line_has(line, |values, _| values.fields[1] = Value::Text(u64::MAX));
+            no_line_has(line, |values, _| values.body.fields[0] = Value::Ident(1, 0));
+            no_line_has(line, |values, _| {
+                values.body.fields[1] = Value::Text(u64::MAX)
+            });
             no_line_has(line, |values, free| {
-                values.fields.pop();
+                values.body.fields.pop();
                 free.push(b'X');
             });
         }
@@ -291,9 +366,9 @@ mod tests {
     fn parts_that_are_not_parted_so() {
         let word = |text: &str| number(text.as_bytes()).unwrap();
         let (mut values, free) = values(LINES[3]);
-        values.fields[0] = Value::Ident(word("N733QE/143"), 0);
+        values.body.fields[0] = Value::Ident(word("N733QE/143"), 0);
         assert_eq!(write(&values, &free), Err(16));
-        values.fields[0] = Value::Ident(word("N733QE"), word("143"));
+        values.body.fields[0] = Value::Ident(word("N733QE"), word("143"));
         for (prefix, aircraft_type, letter, number) in [
             ("2H", "C172", "A", 0),
             ("", "2H/C172", "A", 16),
@@ -304,7 +379,7 @@ mod tests {
             ("2H", "A", "", 16),
         ] {
             let parts = [prefix, aircraft_type, letter].map(word);
-            values.fields[1] = Value::Aircraft(parts[0], parts[1], parts[2]);
+            values.body.fields[1] = Value::Aircraft(parts[0], parts[1], parts[2]);
             let answer = write(&values, &free).err().unwrap_or_default();
             assert_eq!(answer, number, "{prefix} {aircraft_type} {letter}");
         }
@@ -338,10 +413,10 @@ mod tests {
     #[test]
     fn spaces_at_the_end() {
         for line in &LINES[..3] {
-            no_line_has(line, |values, _| values.space_at_end = true);
+            no_line_has(line, |values, _| values.body.space_at_end = true);
         }
         let (mut values, free) = values(LINES[6]);
-        values.space_at_end = false;
+        values.body.space_at_end = false;
         let text = LINES[6].trim_end();
         assert_eq!(write(&values, &free).unwrap(), text.as_bytes());
     }
@@ -350,24 +425,24 @@ mod tests {
     #[test]
     fn slots_and_marks() {
         for line in &LINES[10..] {
-            no_line_has(line, |values, _| values.marks ^= 1);
-            no_line_has(line, |values, _| values.marks = 0);
-            no_line_has(line, |values, _| values.amendments = [None; 8]);
+            no_line_has(line, |values, _| values.body.marks ^= 1);
+            no_line_has(line, |values, _| values.body.marks = 0);
+            no_line_has(line, |values, _| values.body.amendments = [None; 8]);
             no_line_has(line, |values, _| {
-                values.amendments = [None; 8];
-                values.marks = 0;
+                values.body.amendments = [None; 8];
+                values.body.marks = 0;
             });
         }
-        no_line_has(LINES[12], |values, _| values.amendments.swap(1, 2));
-        no_line_has(LINES[12], |values, _| values.amendments.swap(0, 7));
+        no_line_has(LINES[12], |values, _| values.body.amendments.swap(1, 2));
+        no_line_has(LINES[12], |values, _| values.body.amendments.swap(0, 7));
         no_line_has(LINES[12], |values, _| {
-            values.amendments[1] = values.amendments[0]
+            values.body.amendments[1] = values.body.amendments[0]
         });
         no_line_has(LINES[12], |values, _| {
-            values.amendments[2] = values.amendments[0]
+            values.body.amendments[2] = values.body.amendments[0]
         });
         let (mut values, free) = values(LINES[12]);
-        values.amendments.swap(0, 1);
+        values.body.amendments.swap(0, 1);
         let line = write(&values, &free).unwrap();
         assert!(line.ends_with(b" 03 C172/A 02 N6/123 "));
     }
@@ -384,8 +459,8 @@ mod tests {
             ("9001N/00000E", "P1437", 0),
         ] {
             let (mut values, free) = values(LINES[9]);
-            values.fields[3] = Value::Text(word(fix));
-            values.fields[4] = Value::Text(word(time));
+            values.body.fields[3] = Value::Text(word(fix));
+            values.body.fields[4] = Value::Text(word(time));
             let answer = write(&values, &free).err().unwrap_or_default();
             assert_eq!(answer, number, "{fix} {time}");
         }

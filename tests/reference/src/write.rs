@@ -1,7 +1,7 @@
-//! The writer (document 01, "Answer numbers", 15 and 16): from a message to its line, without
-//! a line feed (docs/DECISIONS.md).
+//! The writer (document 01, "Answer numbers", 15 and 16; document 02, request l): from a message of
+//! the new or of the old feed to its line, without a line feed (docs/DECISIONS.md).
 
-use crate::line::{read, Message};
+use crate::line::{read, read_old, Body, Message, OldMessage};
 
 /// The line of a message, or 16: "values to write that no line has".
 ///
@@ -9,8 +9,22 @@ use crate::line::{read, Message};
 /// can only be the message's own parts put one after another, so these are put together and
 /// read again: either they read as this very message, or no line does.
 pub fn write(message: &Message) -> Result<Vec<u8>, u8> {
-    let line = put_together(message);
+    let mut line = message.sequence.to_vec();
+    line.extend_from_slice(message.stamp.text().as_bytes());
+    line.extend_from_slice(message.facility);
+    put_body(&message.body, &mut line);
     match read(&line) {
+        Ok(again) if again == *message => Ok(line),
+        _ => Err(16),
+    }
+}
+
+/// The line of a message of the old feed, or 16, in the same way.
+pub fn write_old(message: &OldMessage) -> Result<Vec<u8>, u8> {
+    let mut line = message.stamp.text().into_bytes();
+    line.push(message.center);
+    put_body(&message.body, &mut line);
+    match read_old(&line) {
         Ok(again) if again == *message => Ok(line),
         _ => Err(16),
     }
@@ -19,8 +33,12 @@ pub fn write(message: &Message) -> Result<Vec<u8>, u8> {
 /// Writes the line into `out` from the place `at` on, and tells how many bytes it has.
 /// "Writing: 16, then 15; the bytes go in from the given place, and all others stay."
 pub fn write_into(message: &Message, out: &mut [u8], at: usize) -> Result<usize, u8> {
-    let line = write(message)?;
-    put(&line, out, at)
+    put(&write(message)?, out, at)
+}
+
+/// Writes the line of a message of the old feed, in the same way.
+pub fn write_old_into(message: &OldMessage, out: &mut [u8], at: usize) -> Result<usize, u8> {
+    put(&write_old(message)?, out, at)
 }
 
 /// Puts bytes into `out` from the place `at` on, and tells how many. 15: "output doesn't fit
@@ -33,28 +51,23 @@ pub fn put(bytes: &[u8], out: &mut [u8], at: usize) -> Result<usize, u8> {
     Ok(bytes.len())
 }
 
-/// Front, type and body in the document's order, whatever they hold.
-fn put_together(message: &Message) -> Vec<u8> {
-    let mut line = Vec::new();
-    line.extend_from_slice(message.sequence);
-    line.extend_from_slice(message.stamp.text().as_bytes());
-    line.extend_from_slice(message.facility);
-    line.extend_from_slice(message.message_type.text().as_bytes());
-    line.extend_from_slice(message.kept_body);
-    for text in &message.fields {
+/// Type and body in the document's order, whatever they hold.
+fn put_body(body: &Body, line: &mut Vec<u8>) {
+    line.extend_from_slice(body.message_type.text().as_bytes());
+    line.extend_from_slice(body.kept_body);
+    for text in &body.fields {
         line.push(b' ');
         line.extend_from_slice(text);
     }
-    for amendment in &message.amendments {
+    for amendment in &body.amendments {
         line.push(b' ');
         line.extend_from_slice(amendment.number);
         line.push(b' ');
         line.extend_from_slice(amendment.content);
     }
-    if message.space_at_end {
+    if body.space_at_end {
         line.push(b' ');
     }
-    line
 }
 
 #[cfg(test)]
@@ -110,7 +123,7 @@ mod tests {
     fn digits_and_hemispheres_belong_to_the_message() {
         let north = read(b"000106081500KZAATZ N5/123 310 240 0000N/00000E").unwrap();
         let south = read(b"000106081500KZAATZ N5/123 310 240 0000S/00000W").unwrap();
-        assert_eq!(north.position_minutes(), south.position_minutes());
+        assert_eq!(north.body.position_minutes(), south.body.position_minutes());
         assert_ne!(north, south);
         assert!(write(&north).unwrap().ends_with(b"0000N/00000E"));
         assert!(write(&south).unwrap().ends_with(b"0000S/00000W"));
@@ -125,13 +138,13 @@ mod tests {
     #[test]
     fn space_at_the_end() {
         let mut message = read(b"000406081800KZAARZ N5AB GHI JKL").unwrap();
-        message.space_at_end = true;
+        message.body.space_at_end = true;
         assert_eq!(
             write(&message).unwrap(),
             b"000406081800KZAARZ N5AB GHI JKL "
         );
         let mut message = read(b"000006143655KZMAHB").unwrap();
-        message.space_at_end = true;
+        message.body.space_at_end = true;
         assert_eq!(write(&message), Err(16));
     }
 
@@ -168,39 +181,39 @@ mod tests {
                 second: 1,
             };
         });
-        no_line_has(heartbeat, |message| message.kept_body = b"\n");
-        no_line_has(heartbeat, |message| message.fields = vec![&b"N5"[..]]);
-        no_line_has(heartbeat, |message| message.marks = 1);
-        no_line_has(heartbeat, |message| message.message_type = Type::RZ);
+        no_line_has(heartbeat, |message| message.body.kept_body = b"\n");
+        no_line_has(heartbeat, |message| message.body.fields = vec![&b"N5"[..]]);
+        no_line_has(heartbeat, |message| message.body.marks = 1);
+        no_line_has(heartbeat, |message| message.body.message_type = Type::RZ);
     }
 
     #[test]
     fn values_of_the_body_that_no_line_has() {
         let removed = "000406081800KZAARZ N5AB GHI JKL";
-        no_line_has(removed, |message| message.fields[0] = b"5N");
-        no_line_has(removed, |message| message.fields[1] = b"");
-        no_line_has(removed, |message| message.fields[2] = b"JKL ");
-        no_line_has(removed, |message| message.fields[1] = b"GHI JKL");
+        no_line_has(removed, |message| message.body.fields[0] = b"5N");
+        no_line_has(removed, |message| message.body.fields[1] = b"");
+        no_line_has(removed, |message| message.body.fields[2] = b"JKL ");
+        no_line_has(removed, |message| message.body.fields[1] = b"GHI JKL");
         no_line_has(removed, |message| {
-            message.fields = vec![&b"N5AB"[..], b"GHI JKL"]
+            message.body.fields = vec![&b"N5AB"[..], b"GHI JKL"]
         });
-        no_line_has(removed, |message| message.fields.push(b"MNO"));
-        no_line_has(removed, |message| message.fields.clear());
-        no_line_has(removed, |message| message.kept_body = b" N5AB");
-        no_line_has(removed, |message| message.message_type = Type::HB);
-        no_line_has(removed, |message| message.message_type = Type::AF);
-        no_line_has(removed, |message| message.marks = 1);
+        no_line_has(removed, |message| message.body.fields.push(b"MNO"));
+        no_line_has(removed, |message| message.body.fields.clear());
+        no_line_has(removed, |message| message.body.kept_body = b" N5AB");
+        no_line_has(removed, |message| message.body.message_type = Type::HB);
+        no_line_has(removed, |message| message.body.message_type = Type::AF);
+        no_line_has(removed, |message| message.body.marks = 1);
         no_line_has(removed, |message| {
-            message.amendments = vec![Amendment {
+            message.body.amendments = vec![Amendment {
                 number: b"08",
                 content: b"050",
             }];
-            message.marks = 1 << 5;
+            message.body.marks = 1 << 5;
         });
         // The E rule.
         no_line_has(
             "000106081500KZAAUZ N5 C172 120 AB D0816 050 AB",
-            |message| message.fields[4] = b"E0816",
+            |message| message.body.fields[4] = b"E0816",
         );
     }
 
@@ -208,23 +221,23 @@ mod tests {
     #[test]
     fn amendments_that_no_line_has() {
         let amended = "000106081500KZAAAF N5 AB CD 08 050 09 060";
-        no_line_has(amended, |message| message.marks = 0);
-        no_line_has(amended, |message| message.marks = 0xff);
-        no_line_has(amended, |message| message.amendments[0].number = b"04");
-        no_line_has(amended, |message| message.amendments[0].number = b"09");
-        no_line_has(amended, |message| message.amendments[1].content = b"5");
-        no_line_has(amended, |message| message.amendments.clear());
+        no_line_has(amended, |message| message.body.marks = 0);
+        no_line_has(amended, |message| message.body.marks = 0xff);
+        no_line_has(amended, |message| message.body.amendments[0].number = b"04");
+        no_line_has(amended, |message| message.body.amendments[0].number = b"09");
+        no_line_has(amended, |message| message.body.amendments[1].content = b"5");
+        no_line_has(amended, |message| message.body.amendments.clear());
         no_line_has(amended, |message| {
-            message.amendments.pop();
+            message.body.amendments.pop();
         });
         no_line_has(amended, |message| {
-            message.amendments.clear();
-            message.marks = 0;
+            message.body.amendments.clear();
+            message.body.marks = 0;
         });
         // As fields instead of amendments the same line would come out, but it reads otherwise.
         no_line_has(amended, |message| {
-            message.fields.extend([&b"08"[..], b"050"]);
-            message.amendments.remove(0);
+            message.body.fields.extend([&b"08"[..], b"050"]);
+            message.body.amendments.remove(0);
         });
     }
 
@@ -233,20 +246,20 @@ mod tests {
     fn lines_too_long_to_be_written() {
         let long = vec![b'X'; 3000];
         let mut message = read(b"000006143655KZMAHB").unwrap();
-        message.kept_body = &long[..2030];
+        message.body.kept_body = &long[..2030];
         assert_eq!(write(&message).unwrap().len(), 2048);
-        message.kept_body = &long[..2031];
+        message.body.kept_body = &long[..2031];
         assert_eq!(write(&message), Err(16));
         let mut message = read(b"000106081500KZAAFZ N5 C172 120 AB D0816 050 AB").unwrap();
         let front = "FZ N5 C172 120 AB D0816 050 ".len();
-        message.fields[6] = &long[..439 - front];
+        message.body.fields[6] = &long[..439 - front];
         assert_eq!(write(&message).unwrap().len(), 16 + 439);
-        message.space_at_end = true;
+        message.body.space_at_end = true;
         assert_eq!(write(&message), Err(16));
-        message.space_at_end = false;
-        message.fields[6] = &long[..440 - front];
+        message.body.space_at_end = false;
+        message.body.fields[6] = &long[..440 - front];
         assert_eq!(write(&message), Err(16));
-        message.message_type = Type::UZ;
+        message.body.message_type = Type::UZ;
         assert_eq!(write(&message).unwrap().len(), 16 + 440);
     }
 
