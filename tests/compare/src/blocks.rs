@@ -2,6 +2,7 @@
 //! before it, itself and the one after it, in each place that has a level; and in a TZ, which takes no block.
 
 use crate::calls::Case;
+use crate::feeds;
 use reference::line::read;
 use reference::text::number;
 use reference::values::{self, Value, Values};
@@ -14,9 +15,6 @@ const LINES: [&str; 5] = [
     "000106081500KZAAAF QQX12/101 ABC DEF 09 BLOCK 05 310",
     "000106081500KZAATZ QQX12/101 310 BLOCK 3015N/08430W",
 ];
-
-/// A feed that every program takes has at most so many bytes.
-const MOST_BYTES: usize = 131_072;
 
 fn blocks() -> Vec<String> {
     let mut all = Vec::new();
@@ -34,18 +32,8 @@ fn blocks() -> Vec<String> {
 
 /// Every block in every line, in feeds that every program takes.
 pub fn feeds() -> Vec<Vec<u8>> {
-    let mut all = vec![Vec::new()];
-    for block in blocks() {
-        for line in LINES {
-            let line = line.replace("BLOCK", &block) + "\n";
-            if all[all.len() - 1].len() + line.len() > MOST_BYTES {
-                all.push(Vec::new());
-            }
-            let last = all.len() - 1;
-            all[last].extend_from_slice(line.as_bytes());
-        }
-    }
-    all
+    let with = |block: String| LINES.map(|line| line.replace("BLOCK", &block).into_bytes());
+    feeds::of_lines(blocks().into_iter().flat_map(with))
 }
 
 /// The level of a message with one.

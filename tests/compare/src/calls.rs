@@ -3,10 +3,13 @@
 //!
 //! A case is eight numbers of eight bytes, the least first: the call; how many words it takes, and how
 //! many of these are given, the others being 0; how many bytes are in each of two runs; and three
-//! numbers, a, b and c. The given words follow, eight bytes each, and the two runs. Of day files:
+//! numbers, a, b and c. The given words follow, eight bytes each, and the two runs. Of messages and of
+//! day files:
 //!
 //! | call | words | first run | second run | a | b | c | the answer |
 //! |---|---|---|---|---|---|---|---|
+//! | 8 `write` | a message of the new feed: sequence number, stamp, facility, and 45 from its type on | the free text | the buffer | place | | | number, the place after it, the buffer |
+//! | 14 `write_old` | a message of the old feed: a word that is not looked at, stamp, center, and 45 from its type on | the free text | the buffer | place | | | number, the place after it, the buffer |
 //! | 9 `open` | | the file | | | | | number, how many lines, where the index starts |
 //! | 10 `line` | | the file | | the line's number | | | the line |
 //! | 11 `keep_line` | the offsets | the buffer | the line | place | count | | number, place and count after it, the offsets, the buffer |
@@ -21,7 +24,7 @@
 use reference::age::{age_of_words, Age};
 use reference::buffer::{self, Begun, Place};
 use reference::dayfile::{self, Opened};
-use reference::values::{self, Value, Values};
+use reference::values::{self, BodyValues, OldValues, Value, Values};
 use reference::write::put;
 use reference::{print, words};
 
@@ -102,11 +105,19 @@ pub enum Case {
         room: usize,
         shifted: usize,
     },
+    WriteOld {
+        /// The first word, where a new message has its sequence number.
+        unused: u64,
+        values: OldValues,
+        free: Vec<u8>,
+        out: Vec<u8>,
+        at: usize,
+    },
 }
 
 /// The calls by their numbers, and the answer numbers that each may give; for `line` they are those of
 /// opening the file. (24 at a file's end comes up in `end_many` alone.)
-pub const CALLS: [(&str, &[u8]); 14] = [
+pub const CALLS: [(&str, &[u8]); 15] = [
     ("apply", &[0, 1, 2, 3, 4, 5, 6, 7, 8, 9, 10, 11, 12, 13]),
     ("strike", &[0, 9, 13, 14]),
     ("print", &[0, 13, 15]),
@@ -121,6 +132,7 @@ pub const CALLS: [(&str, &[u8]); 14] = [
     ("keep_line", &[0, 2, 15, 24, 25]),
     ("end_file", &[0, 13, 15]),
     ("end_many", &[0, 13, 15, 24]),
+    ("write_old", &[0, 15, 16]),
 ];
 
 /// What a call answers: its number, and all that the program writes of it.
@@ -147,6 +159,7 @@ impl Case {
             Case::KeepLine { .. } => 11,
             Case::EndFile { .. } => 12,
             Case::EndMany { .. } => 13,
+            Case::WriteOld { .. } => 14,
         }
     }
 
@@ -194,7 +207,11 @@ impl Case {
                 free,
                 out,
                 at,
-            } => self.framed(&message(values), free, out, [*at as u64, 0, 0]),
+            } => {
+                let front = [values.sequence, values.stamp, u64::from(values.facility)];
+                let words = message(front, &values.body);
+                self.framed(&words, free, out, [*at as u64, 0, 0])
+            }
             Case::Open { file } => self.framed(&[], file, &[], [0, 0, 0]),
             Case::Line { file, number } => self.framed(&[], file, &[], [*number as u64, 0, 0]),
             Case::KeepLine {
@@ -223,6 +240,17 @@ impl Case {
             } => {
                 let numbers = [*lines, *room, *shifted].map(|number| number as u64);
                 self.framed(&[], &[], &[], numbers)
+            }
+            Case::WriteOld {
+                unused,
+                values,
+                free,
+                out,
+                at,
+            } => {
+                let front = [*unused, values.stamp, u64::from(values.center)];
+                let words = message(front, &values.body);
+                self.framed(&words, free, out, [*at as u64, 0, 0])
             }
         }
     }
@@ -376,6 +404,16 @@ impl Case {
                 let ended = dayfile::end(&mut out, &offsets, lines, lines);
                 written_at(ended, 0, &out[lines..])
             }
+            Case::WriteOld {
+                values,
+                free,
+                mut out,
+                at,
+                ..
+            } => {
+                let written = values::write_old_into(&values, &free, &mut out, at);
+                written_at(written, at, &out)
+            }
         }
     }
 }
@@ -399,17 +437,15 @@ fn state(begun: Begun) -> (u64, u64) {
     }
 }
 
-/// The 48 words of a message.
-fn message(values: &Values) -> Vec<u64> {
-    let mut words = vec![
-        values.sequence,
-        values.stamp,
-        u64::from(values.facility),
-        values.body.message_type as u64,
-        u64::from(values.body.space_at_end),
-        u64::from(values.body.marks),
-    ];
-    for &value in &values.body.fields {
+/// The 48 words of a message: three of its front, and those from its type on.
+fn message(front: [u64; 3], body: &BodyValues) -> Vec<u64> {
+    let mut words = front.to_vec();
+    words.extend([
+        body.message_type as u64,
+        u64::from(body.space_at_end),
+        u64::from(body.marks),
+    ]);
+    for &value in &body.fields {
         match value {
             Value::Text(word) => words.push(word),
             Value::Ident(key, number) => words.extend([key, number]),
@@ -420,7 +456,7 @@ fn message(values: &Values) -> Vec<u64> {
         }
     }
     words.resize(16, 0);
-    for slot in values.body.amendments {
+    for slot in body.amendments {
         let (number, content) = match slot {
             Some(amended) => (u64::from(amended.number), amended.content),
             None => (0, Value::Route),
@@ -526,6 +562,35 @@ mod tests {
         let expected = numbers(&[11, 2, 1, 3, 1, 1, 1, 0, 5]);
         assert_eq!(case.bytes(), [&expected[..], b"..xa"].concat());
         let told = [&numbers(&[0, 3, 2, 2, 2, 5, 1, 3])[..], b".a\n"].concat();
+        assert_eq!(case.answer().bytes, told);
+    }
+
+    /// A message of the old feed, whose first word is not looked at.
+    #[test]
+    fn the_bytes_of_an_old_message() {
+        let line = b"143655RDZ N5/123 T/C172 AB D0816 CD 0930 ";
+        let message = reference::line::read_old(line).unwrap();
+        let case = Case::WriteOld {
+            unused: 7,
+            values: OldValues::of(&message),
+            free: Vec::new(),
+            out: vec![b'.'; line.len() + 3],
+            at: 2,
+        };
+        let word = |text: &str| reference::text::number(text.as_bytes()).unwrap();
+        let mut expected = vec![14, 48, 15, 0, line.len() as u64 + 3, 2, 0, 0];
+        // Type number 2, a space at the end, no marks.
+        expected.extend([7, word("143655"), 82, 2, 1, 0]);
+        expected.extend(["N5", "123", "T", "C172"].map(word));
+        expected.push(0);
+        expected.extend(["AB", "D0816", "CD", "0930"].map(word));
+        let numbers = |all: &[u64]| -> Vec<u8> {
+            all.iter().flat_map(|number| number.to_le_bytes()).collect()
+        };
+        let out = vec![b'.'; line.len() + 3];
+        assert_eq!(case.bytes(), [numbers(&expected), out].concat());
+        let sizes = [0, line.len() as u64 + 2, line.len() as u64 + 3];
+        let told = [&numbers(&sizes)[..], b"..", line, b"."].concat();
         assert_eq!(case.answer().bytes, told);
     }
 }

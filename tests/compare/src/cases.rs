@@ -6,14 +6,16 @@ use crate::chance::Chance;
 use crate::damage::damage;
 use crate::days::{self, Lent};
 use crate::fields::{self, Form};
-use crate::lines::{line, long_line, Wrongs, NO_WRONGS, TYPES};
+use crate::lines::{line, long_line, types, Wrongs, NO_WRONGS};
 use crate::states;
 use crate::values;
+use reference::rule::Rule;
+use reference::text::number;
 use reference::{print, values as written, words};
 
 /// A case of any call; those of the board, of the writer and of day files more often than the others.
 pub fn case(chance: &mut Chance) -> Case {
-    match chance.below(43) {
+    match chance.below(50) {
         0..=7 => {
             let board = boards::board(chance);
             let line = board_line(chance, &board);
@@ -57,6 +59,17 @@ pub fn case(chance: &mut Chance) -> Case {
                 at,
             }
         }
+        25..=31 => {
+            let (values, free) = values::values(chance);
+            let line = written::write(&values, &free);
+            let (out, at) = buffer(chance, line.map_or(60, |line| line.len()));
+            Case::Write {
+                values,
+                free,
+                out,
+                at,
+            }
+        }
         32..=34 => Case::Open {
             file: days::file(chance),
         },
@@ -65,10 +78,13 @@ pub fn case(chance: &mut Chance) -> Case {
         40 | 41 => end_file(chance),
         42 => end_many(chance),
         _ => {
-            let (values, free) = values::values(chance);
-            let line = written::write(&values, &free);
+            let (values, free) = values::old_values(chance);
+            let line = written::write_old(&values, &free);
             let (out, at) = buffer(chance, line.map_or(60, |line| line.len()));
-            Case::Write {
+            let drawn = chance.draw();
+            let sequence = number(b"0001").unwrap_or_default();
+            Case::WriteOld {
+                unused: chance.one_of(&[0, 0, sequence, drawn]),
                 values,
                 free,
                 out,
@@ -89,15 +105,19 @@ fn flight(chance: &mut Chance, board: &[u64]) -> Vec<u8> {
     keys[chance.below(keys.len())].clone()
 }
 
-/// A line, right most often.
+/// A line, right most often; a few are of the old feed.
 fn any_line(chance: &mut Chance, flight: &[u8]) -> Vec<u8> {
+    let rule = match chance.in_hundred(4) {
+        true => Rule::Old,
+        false => Rule::New,
+    };
     if chance.in_hundred(4) {
-        return long_line(chance, flight);
+        return long_line(chance, rule, flight);
     }
     let message_type = if chance.in_hundred(70) {
         chance.one_of(&[b"AZ", b"DZ", b"TZ"])
     } else {
-        chance.one_of(&TYPES)
+        chance.one_of(types(rule))
     };
     let wrongs = Wrongs {
         front: 8,
@@ -105,7 +125,7 @@ fn any_line(chance: &mut Chance, flight: &[u8]) -> Vec<u8> {
         spacing: 5,
     };
     let wrongs = chance.one_of(&[NO_WRONGS, NO_WRONGS, NO_WRONGS, wrongs]);
-    let mut line = line(chance, message_type, flight, wrongs);
+    let mut line = line(chance, rule, message_type, flight, wrongs);
     if chance.in_hundred(8) {
         damage(&mut line, chance);
     }

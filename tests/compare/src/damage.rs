@@ -47,14 +47,15 @@ pub fn damage(line: &mut Vec<u8>, chance: &mut Chance) {
         }
         9 => line[place] = chance.one_of(&[0, 1, 9, 13, 27, 31, 127, 128, 160, 255]),
         10 => line.push(b'\r'),
-        11 => line.truncate(chance.one_of(&[place, 17, 18])),
+        // Torn, also at the least line of either feed.
+        11 => line.truncate(chance.one_of(&[place, place, 8, 9, 17, 18])),
         12 => {
             let width = match chance.below(10) {
                 0 => 2047,
                 1 => 2048,
                 2 => 2049,
                 3 => chance.between(2050, 6000),
-                _ => chance.between(17, 18),
+                _ => chance.one_of(&[8, 9, 17, 18]),
             };
             fill(line, chance, width);
         }

@@ -5,6 +5,7 @@ use crate::blocks;
 use crate::calls::{Answer, Case, CALLS};
 use crate::cases::case;
 use crate::chance::Chance;
+use crate::old;
 use crate::program::{run, Program};
 use std::collections::BTreeMap;
 use std::fs;
@@ -18,7 +19,8 @@ const AT_ONCE: u64 = 500;
 /// How often each call gave each answer number.
 type Tally = BTreeMap<(usize, u8), u64>;
 
-/// Compares the blocks of levels as values to write, then random case after case. Whether there was no difference.
+/// Compares the blocks of levels and the fixed messages of the old feed as values to write, then random
+/// case after case. Whether there was no difference.
 pub fn compare(proved: &Path, folder: &Path, seed: u64, cases: u64) -> io::Result<bool> {
     let program = Program {
         proved,
@@ -28,10 +30,10 @@ pub fn compare(proved: &Path, folder: &Path, seed: u64, cases: u64) -> io::Resul
     };
     let mut seeds = Chance::of_seed(seed);
     let mut tally = Tally::new();
-    let blocks = blocks::writes();
-    let cases = cases + blocks.len() as u64;
+    let fixed = [blocks::writes(), old::writes()].concat();
+    let cases = cases + fixed.len() as u64;
     let random = iter::from_fn(|| Some(case(&mut Chance::of_seed(seeds.draw()))));
-    let mut all = blocks.into_iter().chain(random);
+    let mut all = fixed.into_iter().chain(random);
     let mut done = 0;
     while done < cases {
         let count = AT_ONCE.min(cases - done);

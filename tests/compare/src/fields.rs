@@ -9,6 +9,8 @@ pub enum Form {
     Ident,
     TrackIdent,
     Aircraft,
+    /// An aircraft of the old feed, which has no last letter.
+    BareAircraft,
     FiledSpeed,
     GroundSpeed,
     Point,
@@ -18,6 +20,8 @@ pub enum Form {
     NoPosition,
     Time,
     ArrivalClock,
+    /// An arrival clock of the old feed, which has no prefix.
+    BareClock,
     Clock,
     Level,
     TrackLevel,
@@ -87,6 +91,18 @@ pub fn put_facility(text: &mut Vec<u8>, chance: &mut Chance) {
     put_run(text, chance, ALNUMS, 4 - spaces, 4 - spaces);
 }
 
+/// Six digits HHMMSS, in range, the limits often.
+pub fn put_old_stamp(text: &mut Vec<u8>, chance: &mut Chance) {
+    put_number(text, chance.near_ends(0, 23), 2);
+    put_number(text, chance.near_ends(0, 59), 2);
+    put_number(text, chance.near_ends(0, 59), 2);
+}
+
+/// One capital.
+pub fn put_center(text: &mut Vec<u8>, chance: &mut Chance) {
+    text.push(chance.one_of(LETTERS));
+}
+
 /// Four characters 0-9 or A-F.
 pub fn put_sequence(text: &mut Vec<u8>, chance: &mut Chance) {
     put_run(text, chance, b"0123456789ABCDEF", 4, 4);
@@ -128,14 +144,14 @@ fn put_right(text: &mut Vec<u8>, chance: &mut Chance, form: Form, flight: &[u8])
                 text.push(chance.one_of(ALNUMS));
             }
         }
-        Form::Aircraft => {
+        Form::Aircraft | Form::BareAircraft => {
             match chance.below(4) {
                 0 => text.extend_from_slice(&[chance.one_of(ALNUMS), b'/']),
                 1 => text.extend_from_slice(&[chance.one_of(DIGITS), chance.one_of(ALNUMS), b'/']),
                 _ => {}
             }
             put_run(text, chance, ALNUMS, 2, 4);
-            if chance.in_hundred(50) {
+            if form == Form::Aircraft && chance.in_hundred(50) {
                 text.extend_from_slice(&[b'/', chance.one_of(LETTERS)]);
             }
         }
@@ -172,7 +188,7 @@ fn put_right(text: &mut Vec<u8>, chance: &mut Chance, form: Form, flight: &[u8])
             }
             put_clock(text, chance);
         }
-        Form::Clock => put_clock(text, chance),
+        Form::Clock | Form::BareClock => put_clock(text, chance),
         Form::Level => put_level(text, chance),
         Form::TrackLevel => {
             put_run(text, chance, DIGITS, 3, 3);
@@ -211,7 +227,7 @@ fn near_misses(form: Form) -> &'static str {
             "N5|ABCDEFG|N5/|N5/12|N5/1234|N5/A12|N5/1A2|N/123|ABCDEFGH/123|JAL85/FFF|\
              5N/123|N5/12/|N5-123"
         }
-        Form::Aircraft => {
+        Form::Aircraft | Form::BareAircraft => {
             "AB/CD|A|ABCDE|T/A|T/ABCDE|AB/C172/A|1A/AB/1|/C172|C172/|T//A|C172/AB|C172/1|\
              T/C172/A/B|1A2/AB|A1/B73S|A/B/C|12/A/B|T/C172/|1/2|//|/|12/1"
         }
@@ -230,7 +246,7 @@ fn near_misses(form: Form) -> &'static str {
             "2360|2400|A2360|A2400|E2400|D0816|P0816|A|AA816|AA0816|0816A|816|08160|0060|\
              9999"
         }
-        Form::Clock => "2360|2400|A0930|E0930|D0930|0960|093|09300|2359A|9959",
+        Form::Clock | Form::BareClock => "2360|2400|A0930|E0930|D0930|0960|093|09300|2359A|9959",
         Form::Level => {
             "5|1234|B|05B|B05|05B5|5B05|05B1234|1234B05|05B06B07|350T|05b06|05A06|05BB06|\
              OTP|350B31B|35B310B|350B310|100B99|36B35|36B035|036B35|351B350|01B00|01B000|\
@@ -270,6 +286,13 @@ pub fn put(text: &mut Vec<u8>, chance: &mut Chance, form: Form, flight: &[u8], w
         put_right(text, chance, form, flight);
     } else if form == Form::Position && chance.in_hundred(40) {
         text.extend_from_slice(one_text(chance, BEYOND));
+    } else if form == Form::BareAircraft && chance.in_hundred(50) {
+        // What the new feed alone has: a last letter, a prefix.
+        put_right(text, chance, form, flight);
+        text.extend_from_slice(&[b'/', chance.one_of(LETTERS)]);
+    } else if form == Form::BareClock && chance.in_hundred(50) {
+        text.push(chance.one_of(b"AE"));
+        put_right(text, chance, form, flight);
     } else if chance.in_hundred(50) {
         text.extend_from_slice(one_text(chance, near_misses(form)));
     } else {

@@ -7,6 +7,7 @@ use crate::days;
 use crate::feeds;
 use crate::program::{parts, run, Printed, Program};
 use reference::dayfile::{keep, lines_text, open, Kept, MOST_LINES, THERE_ALREADY};
+use reference::rule::Rule;
 use std::collections::BTreeMap;
 use std::fs;
 use std::io::{self, Write};
@@ -220,7 +221,7 @@ fn first(expected: &[u8], got: &[u8]) -> Option<String> {
 fn feed(chance: &mut Chance) -> Vec<u8> {
     let mut feed = Vec::new();
     match chance.below(20) {
-        0..=5 => return feeds::feed(chance, 3000),
+        0..=5 => return feeds::feed(chance, Rule::New, 3000),
         6 | 7 => {
             let count = chance.between(MOST_LINES - 1, MOST_LINES + 2);
             let wide = chance.one_of(&[0, 50, 100]);

@@ -1,12 +1,22 @@
-//! Lines by chance: of every type, with every optional part, right or with some fields wrong;
-//! and long ones, at and around the limits of a line and of an FZ.
+//! Lines by chance, of the new and of the old feed: of every type, with every optional part, right or
+//! with some fields wrong; and long ones, at and around the limits of a line and of an FZ.
 
 use crate::chance::Chance;
 use crate::fields::{self, one_text, Form};
+use reference::rule::Rule;
 
+/// Every type, the seven of the old feed first.
 pub const TYPES: [&[u8]; 10] = [
     b"AF", b"AZ", b"DZ", b"FZ", b"RZ", b"TZ", b"UZ", b"RT", b"TO", b"HB",
 ];
+
+/// The types of a feed's lines.
+pub fn types(rule: Rule) -> &'static [&'static [u8]] {
+    match rule {
+        Rule::New => &TYPES,
+        Rule::Old => &TYPES[..7],
+    }
+}
 
 /// In how many of a hundred a part of the line's front, a field, and the spacing is wrong.
 #[derive(Clone, Copy)]
@@ -29,6 +39,12 @@ const WRONG_STAMPS: &str = "\
     06081:00|99999999|01000060|31235999|0608150 ";
 
 const WRONG_FACILITIES: &str = "    |KZA |K ZA| K A|kZAA|KZA.|K   |KZ@A|KZ[A|/KZA|:KZA| KZ ";
+
+const WRONG_OLD_STAMPS: &str = "\
+    240000|236000|235960|246060|14365A|A43655| 43655|14365 |1/3655|143:55|999999|000060|235999|\
+    00FF00|290000|006000";
+
+const WRONG_CENTERS: &str = "0|1|5|8|9|a|d|f|g|n|x|z|<|>|^|@|[|`|{|/|:| |~";
 
 const WRONG_TYPES: &str = "HX|ZA|hb|A |  |ZZ|FA|TT|RO|HZ|AT|Tz|OT|BH|UF|DF|RF|AO|TB";
 
@@ -59,42 +75,69 @@ fn forms(message_type: &[u8]) -> &'static [Form] {
     }
 }
 
-/// A line of this type of this flight.
-pub fn line(chance: &mut Chance, message_type: &[u8], flight: &[u8], wrongs: Wrongs) -> Vec<u8> {
+/// The form of a field in a feed's lines.
+fn under(rule: Rule, form: Form) -> Form {
+    match (rule, form) {
+        (Rule::Old, Form::Aircraft) => Form::BareAircraft,
+        (Rule::Old, Form::ArrivalClock) => Form::BareClock,
+        _ => form,
+    }
+}
+
+/// A line of this feed, type and flight. (One of the old feed is wrong by a type that it has not.)
+pub fn line(
+    chance: &mut Chance,
+    rule: Rule,
+    message_type: &[u8],
+    flight: &[u8],
+    wrongs: Wrongs,
+) -> Vec<u8> {
     let mut line = Vec::with_capacity(128);
-    put_front(&mut line, chance, message_type, wrongs);
+    put_front(&mut line, chance, rule, message_type, wrongs);
     if forms(message_type).is_empty() {
         put_kept_body(&mut line, chance);
         return line;
     }
-    put_fields(&mut line, chance, message_type, flight, wrongs);
+    put_fields(&mut line, chance, rule, message_type, flight, wrongs);
     if message_type == b"AF" {
-        put_amendments(&mut line, chance, flight, wrongs);
+        put_amendments(&mut line, chance, rule, flight, wrongs);
     }
     if chance.in_hundred(20) {
         line.push(b' ');
     }
     if chance.in_hundred(wrongs.spacing) {
-        wrong_spacing(&mut line, chance);
+        wrong_spacing(&mut line, chance, rule.front() + message_type.len());
     }
     line
 }
 
-fn put_front(line: &mut Vec<u8>, chance: &mut Chance, message_type: &[u8], wrongs: Wrongs) {
-    if chance.in_hundred(wrongs.front) {
-        line.extend_from_slice(one_text(chance, WRONG_SEQUENCES));
-    } else {
-        fields::put_sequence(line, chance);
-    }
-    if chance.in_hundred(wrongs.front) {
-        line.extend_from_slice(one_text(chance, WRONG_STAMPS));
-    } else {
-        fields::put_stamp(line, chance);
-    }
-    if chance.in_hundred(wrongs.front) {
-        line.extend_from_slice(one_text(chance, WRONG_FACILITIES));
-    } else {
-        fields::put_facility(line, chance);
+/// Puts a part of the front: a right one, or one of these.
+type Put = fn(&mut Vec<u8>, &mut Chance);
+
+fn put_front(
+    line: &mut Vec<u8>,
+    chance: &mut Chance,
+    rule: Rule,
+    message_type: &[u8],
+    wrongs: Wrongs,
+) {
+    let parts: &[(Put, &'static str)] = match rule {
+        Rule::New => &[
+            (fields::put_sequence, WRONG_SEQUENCES),
+            (fields::put_stamp, WRONG_STAMPS),
+            (fields::put_facility, WRONG_FACILITIES),
+        ],
+        Rule::Old => &[
+            (fields::put_old_stamp, WRONG_OLD_STAMPS),
+            (fields::put_center, WRONG_CENTERS),
+        ],
+    };
+    for (put, wrong) in parts {
+        if chance.in_hundred(wrongs.front) {
+            line.extend_from_slice(one_text(chance, wrong));
+        } else {
+            put(line, chance);
+        }
     }
     if chance.in_hundred(wrongs.front) {
         line.extend_from_slice(one_text(chance, WRONG_TYPES));
@@ -113,6 +156,7 @@ fn put_kept_body(line: &mut Vec<u8>, chance: &mut Chance) {
 fn put_fields(
     line: &mut Vec<u8>,
     chance: &mut Chance,
+    rule: Rule,
     message_type: &[u8],
     flight: &[u8],
     wrongs: Wrongs,
@@ -128,7 +172,7 @@ fn put_fields(
         let form = match form {
             Form::Fix if has_e && keeps_rule => Form::Position,
             Form::Fix if chance.in_hundred(20) => Form::NoPosition,
-            other => *other,
+            other => under(rule, *other),
         };
         fields::put(line, chance, form, flight, wrong);
         if is_plan && form == Form::Time && !wrong {
@@ -139,7 +183,13 @@ fn put_fields(
 
 /// One to eight amendments in any order; where it is to be wrong, a number that comes twice or
 /// that is none, or one field too few or too many.
-fn put_amendments(line: &mut Vec<u8>, chance: &mut Chance, flight: &[u8], wrongs: Wrongs) {
+fn put_amendments(
+    line: &mut Vec<u8>,
+    chance: &mut Chance,
+    rule: Rule,
+    flight: &[u8],
+    wrongs: Wrongs,
+) {
     let mut left = AMENDMENTS.to_vec();
     let mut count = chance.near_ends(1, 8);
     if chance.in_hundred(wrongs.spacing) {
@@ -169,21 +219,21 @@ fn put_amendments(line: &mut Vec<u8>, chance: &mut Chance, flight: &[u8], wrongs
             flight.to_vec()
         };
         let wrong = chance.in_hundred(wrongs.field / 2);
-        fields::put(line, chance, form, &other, wrong);
+        fields::put(line, chance, under(rule, form), &other, wrong);
     }
 }
 
-/// A space too many or too few.
-fn wrong_spacing(line: &mut Vec<u8>, chance: &mut Chance) {
+/// A space too many or too few; the body is from this place on.
+fn wrong_spacing(line: &mut Vec<u8>, chance: &mut Chance, body: usize) {
     match chance.below(5) {
         0 => line.extend_from_slice(b"  "),
-        1 => line.insert(18, b' '),
+        1 => line.insert(body, b' '),
         2 => {
-            line.remove(18);
+            line.remove(body);
         }
-        3 => line.truncate(18 + chance.below(3)),
+        3 => line.truncate(body + chance.below(3)),
         _ => {
-            let spaces: Vec<usize> = (18..line.len()).filter(|&at| line[at] == b' ').collect();
+            let spaces: Vec<usize> = (body..line.len()).filter(|&at| line[at] == b' ').collect();
             if spaces.is_empty() {
                 return;
             }
@@ -198,34 +248,36 @@ fn wrong_spacing(line: &mut Vec<u8>, chance: &mut Chance) {
 }
 
 /// A right line but for its length: filled up, or cut, to one at or around a limit.
-pub fn long_line(chance: &mut Chance, flight: &[u8]) -> Vec<u8> {
+pub fn long_line(chance: &mut Chance, rule: Rule, flight: &[u8]) -> Vec<u8> {
     if chance.in_hundred(15) {
-        return overlong_before_right(chance, flight);
+        return overlong_before_right(chance, rule, flight);
     }
+    // Types that can be filled up, one that cannot be too long, and the shortest.
+    let (wide, widest, short): (&[&[u8]], &[u8], &[u8]) = match rule {
+        Rule::New => (&[b"RT", b"TO", b"HB", b"UZ", b"AF", b"FZ"], b"RT", b"HB"),
+        Rule::Old => (&[b"UZ", b"UZ", b"AF", b"FZ"], b"UZ", b"RZ"),
+    };
     let (message_type, width): (&[u8], usize) = match chance.below(10) {
-        // From the type on, so 16 bytes more in all.
-        0..=3 => (b"FZ", 16 + chance.between(437, 441)),
-        4 => (b"UZ", 16 + chance.between(437, 441)),
-        5 => (b"HB", chance.between(17, 19)),
-        6 | 7 => (
-            chance.one_of(&[b"RT", b"TO", b"HB", b"UZ", b"AF", b"FZ"]),
-            chance.between(2046, 2050),
-        ),
+        // From the type on, so the front's bytes more in all.
+        0..=3 => (b"FZ", rule.front() + chance.between(437, 441)),
+        4 => (b"UZ", rule.front() + chance.between(437, 441)),
+        5 => (short, rule.least_line() - 1 + chance.below(3)),
+        6 | 7 => (chance.one_of(wide), chance.between(2046, 2050)),
         8 => (
-            chance.one_of(&[b"RT", b"UZ", b"AF"]),
+            chance.one_of(&[widest, b"UZ", b"AF"]),
             chance.between(450, 2046),
         ),
-        _ => (chance.one_of(&[b"RT", b"UZ"]), chance.between(2051, 9000)),
+        _ => (chance.one_of(&[widest, b"UZ"]), chance.between(2051, 9000)),
     };
     let mut line = Vec::with_capacity(width);
-    put_front(&mut line, chance, message_type, NO_WRONGS);
+    put_front(&mut line, chance, rule, message_type, NO_WRONGS);
     match message_type {
         b"AF" => {
-            put_fields(&mut line, chance, message_type, flight, NO_WRONGS);
+            put_fields(&mut line, chance, rule, message_type, flight, NO_WRONGS);
             line.extend_from_slice(b" 08 050 10 ");
         }
         b"FZ" | b"UZ" => {
-            put_fields(&mut line, chance, message_type, flight, NO_WRONGS);
+            put_fields(&mut line, chance, rule, message_type, flight, NO_WRONGS);
             // 11 comes before 8, whatever the body is.
             if chance.in_hundred(10) {
                 line.push(b' ');
@@ -242,12 +294,16 @@ pub fn long_line(chance: &mut Chance, flight: &[u8]) -> Vec<u8> {
 
 /// A line that is overlong just before what would be a right line by itself: a cutter that
 /// forgets the begun line between two parts would take it for one.
-fn overlong_before_right(chance: &mut Chance, flight: &[u8]) -> Vec<u8> {
+fn overlong_before_right(chance: &mut Chance, rule: Rule, flight: &[u8]) -> Vec<u8> {
     let width = chance.between(2046, 2051);
-    let mut begun = line(chance, b"RT", flight, NO_WRONGS);
+    let (wide, rights): (&[u8], [&[u8]; 3]) = match rule {
+        Rule::New => (b"RT", [b"TZ", b"AZ", b"HB"]),
+        Rule::Old => (b"UZ", [b"TZ", b"AZ", b"RZ"]),
+    };
+    let mut begun = line(chance, rule, wide, flight, NO_WRONGS);
     fill(&mut begun, chance, width);
-    let message_type = chance.one_of(&[b"TZ", b"AZ", b"HB"]);
-    begun.extend(line(chance, message_type, flight, NO_WRONGS));
+    let message_type = chance.one_of(&rights);
+    begun.extend(line(chance, rule, message_type, flight, NO_WRONGS));
     begun
 }
 

@@ -19,6 +19,7 @@ mod feeds;
 mod fields;
 mod keeping;
 mod lines;
+mod old;
 mod once;
 mod program;
 #[cfg(test)]
@@ -49,41 +50,50 @@ const RECORDED_OF_EACH: usize = 2;
 /// What is compared: a program, and what the reference prints for the same feed.
 struct Pair<'a> {
     program: Program<'a>,
+    /// The rule by which both read it.
+    rule: Rule,
     reference: fn(&[u8]) -> Vec<u8>,
     /// The longest feed that the program takes.
     most: usize,
 }
 
 /// The board printer; the program that lists of each line the answer, the place and the values; and the
-/// desk's check, of all lines and of those that are refused.
-fn pairs(proved: &Path) -> [Pair<'_>; 4] {
-    let program = |name, words| Program {
-        proved,
-        name,
-        words,
-        folder: None,
+/// desk's check, of all lines and of those that are refused; the two last under each rule.
+fn pairs(proved: &Path) -> [Pair<'_>; 8] {
+    let pair = |name, words, rule, reference| Pair {
+        program: Program {
+            proved,
+            name,
+            words,
+            folder: None,
+        },
+        rule,
+        reference,
+        most: match name {
+            "readings" => feeds::MOST_BYTES,
+            _ => usize::MAX,
+        },
     };
+    let (new, old) = (Rule::New, Rule::Old);
     [
-        Pair {
-            program: program("flights", &[]),
-            reference: |feed| report(feed, MOST_LINES),
-            most: usize::MAX,
-        },
-        Pair {
-            program: program("readings", &[]),
-            reference: |feed| list(Rule::New, feed),
-            most: 131_072,
-        },
-        Pair {
-            program: program("desk", &["check"]),
-            reference: |feed| check(Rule::New, feed, false),
-            most: usize::MAX,
-        },
-        Pair {
-            program: program("desk", &["check", "--refused"]),
-            reference: |feed| check(Rule::New, feed, true),
-            most: usize::MAX,
-        },
+        pair("flights", &[], new, |feed| report(feed, MOST_LINES)),
+        pair("readings", &[], new, |feed| list(Rule::New, feed)),
+        pair("readings", &["--old"], old, |feed| list(Rule::Old, feed)),
+        pair("desk", &["check"], new, |feed| {
+            check(Rule::New, feed, false)
+        }),
+        pair("desk", &["check", "--refused"], new, |feed| {
+            check(Rule::New, feed, true)
+        }),
+        pair("desk", &["check", "--old"], old, |feed| {
+            check(Rule::Old, feed, false)
+        }),
+        pair("desk", &["check", "--old", "--refused"], old, |feed| {
+            check(Rule::Old, feed, true)
+        }),
+        pair("desk", &["check", "--refused", "--old"], old, |feed| {
+            check(Rule::Old, feed, true)
+        }),
     ]
 }
 
@@ -143,21 +153,23 @@ fn asked(arguments: &[String]) -> io::Result<bool> {
     }
 }
 
-/// Compares the blocks of levels, then random feed after feed. Whether there was no difference.
+/// Compares the blocks of levels and the fixed lines of the old feed, then random feed after feed.
+/// Whether there was no difference.
 fn compare(proved: &Path, folder: &Path, seed: u64, lines: u64) -> io::Result<bool> {
     let pairs = pairs(proved);
     let mut listed: u64 = 0;
     let mut seeds = Chance::of_seed(seed);
     let mut tally = Tally::default();
-    let blocks = blocks::feeds();
-    let lines = lines + blocks.iter().map(|feed| line_feeds(feed)).sum::<u64>();
-    let mut blocks = blocks.into_iter();
+    let fixed = [blocks::feeds(), old::feeds()].concat();
+    let lines = lines + fixed.iter().map(|feed| line_feeds(feed)).sum::<u64>();
+    let mut fixed = fixed.into_iter();
     while tally.lines < lines {
         let mut chance = Chance::of_seed(seeds.draw());
         let most = usize::try_from(lines - tally.lines).unwrap_or(usize::MAX);
-        let feed = blocks
-            .next()
-            .unwrap_or_else(|| feeds::feed(&mut chance, most));
+        let feed = fixed.next().unwrap_or_else(|| {
+            let rule = chance.one_of(&[Rule::New, Rule::New, Rule::Old]);
+            feeds::feed(&mut chance, rule, most)
+        });
         let parts = parts(&mut chance, &feed);
         tally.count(&feed);
         for pair in pairs.iter().filter(|pair| feed.len() <= pair.most) {
@@ -176,10 +188,11 @@ fn compare(proved: &Path, folder: &Path, seed: u64, lines: u64) -> io::Result<bo
     }
     tally.print();
     println!(
-        "compared {} feeds, {} lines, {} taken, {listed} with their values: no difference",
+        "compared {} feeds, {} lines, {} taken, {} read as old ones, {listed} lists of values: no difference",
         tally.feeds,
         tally.lines,
-        tally.taken()
+        tally.taken(),
+        tally.read_as_old()
     );
     Ok(true)
 }

@@ -6,16 +6,18 @@ use crate::direct;
 use crate::feeds;
 use crate::pair_of;
 use reference::dayfile::{keep, lines_text};
+use reference::rule::Rule;
 use std::fs;
 use std::io;
 use std::path::Path;
 
-/// Random feeds one after another, cut after so many bytes.
-fn feed(seed: u64, bytes: usize) -> Vec<u8> {
+/// Random feeds of this rule one after another, cut after so many bytes.
+fn feed(seed: u64, rule: Rule, bytes: usize) -> Vec<u8> {
     let mut seeds = Chance::of_seed(seed);
     let mut feed = Vec::with_capacity(bytes);
     while feed.len() < bytes {
-        feed.extend(feeds::feed(&mut Chance::of_seed(seeds.draw()), usize::MAX));
+        let mut chance = Chance::of_seed(seeds.draw());
+        feed.extend(feeds::feed(&mut chance, rule, usize::MAX));
     }
     feed.truncate(bytes);
     feed
@@ -29,12 +31,12 @@ pub fn write(name: &str, words: &[&str], seed: u64, bytes: usize, folder: &Path)
     let (read, written) = match (name, words) {
         ("damage", _) => direct::record(seed, 1, |case| !case.is_long()),
         ("desk", ["keep", _]) => {
-            let feed = feed(seed, bytes);
+            let feed = feed(seed, Rule::New, bytes);
             fs::write(folder.join("made"), keep(&feed).file)?;
             (feed, Vec::new())
         }
         ("desk", ["lines", file]) => {
-            let kept = keep(&feed(seed, bytes)).file;
+            let kept = keep(&feed(seed, Rule::New, bytes)).file;
             let lines = lines_text(&kept).map_err(io::Error::other)?;
             fs::create_dir_all(folder.join("data"))?;
             fs::write(folder.join("data").join(file), kept)?;
@@ -44,7 +46,7 @@ pub fn write(name: &str, words: &[&str], seed: u64, bytes: usize, folder: &Path)
             let no_program = || format!("no program {name} {}", words.join(" "));
             let pair = pair_of(Path::new(""), name, words)
                 .ok_or_else(|| io::Error::other(no_program()))?;
-            let feed = feed(seed, bytes.min(pair.most));
+            let feed = feed(seed, pair.rule, bytes.min(pair.most));
             let report = (pair.reference)(&feed);
             (feed, report)
         }
@@ -64,8 +66,7 @@ pub fn write(name: &str, words: &[&str], seed: u64, bytes: usize, folder: &Path)
 #[cfg(test)]
 mod tests {
     use super::*;
-    use reference::print::check;
-    use reference::rule::Rule;
+    use reference::print::{check, check_counts};
 
     /// A program with words gets these, a line each, and what the reference answers to them.
     #[test]
@@ -75,14 +76,20 @@ mod tests {
         let part = |name: &str| fs::read(folder.join(name)).unwrap();
         write("readings", &[], 3, 5_000, &folder).unwrap();
         assert!(!folder.join("args").exists());
-        for (words, refused_only) in [(&["check"][..], false), (&["check", "--refused"], true)] {
+        for (words, rule, refused_only) in [
+            (&["check"][..], Rule::New, false),
+            (&["check", "--refused"], Rule::New, true),
+            (&["check", "--old"], Rule::Old, false),
+            (&["check", "--old", "--refused"], Rule::Old, true),
+            (&["check", "--refused", "--old"], Rule::Old, true),
+        ] {
             write("desk", words, 3, 20_000, &folder).unwrap();
             assert_eq!(part("args"), (words.join("\n") + "\n").as_bytes());
             assert_eq!(part("stdin").len(), 20_000);
-            assert_eq!(
-                part("stdout"),
-                check(Rule::New, &part("stdin"), refused_only)
-            );
+            assert_eq!(part("stdout"), check(rule, &part("stdin"), refused_only));
+            // Its lines are of that rule: some of them read.
+            let sums = String::from_utf8(check_counts(rule, &part("stdin"))).unwrap();
+            assert!(!sums.contains("READ 0 "), "{sums}");
         }
         assert!(write("desk", &[], 3, 20_000, &folder).is_err());
         write("desk", &["keep", "day"], 3, 20_000, &folder).unwrap();

@@ -1,10 +1,9 @@
 //! What stands in the repository as a program's expected output: it is what the reference prints, so that
 //! none was taken from the program itself. (The cases beside `damage` are looked at in `direct`.)
 
-use crate::pair_of;
+use crate::{pair_of, Pair};
 use reference::dayfile::{keep, lines_text, THERE_ALREADY};
 use reference::print::check_counts;
-use reference::rule::Rule;
 use std::fs;
 use std::path::{Path, PathBuf};
 
@@ -25,11 +24,10 @@ fn lines(file: &Path) -> Vec<String> {
     text.lines().map(str::to_string).collect()
 }
 
-/// What the reference prints for a feed in the place of a program with these words, if it can.
-fn expected(name: &str, words: &[String], feed: &[u8]) -> Option<Vec<u8>> {
+/// What stands for a program with these words in the reference, if anything does.
+fn stands_for(name: &str, words: &[String]) -> Option<Pair<'static>> {
     let words: Vec<&str> = words.iter().map(String::as_str).collect();
-    let pair = pair_of(Path::new(""), name, &words)?;
-    Some((pair.reference)(feed))
+    pair_of(Path::new(""), name, &words)
 }
 
 /// The feeds beside the programs, the known readings among them.
@@ -41,11 +39,9 @@ fn beside_the_programs() {
         let Ok(feed) = fs::read(folder.join("stdin")) else {
             continue;
         };
-        if let Some(expected) = expected(&name, &lines(&folder.join("args")), &feed) {
-            assert!(
-                fs::read(folder.join("stdout")).unwrap() == expected,
-                "{name}"
-            );
+        if let Some(pair) = stands_for(&name, &lines(&folder.join("args"))) {
+            let stdout = fs::read(folder.join("stdout")).unwrap();
+            assert!(stdout == (pair.reference)(&feed), "{name}");
             compared.push(name);
         }
     }
@@ -75,16 +71,13 @@ fn as_people_run_them() {
             _ => folder.join("stdin"),
         };
         let feed = fs::read(feed).unwrap_or_default();
-        if let Some(expected) = expected(&name, &words, &feed) {
+        if let Some(pair) = stands_for(&name, &words) {
+            let shown = folder.display();
             let stdout = written(&folder, "stdout");
-            assert!(stdout == expected, "{}", folder.display());
+            assert!(stdout == (pair.reference)(&feed), "{shown}");
             if name == "desk" {
                 let stderr = written(&folder, "stderr");
-                assert!(
-                    stderr == check_counts(Rule::New, &feed),
-                    "{}",
-                    folder.display()
-                );
+                assert!(stderr == check_counts(pair.rule, &feed), "{shown}");
             }
             compared += 1;
         }
