@@ -82,7 +82,18 @@ fn as_people_run_them() {
             compared += 1;
         }
     }
-    assert!(compared >= 9, "{compared}");
+    assert!(compared >= 14, "{compared}");
+}
+
+/// The sample of the old feed is the one that is checked there.
+#[test]
+fn the_sample_of_the_old_feed() {
+    let root = Path::new(env!("CARGO_MANIFEST_DIR")).join("../..");
+    let sample = fs::read(root.join("samples/old.feed")).unwrap();
+    for case in ["check-old", "check-old-refused"] {
+        let folder = root.join("tests/desk/cases").join(case);
+        assert!(written(&folder, "feed") == sample, "{case}");
+    }
 }
 
 /// What `desk keep` and `desk lines` do with a file of this name: what they write, what they say, and the
