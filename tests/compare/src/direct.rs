@@ -131,13 +131,24 @@ fn print(tally: &Tally) {
     }
 }
 
-/// Cases to keep: of each call and answer number the first that are small, at most so many, or the
-/// smallest; of those that are allowed. What the program reads, and what it must write.
+/// Cases to keep. What the program reads, and what it must write.
 pub fn record(seed: u64, most: usize, is_allowed: fn(&Case) -> bool) -> (Vec<u8>, Vec<u8>) {
+    let kept = kept(seed, most, is_allowed);
+    let cases: Vec<&Case> = kept.values().flatten().map(|(case, _)| case).collect();
+    let read = cases.iter().flat_map(|case| case.bytes()).collect();
+    let written = cases.iter().flat_map(|case| case.answer().bytes).collect();
+    (read, written)
+}
+
+/// Of each call and answer number cases with their sizes: the first that are small, at most so many, or
+/// the smallest; of those that are allowed.
+type Kept = BTreeMap<(usize, u8), Vec<(Case, usize)>>;
+
+fn kept(seed: u64, most: usize, is_allowed: fn(&Case) -> bool) -> Kept {
     const SMALL: usize = 5000;
     let mut seeds = Chance::of_seed(seed);
-    let mut kept: BTreeMap<(usize, u8), Vec<(Case, usize)>> = BTreeMap::new();
-    for _ in 0..4000 {
+    let mut kept = Kept::new();
+    for _ in 0..6000 {
         let case = case(&mut Chance::of_seed(seeds.draw()));
         if !is_allowed(&case) {
             continue;
@@ -152,10 +163,7 @@ pub fn record(seed: u64, most: usize, is_allowed: fn(&Case) -> bool) -> (Vec<u8>
             Some(_) => {}
         }
     }
-    let cases: Vec<&Case> = kept.values().flatten().map(|(case, _)| case).collect();
-    let read = cases.iter().flat_map(|case| case.bytes()).collect();
-    let written = cases.iter().flat_map(|case| case.answer().bytes).collect();
-    (read, written)
+    kept
 }
 
 #[cfg(test)]
@@ -170,5 +178,16 @@ mod tests {
         let (read, written) = record(RECORDED, RECORDED_OF_EACH, |_| true);
         assert!(fs::read(folder.join("stdin")).unwrap() == read);
         assert!(fs::read(folder.join("stdout")).unwrap() == written);
+    }
+
+    /// Every number that a call can give is among them.
+    #[test]
+    fn every_number_is_recorded() {
+        let kept = kept(RECORDED, RECORDED_OF_EACH, |_| true);
+        for (call, (name, numbers)) in CALLS.iter().enumerate() {
+            for number in *numbers {
+                assert!(kept.contains_key(&(call, *number)), "{name} {number}");
+            }
+        }
     }
 }

@@ -111,7 +111,7 @@ pub fn line(
     line
 }
 
-/// Puts a part of the front: a right one, or one of these.
+/// Puts a right part of the front.
 type Put = fn(&mut Vec<u8>, &mut Chance);
 
 fn put_front(
@@ -252,7 +252,7 @@ pub fn long_line(chance: &mut Chance, rule: Rule, flight: &[u8]) -> Vec<u8> {
     if chance.in_hundred(15) {
         return overlong_before_right(chance, rule, flight);
     }
-    // Types that can be filled up, one that cannot be too long, and the shortest.
+    // Types that can be filled up, one that reads up to the longest line, and one for the shortest.
     let (wide, widest, short): (&[&[u8]], &[u8], &[u8]) = match rule {
         Rule::New => (&[b"RT", b"TO", b"HB", b"UZ", b"AF", b"FZ"], b"RT", b"HB"),
         Rule::Old => (&[b"UZ", b"UZ", b"AF", b"FZ"], b"UZ", b"RZ"),

@@ -47,14 +47,23 @@ const FILES: u64 = 300;
 const RECORDED: u64 = 1;
 const RECORDED_OF_EACH: usize = 2;
 
+/// What the reference prints for a feed under a rule.
+type Reference = fn(Rule, &[u8]) -> Vec<u8>;
+
 /// What is compared: a program, and what the reference prints for the same feed.
 struct Pair<'a> {
     program: Program<'a>,
     /// The rule by which both read it.
     rule: Rule,
-    reference: fn(&[u8]) -> Vec<u8>,
+    reference: Reference,
     /// The longest feed that the program takes.
     most: usize,
+}
+
+impl Pair<'_> {
+    fn expected(&self, feed: &[u8]) -> Vec<u8> {
+        (self.reference)(self.rule, feed)
+    }
 }
 
 /// The board printer; the program that lists of each line the answer, the place and the values; and the
@@ -74,26 +83,18 @@ fn pairs(proved: &Path) -> [Pair<'_>; 8] {
             _ => usize::MAX,
         },
     };
-    let (new, old) = (Rule::New, Rule::Old);
+    let board: Reference = |_, feed| report(feed, MOST_LINES);
+    let all: Reference = |rule, feed| check(rule, feed, false);
+    let refused: Reference = |rule, feed| check(rule, feed, true);
     [
-        pair("flights", &[], new, |feed| report(feed, MOST_LINES)),
-        pair("readings", &[], new, |feed| list(Rule::New, feed)),
-        pair("readings", &["--old"], old, |feed| list(Rule::Old, feed)),
-        pair("desk", &["check"], new, |feed| {
-            check(Rule::New, feed, false)
-        }),
-        pair("desk", &["check", "--refused"], new, |feed| {
-            check(Rule::New, feed, true)
-        }),
-        pair("desk", &["check", "--old"], old, |feed| {
-            check(Rule::Old, feed, false)
-        }),
-        pair("desk", &["check", "--old", "--refused"], old, |feed| {
-            check(Rule::Old, feed, true)
-        }),
-        pair("desk", &["check", "--refused", "--old"], old, |feed| {
-            check(Rule::Old, feed, true)
-        }),
+        pair("flights", &[], Rule::New, board),
+        pair("readings", &[], Rule::New, list),
+        pair("readings", &["--old"], Rule::Old, list),
+        pair("desk", &["check"], Rule::New, all),
+        pair("desk", &["check", "--refused"], Rule::New, refused),
+        pair("desk", &["check", "--old"], Rule::Old, all),
+        pair("desk", &["check", "--old", "--refused"], Rule::Old, refused),
+        pair("desk", &["check", "--refused", "--old"], Rule::Old, refused),
     ]
 }
 
@@ -174,7 +175,7 @@ fn compare(proved: &Path, folder: &Path, seed: u64, lines: u64) -> io::Result<bo
         tally.count(&feed);
         for pair in pairs.iter().filter(|pair| feed.len() <= pair.most) {
             let printed = run(&pair.program, &feed, &parts)?;
-            let expected = (pair.reference)(&feed);
+            let expected = pair.expected(&feed);
             if differs(&printed, &expected) {
                 println!("feed {} differs in {}", tally.feeds, pair.program);
                 show(&printed, &expected);
@@ -257,7 +258,7 @@ fn keep(pair: &Pair, folder: &Path, feed: &[u8]) -> io::Result<()> {
 /// Whether a feed differs when it is given in one part.
 fn differs_whole(pair: &Pair, feed: &[u8]) -> io::Result<bool> {
     let printed = run(&pair.program, feed, &[feed.len()])?;
-    Ok(differs(&printed, &(pair.reference)(feed)))
+    Ok(differs(&printed, &pair.expected(feed)))
 }
 
 /// Takes lines away, many at once and then fewer, as long as the feed still differs.

@@ -47,7 +47,7 @@ pub fn write(name: &str, words: &[&str], seed: u64, bytes: usize, folder: &Path)
             let pair = pair_of(Path::new(""), name, words)
                 .ok_or_else(|| io::Error::other(no_program()))?;
             let feed = feed(seed, pair.rule, bytes.min(pair.most));
-            let report = (pair.reference)(&feed);
+            let report = pair.expected(&feed);
             (feed, report)
         }
     };

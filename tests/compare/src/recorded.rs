@@ -41,7 +41,7 @@ fn beside_the_programs() {
         };
         if let Some(pair) = stands_for(&name, &lines(&folder.join("args"))) {
             let stdout = fs::read(folder.join("stdout")).unwrap();
-            assert!(stdout == (pair.reference)(&feed), "{name}");
+            assert!(stdout == pair.expected(&feed), "{name}");
             compared.push(name);
         }
     }
@@ -74,7 +74,7 @@ fn as_people_run_them() {
         if let Some(pair) = stands_for(&name, &words) {
             let shown = folder.display();
             let stdout = written(&folder, "stdout");
-            assert!(stdout == (pair.reference)(&feed), "{shown}");
+            assert!(stdout == pair.expected(&feed), "{shown}");
             if name == "desk" {
                 let stderr = written(&folder, "stderr");
                 assert!(stderr == check_counts(pair.rule, &feed), "{shown}");
