@@ -16,6 +16,7 @@ use Rattle.text.specs.Text.{textOf}
 use Rattle.text.proofs.Logic.{and-left, not-holds}
 use Rattle.shapes.specs.Cut.{upTo, has, before, after}
 use Rattle.shapes.proofs.Laws.{upTo-le, fits-length, run-least}
+use Rattle.rules.specs.Form.{isOneLetter}
 use Rattle.rules.specs.Kind.{PREFIX, MODEL, LETTER, isForm}
 use Rattle.rules.specs.declared.Rule.{Rule}
 use Rattle.rules.specs.declared.Rule.the-variants.{Old}
@@ -153,6 +154,14 @@ old-cut s a e =
 
 pub old-uncut : (s : List ℕ) → aircraftBy Old s ≡ Nothing → (p t : List ℕ) → CutInto s p t [] → ⊥
 old-uncut s e p t c = aircraft-none-by Old s e (words p t []) (record { reading = cut-reading c; letter = rw packed-none })
+
+-- so one that is cut into parts with a last letter has no reading there
+pub lettered-none : (s p t l : List ℕ) → CutInto s p t l → isOneLetter l ≡ true → (a : Aircraft) → ReadingBy Old s a → ⊥
+unfolding isForm
+lettered-none s p t l c e a r =
+    let z = one-reading s p t l (textOf (a .prefix)) (textOf (a .model)) (textOf (a .letter)) c (reading-cut s a (r .reading)) in
+    let n : textOf (a .letter) ≡ [] = ap textOf (eqb-true (a .letter) 0 (r .letter)) ∙ text-none in
+    omega (arith, letter-size l e, ap length (z .2 ∙ n))
 
 -- the text of every aircraft reads as it
 pub aircraft-complete : (a : Aircraft) → isAircraftValue a ≡ true → aircraftOf (aircraftText a) ≡ Read a

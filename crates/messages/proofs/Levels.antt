@@ -15,18 +15,19 @@ use Rattle.table.specs.Amends.{isMark, contentOf}
 use Rattle.table.specs.Field.{IDENT, AIRCRAFT, ROUTE, PLAN-TIME, isOne, plain, isKindValue, isValue}
 use Rattle.table.specs.declared.kinds.Value.{Value}
 use Rattle.table.specs.Show.{allowedFrom}
-use Rattle.table.specs.Table.{amendments, countWith}
+use Rattle.table.specs.Table.{countWith}
 use Rattle.table.proofs.Eight.{each-mark}
+use Rattle.table.proofs.OldKinds.{kind-allowed}
 use Rattle.messages.specs.Body.{amendedIn, heldFrom, valueOfWord, valueOfIdent, valueOfAircraft, slotsOf, pairsOf, slots, fieldCount, valuesIn}
-use Rattle.messages.specs.Allowed.{isWhole, isBody}
+use Rattle.messages.specs.Allowed.{isWhole, kindsIn, isBody}
 use Rattle.messages.specs.Levels.{levelIn, amendedLevels, levelsIn}
 use Rattle.messages.specs.declared.Amendment.{Amendment}
 use Rattle.messages.specs.declared.Af.{Af}
 use Rattle.messages.specs.declared.Plan.{Plan}
 use Rattle.messages.specs.declared.Body.{Body}
 use Rattle.messages.specs.declared.Body.the-variants as body
-use Rattle.messages.proofs.Amendments.{leads, af-amendments}
-use Rattle.messages.proofs.Theorems.{counted}
+use Rattle.messages.proofs.Amendments.{amendmentsBy, leads, af-amendments}
+use Rattle.messages.proofs.Theorems.{counted, allowed}
 use Rattle.messages.proofs.InOrder.{first, next, word-in, body-fielded, body-values}
 
 -- each is a word of the level's form
@@ -67,24 +68,25 @@ content-levels v r =
     (λ e. tt) (λ e. tt) (λ e. tt) (λ e. tt) (λ e. tt) (λ e. (and-left (isWord LEVEL (v .a)) (isOne v) e, tt))
     (λ e. (and-left (isWord LEVEL (v .a)) (isOne v) e, tt)) (λ e. tt)
 
-amended-levels : (j p m : ℕ) (r : List ℕ) (xs : List Amendment) → allowedFrom (amendments j) p m r (pairsOf xs) ≡ true → AreLevels (amendedLevels xs)
+amended-levels : (ρ : Rule) (j p m : ℕ) (r : List ℕ) (xs : List Amendment) → allowedFrom (amendmentsBy ρ j) p m r (pairsOf xs) ≡ true → AreLevels (amendedLevels xs)
 unfolding allowedFrom
-amended-levels j p m r [] e = tt
-amended-levels zero p m r (x ∷ xs) e = true-false e refl
-amended-levels (suc j) p m r (x ∷ xs) e =
-    let f = leads j p m r x xs e in
-    both-levels (levelIn (amendedIn x)) (amendedLevels xs) (content-levels (x .content) r (x .mark) (f .number) (f .value))
-    (amended-levels j (f .left) (f .marks-left) r xs (f .others))
+amended-levels ρ j p m r [] e = tt
+amended-levels ρ zero p m r (x ∷ xs) e = true-false e refl
+amended-levels ρ (suc j) p m r (x ∷ xs) e =
+    let f = leads ρ j p m r x xs e in
+    both-levels (levelIn (amendedIn x)) (amendedLevels xs) (content-levels (x .content) r (x .mark) (f .number) (kind-allowed ρ (contentOf (x .mark)) r (x .content) (f .value)))
+    (amended-levels ρ j (f .left) (f .marks-left) r xs (f .others))
 
 -- ---- by type
 
 are-levels : (ρ : Rule) (b : Body) (r : List ℕ) (t : Bool) → isBody ρ b r t ≡ true → AreLevels (levelsIn b)
-unfolding valuesIn fieldCount countWith slots isWhole
+unfolding kindsIn valuesIn fieldCount countWith slots isWhole
 are-levels ρ (body.Fz p) r t e = (plan-level p r _ (body-values ρ (body.Fz p) r t refl e), tt)
 are-levels ρ (body.Uz p) r t e = (plan-level p r _ (body-values ρ (body.Uz p) r t refl e), tt)
 are-levels ρ (body.Af a) r t e =
-    let (p, m, x) = af-amendments a (counted ρ (body.Af a) r t (body-fielded ρ (body.Af a) r t refl e)) r (body-values ρ (body.Af a) r t refl e) in
-    amended-levels (ones (a .marks)) p m r (take (ones (a .marks)) (slotsOf a)) x
+    let g = body-fielded ρ (body.Af a) r t refl e in
+    let (p, m, x) = af-amendments a (counted ρ (body.Af a) r t g) ρ r (allowed ρ (body.Af a) r t g) in
+    amended-levels ρ (ones (a .marks)) p m r (take (ones (a .marks)) (slotsOf a)) x
 are-levels ρ (body.Az m) r t e = tt
 are-levels ρ (body.Dz m) r t e = tt
 are-levels ρ (body.Rz m) r t e = tt

@@ -8,5 +8,6 @@ pub mod Named
 pub mod Keys
 pub mod InOrder
 pub mod Levels
+pub mod OldBodies
 pub mod Unique
 pub mod Examples

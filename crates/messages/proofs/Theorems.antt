@@ -25,7 +25,6 @@ use Rattle.table.specs.declared.walk.Fault.{Fault}
 use Rattle.table.proofs.Theorems.{complete, allowed-taken, body-printable}
 use Rattle.table.proofs.Routes.{Back, route-back, written-back}
 use Rattle.table.proofs.Amends.{marks-count}
-use Rattle.table.proofs.OldKinds.{kinds-allowed}
 use Rattle.table.specs.Table.{tableBy, countWith, isCount, hasFields, kindsOf, countIn, answerBy, valuesBy, routeBy, freeIn}
 use Rattle.table.proofs.TableWays.{kinds-length}
 use Rattle.table.proofs.Tables.{table-few, table-one}
@@ -286,7 +285,7 @@ pub amendments-typed : (ρ : Rule) (s : List ℕ) (a : Af) (u : Bool) → bodyRe
 unfolding kindsIn
 amendments-typed ρ s a u e =
     let g = fields-held ρ type.Af s (body.Af a) u (sym (by-table ρ type.Af s refl) ∙ e) .good in
-    amendments-kept a (routeBy ρ type.Af s) (counted ρ (body.Af a) (routeBy ρ type.Af s) u g) (kinds-allowed ρ type.Af (fieldCount (body.Af a)) 0 0 (routeBy ρ type.Af s) (valuesIn (body.Af a)) (allowed ρ (body.Af a) (routeBy ρ type.Af s) u g))
+    amendments-kept ρ a (routeBy ρ type.Af s) (counted ρ (body.Af a) (routeBy ρ type.Af s) u g) (allowed ρ (body.Af a) (routeBy ρ type.Af s) u g)
 
 -- a body that is kept whole
 whole-complete : (r : List ℕ) (u : Bool) → (allIn 32 126 r && not u) ≡ true → (u ≡ false) × (allIn 32 126 r ≡ true)

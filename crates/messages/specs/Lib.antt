@@ -4,3 +4,4 @@ pub mod Read
 pub mod Named
 pub mod Levels
 pub mod Reading
+pub mod Lacks

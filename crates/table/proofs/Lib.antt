@@ -18,7 +18,9 @@ pub mod MarksKept
 pub mod Routes
 pub mod RoutePlaces
 pub mod Amends
+pub mod Places
 pub mod Levels
+pub mod Letters
 pub mod Unique
 pub mod Examples
 pub mod OldKinds

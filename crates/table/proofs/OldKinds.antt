@@ -53,7 +53,7 @@ clock-arrives : (t : ℕ) → isWord CLOCK t ≡ true → isWord ARRIVAL t ≡ t
 unfolding isWord isForm isArrival
 clock-arrives t e = rw (and-left (isPacked t) (isClock (textOf t)) e, and-right (isPacked t) (isClock (textOf t)) e)
 
-kind-allowed : (ρ : Rule) (k : ℕ) (r : List ℕ) (v : Value) → isKindValue (kindBy ρ k) r v ≡ true → isKindValue k r v ≡ true
+pub kind-allowed : (ρ : Rule) (k : ℕ) (r : List ℕ) (v : Value) → isKindValue (kindBy ρ k) r v ≡ true → isKindValue k r v ≡ true
 unfolding isKindValue isWord isForm
 kind-allowed ρ k r v =
     each-kind (λ k j. isKindValue j r v ≡ true → isKindValue k r v ≡ true)

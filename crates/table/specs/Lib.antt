@@ -8,3 +8,4 @@ pub mod Read
 pub mod Show
 pub mod Fault
 pub mod Levels
+pub mod Letters
