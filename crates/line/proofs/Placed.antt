@@ -39,6 +39,8 @@ use Rattle.line.proofs.read_old.Reads as read-old
 
 -- under either rule
 pub record Stands (ρ : Rule) (s : List ℕ) (x : Reading) : Type 0 where
+  pub stamp-held : stampIn ρ .held (x .stamp) ≡ true
+  pub facility-held : facilityIn ρ .held (x .facility) ≡ true
   pub sequence : sequenceIn ρ .shown (x .sequence) ≡ sequencePart ρ s
   pub stamp : stampIn ρ .shown (x .stamp) ≡ stampPart ρ s
   pub facility : facilityIn ρ .shown (x .facility) ≡ facilityPart ρ s
@@ -58,6 +60,8 @@ module _ (ρ : Rule) (s : List ℕ) (x : Reading) (e : readBy ρ s ≡ Read x) w
       let (k, p) = passed in
       let h = passes-head ρ s x k p in
       record {
+        stamp-held = h .stamp-held;
+        facility-held = h .facility-held;
         sequence = h .sequence-text;
         stamp = h .stamp-text;
         facility = h .facility-text;
