@@ -15,6 +15,7 @@ use Rattle.shapes.specs.Pieces.{pieces}
 use Rattle.shapes.specs.Picture.{isOf, fits, fitsAny, oneOf, run, within}
 use Rattle.rules.specs.Form.{isStamp, isKey, isClock, isTime, isArrival, isPosition}
 use Rattle.rules.specs.Kind.{SEQUENCE, STAMP, KEY, POINT, TIME, GROUND-SPEED, TRACK-LEVEL, POSITION, ARRIVAL, isForm}
+use Rattle.rules.specs.declared.Rule.the-variants.{New, Old}
 use Rattle.fields.specs.Word.{wordOf, isWord}
 use Rattle.fields.specs.declared.frame.SequenceRead.the-variants as sequence
 use Rattle.fields.specs.declared.frame.StampRead.the-variants as stamp
@@ -22,6 +23,7 @@ use Rattle.fields.specs.declared.flight.KeyRead.the-variants as key
 use Rattle.fields.specs.declared.plan.TimeRead.the-variants as time
 use Rattle.fields.proofs.flight.Key.read.Reads as key-read
 use Rattle.fields.proofs.flight.Key.holds.Reads as key-holds
+use Rattle.fields.proofs.frame.body_at.Reads as body-at
 use Rattle.fields.proofs.frame.Sequence.read.Reads as sequence-read
 use Rattle.fields.proofs.frame.Sequence.holds.Reads as sequence-holds
 use Rattle.fields.proofs.frame.Sequence.put.Reads as sequence-put
@@ -34,6 +36,13 @@ use Rattle.fields.proofs.track.GroundSpeed.holds.Reads as ground-speed-
 use Rattle.fields.proofs.track.TrackLevel.holds.Reads as track-level-holds
 use Rattle.fields.proofs.track.Position.holds.Reads as position-holds
 use Rattle.fields.proofs.track.ArrivalClock.holds.Reads as arrival-holds
+
+-- the body of a line begins after 18 bytes, and that of an old line after nine
+pub body-after-17 : (κs : _) (r : _) (s : _) → body-at.Post κs (New, tt) r s → r ≡ 18
+body-after-17 κs r s p = p
+
+pub old-body-after-18 : (κs : _) (r : _) (s : _) → body-at.Post κs (Old, tt) r s → r ≡ 9
+old-body-after-18 κs r s p = p
 
 -- ---- readers
 

@@ -7,6 +7,7 @@ use Rattle.fields.proofs.aircraft.Aircraft.put.Reads as aircraft-put
 use Rattle.fields.proofs.aircraft.Aircraft.read.Reads as aircraft-read
 use Rattle.fields.proofs.flight.Key.holds.Reads as key-holds
 use Rattle.fields.proofs.flight.Key.read.Reads as key-read
+use Rattle.fields.proofs.frame.body_at.Reads as body-at
 use Rattle.fields.proofs.frame.Sequence.holds.Reads as sequence-holds
 use Rattle.fields.proofs.frame.Sequence.put.Reads as sequence-put
 use Rattle.fields.proofs.frame.Sequence.read.Reads as sequence-read
@@ -28,6 +29,7 @@ use Rattle.fields.proofs.track.ArrivalClock.holds.Reads as arrival-cloc
 use Rattle.fields.proofs.track.GroundSpeed.holds.Reads as ground-speed-holds
 use Rattle.fields.proofs.track.Position.holds.Reads as position-holds
 use Rattle.fields.proofs.track.TrackLevel.holds.Reads as track-level-holds
+use Rattle.fields.proofs.words.holds.Reads as holds
 use Rattle.fields.proofs.words.put.Reads as put
 use Rattle.fields.proofs.words.read.Reads as read
 
@@ -36,6 +38,9 @@ key-read-one κs a r r′ s s′ p q = p ∙ sym q
 
 pub key-holds-one : (κs : _) (a : _) (r r′ : _) (s s′ : _) → key-holds.Post κs a r s → key-holds.Post κs a r′ s′ → r ≡ r′
 key-holds-one κs a r r′ s s′ p q = p ∙ sym q
+
+pub body-at-one : (κs : _) (a : _) (r r′ : _) (s s′ : _) → body-at.Post κs a r s → body-at.Post κs a r′ s′ → r ≡ r′
+body-at-one κs a r r′ s s′ p q = p ∙ sym q
 
 pub sequence-read-one : (κs : _) (a : _) (r r′ : _) (s s′ : _) → sequence-read.Post κs a r s → sequence-read.Post κs a r′ s′ → r ≡ r′
 sequence-read-one κs a r r′ s s′ p q = p ∙ sym q
@@ -119,6 +124,9 @@ ident-put-one κs a r r′ s s′ p q = (p .0 ∙ sym (q .0), p .1 ∙ sym (q .1
 
 pub read-one : (κs : _) (a : _) (r r′ : _) (s s′ : _) → read.Post κs a r s → read.Post κs a r′ s′ → r ≡ r′
 read-one κs a r r′ s s′ p q = p ∙ sym q
+
+pub holds-one : (κs : _) (a : _) (r r′ : _) (s s′ : _) → holds.Post κs a r s → holds.Post κs a r′ s′ → r ≡ r′
+holds-one κs a r r′ s s′ p q = p ∙ sym q
 
 pub put-one : (κs : _) (a : _) (r r′ : _) (s s′ : _) → put.Post κs a r s → put.Post κs a r′ s′ → (r ≡ r′) × (now (s .1 .1 .0) ≡ now (s′ .1 .1 .0))
 put-one κs a r r′ s s′ p q = (p .0 ∙ sym (q .0), p .1 ∙ sym (q .1))

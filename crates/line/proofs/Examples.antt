@@ -9,10 +9,11 @@ use Rattle.text.specs.Class.{all, isDigit, isLetter, isAlnum}
 use Rattle.text.specs.Code.{codeOf}
 use Rattle.text.specs.Number.{isDigitTo, digitOf, isNumeral, numberOf as number}
 use Rattle.text.specs.Place.{value, allIn}
+use Rattle.text.specs.Text.{packed}
 use Rattle.shapes.specs.Cut.{upTo, has, before, after, joins}
 use Rattle.shapes.specs.Picture.{isOf, fits, fitsAny, oneOf, run, within, startsAt}
 use Rattle.shapes.specs.Pieces.{pieces}
-use Rattle.rules.specs.Form.{isStamp, isKey, isIdent, isTzIdent, isFix, isClock, isTime, isBlock, isLevel, isPosition}
+use Rattle.rules.specs.Form.{isStamp, isOldStamp, isKey, isIdent, isTzIdent, isFix, isClock, isTime, isBlock, isLevel, isPosition}
 use Rattle.rules.specs.Kind.{isForm}
 use Rattle.rules.specs.declared.Rule.the-variants.{New}
 use Rattle.fields.specs.Aircraft.{aircraftBy, aircraftOf, plainOf, prefixedOf}
@@ -26,12 +27,13 @@ use Rattle.table.specs.Spacing.{ended, fieldsOf}
 use Rattle.table.specs.declared.walk.Fault.the-variants as fault
 use Rattle.table.specs.Table.{countWith, isCount, tableBy, kindsOf, countIn, answerBy, routeBy, routeAtBy}
 use Rattle.messages.specs.Read.{bodyRead}
-use Rattle.line.specs.Read.{typeBy, headOf, restOf, readBy, readOf, refusalNumber, refusalPlace, lineNumber, linePlace, freeOf, freeAt}
+use Rattle.line.specs.Read.{typeBy, headOf, restOf, readBy, readOf, oldReadOf, refusalNumber, refusalPlace, lineNumber, linePlace, oldNumber, oldPlace, freeOf, freeAt}
 use Rattle.line.specs.declared.Refusal.the-variants as refusal
 use Rattle.line.proofs.Refusal.number.Reads as number
 use Rattle.line.proofs.Refusal.place.Reads as place
 use Rattle.line.proofs.free.Reads as free
 use Rattle.line.proofs.read.Reads as read
+use Rattle.line.proofs.read_old.Reads as read-old
 
 -- document 01's starred line is read
 pub refuses-every-line : (κs : _) (a : _) (r : _) (s : _) → read.Post κs a r s → now (a .0) ≡ bytes "000006143655KZMAHB" → lineNumber r ≡ 0
@@ -118,6 +120,48 @@ pub falling-block-as-texts : (κs : _) (a : _) (r : _) (s : _) → read.Post κs
 falling-block-as-texts κs a r s p e =
     let z = p .0 ∙ ap readOf e in
     (ap lineNumber z ∙ ap (λ x. x .0) (told .4), ap linePlace z ∙ ap (λ x. x .1) (told .4))
+
+-- ---- lines of the old feed
+
+-- an old line's number and place
+abbrev old-at : String → ℕ × ℕ
+old-at s = (oldNumber (oldReadOf (bytes s)), oldPlace (oldReadOf (bytes s)))
+
+-- a departure; the same with the aircraft's last letter; an arrival with an A clock; an AF whose 03 has a letter; a line of the feed; an HB; nine bytes, and eight; hour 24
+old-told : (old-at "143655ZDZ QQX12/101 C172 ABC D0816 DEF 0930" ≡ (0, 0)) × (old-at "143655ZDZ QQX12/101 C172/A ABC D0816 DEF 0930" ≡ (9, 2))
+    × (old-at "143655ZAZ QQX12 ABC DEF A0930" ≡ (9, 4)) × (old-at "143655ZAF QQX12 ABC DEF 03 T/B73S/F" ≡ (9, 5))
+    × (old-at "000106081500KZAATZ QQX12/101 310 240 3015N/08430W" ≡ (6, 0)) × (old-at "143655ZHB" ≡ (7, 0)) × (old-at "143655ZTZ" ≡ (8, 0)) × (old-at "143655ZT" ≡ (1, 0))
+    × (old-at "240000ZTZ QQX12/101 310 240 3015N/08430W" ≡ (5, 0))
+unfolding oldReadOf packed readBy typeBy headOf restOf bodyRead typeOf allIn isOldStamp isOf fits pieces within isDigit isLetter isAlnum all isNumeral isDigitTo codeOf number value digitOf answerBy
+    isCount countIn fieldsOf ended countWith answerOf answers counted kindsOf tableBy answerFrom readIn readKind plain isTzIdent isForm isPairForm pairOf tzIdentOf upTo has joins
+    oneOf fitsAny follows identOf isIdent isKey run readMark markOf traceOf marksOf contentOf barred aircraftBy aircraftOf plainOf prefixedOf wordOf isTime isClock isFix isBlock isLevel isPosition
+    before after
+old-told = (refl, refl, refl, refl, refl, refl, refl, refl, refl)
+
+-- each as the call answers it
+old-answer : (κs : _) (a : _) (r : _) (s : _) → read-old.Post κs a r s → (t : String) {n p : ℕ} → now (a .0) ≡ bytes t → old-at t ≡ (n, p) → (oldNumber r ≡ n) × (oldPlace r ≡ p)
+old-answer κs a r s q t e f = (ap oldNumber (q .0 ∙ ap oldReadOf e) ∙ ap (λ x. x .0) f, ap oldPlace (q .0 ∙ ap oldReadOf e) ∙ ap (λ x. x .1) f)
+
+pub refuses-every-old-line : (κs : _) (a : _) (r : _) (s : _) → read-old.Post κs a r s → now (a .0) ≡ bytes "143655ZDZ QQX12/101 C172 ABC D0816 DEF 0930" → (oldNumber r ≡ 0) × (oldPlace r ≡ 0)
+refuses-every-old-line κs a r s p e = old-answer κs a r s p _ e (old-told .0)
+
+pub old-letter-read : (κs : _) (a : _) (r : _) (s : _) → read-old.Post κs a r s → now (a .0) ≡ bytes "143655ZDZ QQX12/101 C172/A ABC D0816 DEF 0930" → (oldNumber r ≡ 9) × (oldPlace r ≡ 2)
+old-letter-read κs a r s p e = old-answer κs a r s p _ e (old-told .1)
+
+pub old-a-clock-read : (κs : _) (a : _) (r : _) (s : _) → read-old.Post κs a r s → now (a .0) ≡ bytes "143655ZAZ QQX12 ABC DEF A0930" → (oldNumber r ≡ 9) × (oldPlace r ≡ 4)
+old-a-clock-read κs a r s p e = old-answer κs a r s p _ e (old-told .2)
+
+pub old-amended-letter-read : (κs : _) (a : _) (r : _) (s : _) → read-old.Post κs a r s → now (a .0) ≡ bytes "143655ZAF QQX12 ABC DEF 03 T/B73S/F" → (oldNumber r ≡ 9) × (oldPlace r ≡ 5)
+old-amended-letter-read κs a r s p e = old-answer κs a r s p _ e (old-told .3)
+
+pub new-line-read-as-old : (κs : _) (a : _) (r : _) (s : _) → read-old.Post κs a r s → now (a .0) ≡ bytes "000106081500KZAATZ QQX12/101 310 240 3015N/08430W" → (oldNumber r ≡ 6) × (oldPlace r ≡ 0)
+new-line-read-as-old κs a r s p e = old-answer κs a r s p _ e (old-told .4)
+
+pub old-hb-taken : (κs : _) (a : _) (r : _) (s : _) → read-old.Post κs a r s → now (a .0) ≡ bytes "143655ZHB" → (oldNumber r ≡ 7) × (oldPlace r ≡ 0)
+old-hb-taken κs a r s p e = old-answer κs a r s p _ e (old-told .5)
+
+pub nine-bytes-short : (κs : _) (a : _) (r : _) (s : _) → read-old.Post κs a r s → now (a .0) ≡ bytes "143655ZTZ" → (oldNumber r ≡ 8) × (oldPlace r ≡ 0)
+nine-bytes-short κs a r s p e = old-answer κs a r s p _ e (old-told .6)
 
 -- ---- the number and the place of a refusal
 

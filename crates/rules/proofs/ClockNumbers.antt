@@ -6,13 +6,15 @@ use Prim.Native.Nat.{ℕ, _/_, _%_, _<_}
 use native.Mathlib.Nat.{div-one, mod-eq-of-lt}
 use native.Mathlib.Omega.{arith}
 use lib.Dec.{leb, leb·zero, lit≤}
-use lib.ListN.{length, getD}
-use lib.Seq.{take-all}
+use lib.ListN.{length, drop, getD}
+use lib.Seq.{take-all, drop-drop}
 use Rattle.text.specs.Bytes.{bytes}
 use Rattle.text.specs.Number.{numberOf, isNumeral, readNumber}
 use Rattle.text.specs.declared.Numeral.the-variants.{Value, Nothing}
 use Rattle.text.proofs.Numbers.{number-known, number-none}
+use Rattle.text.proofs.Logic.{and-left-comm}
 use Rattle.shapes.specs.Picture.{isOf, fits, within, part}
+use Rattle.shapes.proofs.Parts.{fits-parts}
 use Rattle.shapes.proofs.Digits.{digits-fit, numeral-lt, within-part}
 use Rattle.rules.specs.Form.{isStamp, isOldStamp, isClock}
 use Rattle.rules.proofs.Minutes.{withMinutes, minutes-are}
@@ -49,6 +51,16 @@ module _ (s : List ℕ) (long : length s ≡ 6) where
   old-stamp-is told =
       let k = number-known 10 s told in
       rw (k .1, digits-fit 6 s (lit≤ tt) long, k .0, within-part s (k .0) 0 2 4 long 0 23, within-part s (k .0) 2 2 2 long 0 59, within-part s (k .0) 4 2 0 long 0 59, div-one) (simp leb·zero)
+
+day-first : (a b c d e f : Bool) → (a && b && c && d && e && f) ≡ (a && c && (b && d && e && f))
+day-first a b c d e f = simp (and-assoc, and-left-comm)
+
+-- a stamp is a day and then an old stamp: what the old feed lacked is the day, and nothing else
+pub stamp-day : (s : List ℕ) → isStamp s ≡ (fits (bytes "dd") (part 0 2 s) && within 1 31 (part 0 2 s) && isOldStamp (drop 2 s))
+unfolding isStamp isOldStamp
+stamp-day s =
+    rw (fits-parts (bytes "dd") (bytes "dddddd") s, drop-drop 2 2 s, drop-drop 4 2 s)
+    (day-first (fits (bytes "dd") (part 0 2 s)) (fits (bytes "dddddd") (drop 2 s)) (within 1 31 (part 0 2 s)) (within 0 23 (part 2 2 s)) (within 0 59 (part 4 2 s)) (within 0 59 (part 6 2 s)))
 
 pub clock-is : (s : List ℕ) → length s ≡ 4 → withMinutes 2359 s ≡ isClock s
 unfolding isClock

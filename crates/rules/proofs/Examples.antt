@@ -16,7 +16,7 @@ use Rattle.text.specs.Place.{value}
 use Rattle.shapes.specs.Cut.{upTo, has, before, after, joins}
 use Rattle.shapes.specs.Picture.{isOf, fits, fitsAny, oneOf, within, run}
 use Rattle.shapes.specs.Pieces.{pieces}
-use Rattle.rules.specs.Form.{isFacility, isPosition, isRoute, isStamp, isKey, isFix, isClock, isTime, isArrival, isBlock, isLevel}
+use Rattle.rules.specs.Form.{isFacility, isPosition, isRoute, isStamp, isOldStamp, isKey, isFix, isClock, isTime, isArrival, isBlock, isLevel}
 use Rattle.rules.specs.Kind as kinds
 use Rattle.rules.specs.Kind.{isForm}
 use Rattle.rules.proofs.clocks.is_stamp.Reads as is-stamp
@@ -84,6 +84,7 @@ abbrev pub table : List Row
 table =
     rows kinds.SEQUENCE ("0000" ∷ "09AF" ∷ []) ("09A" ∷ "09AG" ∷ [])  -- sequence_3, sequence_g
     ++ (rows kinds.STAMP ("01000000" ∷ "31235959" ∷ []) ("00143655" ∷ "06143660" ∷ [])  -- stamp_day_00, stamp_second_60
+    ++ (rows kinds.OLD-STAMP ("000000" ∷ "235959" ∷ []) ("240000" ∷ "236000" ∷ "235960" ∷ "06143655" ∷ [])  -- old_stamp_hour_24, old_stamp_minute_60, old_stamp_second_60, old_stamp_with_day
     ++ (rows kinds.KEY ("N5" ∷ "ABCDEF7" ∷ []) ("ABCDEF78" ∷ "5N" ∷ [])  -- key_8, key_digit_first
     ++ (rows kinds.NUMBER ("123" ∷ "12Z" ∷ []) ("12" ∷ "1A2" ∷ [])  -- number_2, number_letter_second
     ++ (rows kinds.PREFIX ("T" ∷ "2H" ∷ []) ("22H" ∷ "H2" ∷ [])  -- prefix_3, prefix_letter_first
@@ -101,7 +102,7 @@ table =
     ++ (rows kinds.LEVEL ("34B35" ∷ "35B35" ∷ "34B035" ∷ "99B100" ∷ "05B005" ∷ "034B35" ∷ "005B05" ∷ "349B350" ∷ "350B350" ∷ []) ("36B35" ∷ "36B035" ∷ "036B35" ∷ "100B99" ∷ "351B350" ∷ "350B310" ∷ [])
     ++ (rows kinds.TRACK-LEVEL ("350" ∷ "350C" ∷ "350B" ∷ []) ("35" ∷ "350CC" ∷ "110B130" ∷ [])  -- track_level_2, track_level_two_letters, track_level_block
     ++ (rows kinds.POSITION ("9000N/18000W" ∷ "0000S/00000E" ∷ []) ("9001N/00000E" ∷ "8960N/00000E" ∷ [])  -- position_9001, position_minute_60
-    ++ rows (code "Z") [] ("12" ∷ "" ∷ []))))))))))))))))))  -- a letter that names no kind
+    ++ rows (code "Z") [] ("12" ∷ "" ∷ [])))))))))))))))))))  -- a letter that names no kind
 
 -- the kind k and the text t being a row's, r is the row's answer; and so of each row
 abbrev pub Tells : ℕ → List ℕ → Bool → List Row → Type 0
@@ -113,7 +114,7 @@ tells k t [] e = tt
 tells k t (x ∷ l) e = ((λ p q. rw (p, q) (ap (λ bs. getD bs 0 true) e)), tells k t l (ap (drop 1) e))
 
 pub every-form : (κs : _) (a : _) (r : _) (s : _) → is-form.Post κs a r s → Tells (a .0) (now (a .1 .0)) r table
-unfolding isForm isStamp isKey isFix isClock isTime isArrival isBlock isLevel isPosition joins has before after upTo isOf fits fitsAny oneOf run within
+unfolding isForm isStamp isOldStamp isKey isFix isClock isTime isArrival isBlock isLevel isPosition joins has before after upTo isOf fits fitsAny oneOf run within
     pieces all isDigit isLetter isAlnum codeOf value isDigitTo digitOf isNumeral numberOf
 every-form κs a r s p = rw p (tells (a .0) (now (a .1 .0)) table refl)
 

@@ -38,6 +38,7 @@ use Rattle.table.specs.declared.walk.Fault.the-variants.{Spacing, Field,
 use Rattle.table.proofs.field.put_field.Reads as put-field
 use Rattle.table.proofs.field_count.Reads as field-count
 use Rattle.table.proofs.has_fields.Reads as has-fields
+use Rattle.table.proofs.has_type.Reads as has-type
 use Rattle.table.proofs.has_route.Reads as has-route
 use Rattle.table.proofs.is_count.Reads as is-count
 use Rattle.table.proofs.is_long_plan.Reads as is-long-plan
@@ -152,6 +153,13 @@ amendment-is-one-field κs r s p = p
 -- the body of an HB is kept whole
 pub heartbeat-has-fields : (κs : _) (r : _) (s : _) → has-fields.Post κs (Hb, tt) r s → r ≡ false
 heartbeat-has-fields κs r s p = p
+
+-- the old feed has none, and the feed has them
+pub old-heartbeat : (κs : _) (r : _) (s : _) → has-type.Post κs (Old, (Hb, tt)) r s → r ≡ false
+old-heartbeat κs r s p = p
+
+pub no-heartbeat : (κs : _) (r : _) (s : _) → has-type.Post κs (New, (Hb, tt)) r s → r ≡ true
+no-heartbeat κs r s p = p
 
 -- that of an RZ is fields
 pub rz-kept-whole : (κs : _) (r : _) (s : _) → has-fields.Post κs (Rz, tt) r s → r ≡ true

@@ -5,6 +5,7 @@ use denote.Ref.{now}
 use Rattle.table.proofs.field.put_field.Reads as put-field
 use Rattle.table.proofs.field_count.Reads as field-count
 use Rattle.table.proofs.has_fields.Reads as has-fields
+use Rattle.table.proofs.has_type.Reads as has-type
 use Rattle.table.proofs.has_route.Reads as has-route
 use Rattle.table.proofs.is_count.Reads as is-count
 use Rattle.table.proofs.is_long_plan.Reads as is-long-plan
@@ -33,6 +34,9 @@ field-count-one κs a r r′ s s′ p q = p ∙ sym q
 
 pub has-fields-one : (κs : _) (a : _) (r r′ : _) (s s′ : _) → has-fields.Post κs a r s → has-fields.Post κs a r′ s′ → r ≡ r′
 has-fields-one κs a r r′ s s′ p q = p ∙ sym q
+
+pub has-type-one : (κs : _) (a : _) (r r′ : _) (s s′ : _) → has-type.Post κs a r s → has-type.Post κs a r′ s′ → r ≡ r′
+has-type-one κs a r r′ s s′ p q = p ∙ sym q
 
 pub has-route-one : (κs : _) (a : _) (r r′ : _) (s s′ : _) → has-route.Post κs a r s → has-route.Post κs a r′ s′ → r ≡ r′
 has-route-one κs a r r′ s s′ p q = p ∙ sym q

@@ -2,6 +2,7 @@
 -- function's `ensures` as it stands in the source, r any result that meets it, s any state at exit. Assumes nothing.
 use mathlib.Core.Path.{_≡_, _∙_}
 use Prim.Native.Nat.{_+_, _*_, _^_}
+use mathlib.Core.Bool.{true, false}
 use denote.Ref.{now}
 use Rattle.text.specs.Bytes.{bytes}
 use Rattle.text.specs.Class.{all, isDigit, isLetter, isAlnum}
@@ -12,11 +13,12 @@ use Rattle.text.specs.Text.{packed, textOf, isPacked, spliced, hasRoom, written
 use Rattle.text.specs.declared.Packed.the-variants.{Text, Nothing}
 use Rattle.text.specs.declared.Written.the-variants.{NoText}
 use Rattle.shapes.specs.Picture.{isOf, fits, run, within}
-use Rattle.rules.specs.Form.{isKey, isPosition}
-use Rattle.rules.specs.Kind.{SEQUENCE, KEY, POSITION, isForm}
+use Rattle.rules.specs.Form.{isOldStamp, isKey, isPosition}
+use Rattle.rules.specs.Kind.{SEQUENCE, OLD-STAMP, KEY, LETTER, POSITION, isForm}
 use Rattle.fields.specs.Word.{wordOf, isWord}
 use Rattle.fields.proofs.words.read.Reads as read
 use Rattle.fields.proofs.words.put.Reads as put
+use Rattle.fields.proofs.words.holds.Reads as holds
 
 -- sixty minutes are no position
 pub read-without-form : (κs : _) (a : _) (r : _) (s : _) → read.Post κs a r s → a .0 ≡ POSITION → now (a .1 .0) ≡ bytes "8960N/00000E" → r ≡ Nothing
@@ -28,6 +30,16 @@ pub read-all-alike : (κs : _) (a : _) (r : _) (s : _) → read.Post κs a r s
     → a .0 ≡ KEY → now (a .1 .0) ≡ bytes "N5" → r ≡ Text (24 * 38 ^ 11 + 6 * 38 ^ 10)
 unfolding wordOf isForm isKey run isOf all isAlnum isDigit isLetter packed codeOf value
 read-all-alike κs a r s p k e = p ∙ rw (k, e)
+
+-- Z is the center of an old line
+pub center-refused : (κs : _) (a : _) (r : _) (s : _) → holds.Post κs a r s → a .0 ≡ LETTER → a .1 .0 ≡ packed (bytes "Z") → r ≡ true
+unfolding isWord isForm fits isOf isLetter isPacked tight packed value textOf digits codeOf byteOf isDigit
+center-refused κs a r s p k e = p ∙ rw (k, e)
+
+-- an old stamp has no day before it
+pub old-stamp-with-day : (κs : _) (a : _) (r : _) (s : _) → holds.Post κs a r s → a .0 ≡ OLD-STAMP → a .1 .0 ≡ packed (bytes "06143655") → r ≡ false
+unfolding isWord isForm isOldStamp fits isOf isDigit isLetter isPacked tight packed value textOf digits codeOf byteOf
+old-stamp-with-day κs a r s p k e = p ∙ rw (k, e)
 
 -- a key's word is no sequence number's: it is not written
 pub put-any-kind : (κs : _) (a : _) (r : _) (s : _) → put.Post κs a r s → a .0 ≡ SEQUENCE → a .1 .0 ≡ packed (bytes "N5") → r ≡ NoText
