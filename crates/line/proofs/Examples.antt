@@ -2,7 +2,9 @@
 -- `ensures` as it stands in the source, r any result that meets it, s the state at exit. Assumes nothing.
 use Prim.Native.Nat.{ℕ}
 use Prim.Native.String.{String}
+use mathlib.Core.List.{List, [], _∷_, map}
 use mathlib.Core.Path.{_≡_, refl, ap, _∙_}
+use lib.ListN.{drop, getD}
 use denote.Ref.{now}
 use Rattle.text.specs.Bytes.{bytes}
 use Rattle.text.specs.Class.{all, isDigit, isLetter, isAlnum}
@@ -28,6 +30,7 @@ use Rattle.table.specs.declared.walk.Fault.the-variants as fault
 use Rattle.table.specs.Table.{countWith, isCount, tableBy, kindsOf, countIn, answerBy, routeBy, routeAtBy}
 use Rattle.messages.specs.Read.{bodyRead}
 use Rattle.line.specs.Read.{typeBy, headOf, restOf, readBy, readOf, oldReadOf, refusalNumber, refusalPlace, lineNumber, linePlace, oldNumber, oldPlace, freeOf, freeAt}
+use Rattle.line.specs.declared.OldRead.{OldRead}
 use Rattle.line.specs.declared.Refusal.the-variants as refusal
 use Rattle.line.proofs.Refusal.number.Reads as number
 use Rattle.line.proofs.Refusal.place.Reads as place
@@ -123,45 +126,48 @@ falling-block-as-texts κs a r s p e =
 
 -- ---- lines of the old feed
 
--- an old line's number and place
-abbrev old-at : String → ℕ × ℕ
-old-at s = (oldNumber (oldReadOf (bytes s)), oldPlace (oldReadOf (bytes s)))
+-- an old line, and its number and place
+pub record OldRow : Type 0 where
+  pub text : String
+  pub number : ℕ
+  pub place : ℕ
 
--- a departure; the same with the aircraft's last letter; an arrival with an A clock; an AF whose 03 has a letter; a line of the feed; an HB; nine bytes, and eight; hour 24
-old-told : (old-at "143655ZDZ QQX12/101 C172 ABC D0816 DEF 0930" ≡ (0, 0)) × (old-at "143655ZDZ QQX12/101 C172/A ABC D0816 DEF 0930" ≡ (9, 2))
-    × (old-at "143655ZAZ QQX12 ABC DEF A0930" ≡ (9, 4)) × (old-at "143655ZAF QQX12 ABC DEF 03 T/B73S/F" ≡ (9, 5))
-    × (old-at "000106081500KZAATZ QQX12/101 310 240 3015N/08430W" ≡ (6, 0)) × (old-at "143655ZHB" ≡ (7, 0)) × (old-at "143655ZTZ" ≡ (8, 0)) × (old-at "143655ZT" ≡ (1, 0))
-    × (old-at "240000ZTZ QQX12/101 310 240 3015N/08430W" ≡ (5, 0))
+abbrev told-as : String → ℕ → ℕ → OldRow
+told-as t n p = record { text = t; number = n; place = p }
+
+-- beside each line the wrong answer that it refuses
+abbrev pub oldRows : List OldRow
+oldRows =
+    told-as "143655ZDZ QQX12/101 C172 ABC D0816 DEF 0930" 0 0  -- refuses_every_line
+    ∷ told-as "143655ZDZ QQX12/101 C172/A ABC D0816 DEF 0930" 9 2  -- letter_read
+    ∷ told-as "143655ZAF QQX12 ABC DEF 03 T/B73S/F" 9 5  -- amended_letter_read
+    ∷ told-as "143655ZAZ QQX12 ABC DEF A0930" 9 4  -- a_clock_read
+    ∷ told-as "000106081500KZAATZ QQX12/101 310 240 3015N/08430W" 6 0  -- new_line_read_as_old
+    ∷ told-as "143655ZHB" 7 0  -- hb_taken
+    ∷ told-as "143655ZTZ" 8 0  -- nine_bytes_are_short
+    ∷ told-as "143655ZT" 1 0  -- eight_bytes_are_enough
+    ∷ told-as "240000ZTZ QQX12/101 310 240 3015N/08430W" 5 0  -- hour_24
+    ∷ []
+
+-- s being the line of a row, r is answered as the row says; and so of each row
+abbrev pub OldTells : List ℕ → OldRead → List OldRow → Type 0
+OldTells s r [] = Unit {0}
+OldTells s r (x ∷ l) = (s ≡ bytes (x .text) → (oldNumber r ≡ x .number) × (oldPlace r ≡ x .place)) × OldTells s r l
+
+old-tells : (s : List ℕ) (l : List OldRow) → map {B = ℕ × ℕ} (λ (x : OldRow). (oldNumber (oldReadOf (bytes (x .text))), oldPlace (oldReadOf (bytes (x .text))))) l ≡ map {B = ℕ × ℕ} (λ (x : OldRow). (x .number, x .place)) l → OldTells s (oldReadOf s) l
+old-tells s [] e = tt
+old-tells s (x ∷ l) e =
+    let f = ap (λ (ns : List (ℕ × ℕ)). getD ns 0 (0, 0)) e in (
+      (λ q. (ap (λ z. oldNumber (oldReadOf z)) q ∙ ap (λ z. z .0) f, ap (λ z. oldPlace (oldReadOf z)) q ∙ ap (λ z. z .1) f)),
+      old-tells s l (ap (drop 1) e),
+    )
+
+pub every-old-line : (κs : _) (a : _) (r : _) (s : _) → read-old.Post κs a r s → OldTells (now (a .0)) r oldRows
 unfolding oldReadOf packed readBy typeBy headOf restOf bodyRead typeOf allIn isOldStamp isOf fits pieces within isDigit isLetter isAlnum all isNumeral isDigitTo codeOf number value digitOf answerBy
     isCount countIn fieldsOf ended countWith answerOf answers counted kindsOf tableBy answerFrom readIn readKind plain isTzIdent isForm isPairForm pairOf tzIdentOf upTo has joins
     oneOf fitsAny follows identOf isIdent isKey run readMark markOf traceOf marksOf contentOf barred aircraftBy aircraftOf plainOf prefixedOf wordOf isTime isClock isFix isBlock isLevel isPosition
     before after
-old-told = (refl, refl, refl, refl, refl, refl, refl, refl, refl)
-
--- each as the call answers it
-old-answer : (κs : _) (a : _) (r : _) (s : _) → read-old.Post κs a r s → (t : String) {n p : ℕ} → now (a .0) ≡ bytes t → old-at t ≡ (n, p) → (oldNumber r ≡ n) × (oldPlace r ≡ p)
-old-answer κs a r s q t e f = (ap oldNumber (q .0 ∙ ap oldReadOf e) ∙ ap (λ x. x .0) f, ap oldPlace (q .0 ∙ ap oldReadOf e) ∙ ap (λ x. x .1) f)
-
-pub refuses-every-old-line : (κs : _) (a : _) (r : _) (s : _) → read-old.Post κs a r s → now (a .0) ≡ bytes "143655ZDZ QQX12/101 C172 ABC D0816 DEF 0930" → (oldNumber r ≡ 0) × (oldPlace r ≡ 0)
-refuses-every-old-line κs a r s p e = old-answer κs a r s p _ e (old-told .0)
-
-pub old-letter-read : (κs : _) (a : _) (r : _) (s : _) → read-old.Post κs a r s → now (a .0) ≡ bytes "143655ZDZ QQX12/101 C172/A ABC D0816 DEF 0930" → (oldNumber r ≡ 9) × (oldPlace r ≡ 2)
-old-letter-read κs a r s p e = old-answer κs a r s p _ e (old-told .1)
-
-pub old-a-clock-read : (κs : _) (a : _) (r : _) (s : _) → read-old.Post κs a r s → now (a .0) ≡ bytes "143655ZAZ QQX12 ABC DEF A0930" → (oldNumber r ≡ 9) × (oldPlace r ≡ 4)
-old-a-clock-read κs a r s p e = old-answer κs a r s p _ e (old-told .2)
-
-pub old-amended-letter-read : (κs : _) (a : _) (r : _) (s : _) → read-old.Post κs a r s → now (a .0) ≡ bytes "143655ZAF QQX12 ABC DEF 03 T/B73S/F" → (oldNumber r ≡ 9) × (oldPlace r ≡ 5)
-old-amended-letter-read κs a r s p e = old-answer κs a r s p _ e (old-told .3)
-
-pub new-line-read-as-old : (κs : _) (a : _) (r : _) (s : _) → read-old.Post κs a r s → now (a .0) ≡ bytes "000106081500KZAATZ QQX12/101 310 240 3015N/08430W" → (oldNumber r ≡ 6) × (oldPlace r ≡ 0)
-new-line-read-as-old κs a r s p e = old-answer κs a r s p _ e (old-told .4)
-
-pub old-hb-taken : (κs : _) (a : _) (r : _) (s : _) → read-old.Post κs a r s → now (a .0) ≡ bytes "143655ZHB" → (oldNumber r ≡ 7) × (oldPlace r ≡ 0)
-old-hb-taken κs a r s p e = old-answer κs a r s p _ e (old-told .5)
-
-pub nine-bytes-short : (κs : _) (a : _) (r : _) (s : _) → read-old.Post κs a r s → now (a .0) ≡ bytes "143655ZTZ" → (oldNumber r ≡ 8) × (oldPlace r ≡ 0)
-nine-bytes-short κs a r s p e = old-answer κs a r s p _ e (old-told .6)
+every-old-line κs a r s p = rw (p .0) (old-tells (now (a .0)) oldRows refl)
 
 -- ---- the number and the place of a refusal
 
