@@ -1,10 +1,13 @@
 // The writer, on any values: a message made of 48 words. Words 0 to 5 are sequence, stamp, facility, type, whether a space stands at
-// the end, and marks; the body's values begin at 6, and the eight amendments, four words each, at 16.
+// the end, and marks; the body's values begin at 6, and the eight amendments, four words each, at 16. Of a message of the old feed word 0 is not
+// looked at, and word 2 is the byte of its center.
 use crate::numbers::say_bytes;
 use crate::numbers::say_two;
 use fields::aircraft::Aircraft;
 use fields::flight::ComputerNumber;
 use fields::flight::Key;
+use fields::frame::Center;
+use fields::frame::OldStamp;
 use fields::frame::Sequence;
 use fields::frame::Stamp;
 use fields::heads::Facility;
@@ -26,9 +29,11 @@ use messages::Az;
 use messages::Body;
 use messages::Dz;
 use messages::Message;
+use messages::OldMessage;
 use messages::Plan;
 use messages::Rz;
 use messages::Tz;
+use text::Packed;
 use text::Written;
 ghost use Prim.Native.Nat.{_+_, _≤_};
 ghost use lib.ListN.{length};
@@ -208,8 +213,53 @@ pub(crate) fn write(w: &[u64], free: &[u8], out: &mut [u8], at: usize) {
     }
     let sequence = Sequence(w[0]);
     let stamp = Stamp(w[1]);
-    let facility = Facility((w[2] % 4294967296) as u32);
+    let facility = Facility(w[2] % 4294967296);
     let written = send(w, sequence, stamp, facility, w[4] == 1, free, out, at);
+    say_written(written);
+    say_bytes(&out[..]);
+}
+
+// The word of a center's byte; 1, which is no text's word, for what is no byte of a text.
+fn center(n: u64) -> Center {
+    if n > 255 {
+        return Center(1);
+    }
+    let letter = [n as u8];
+    let Packed::Text(t) = text::pack(&letter) else {
+        return Center(1);
+    };
+    Center(t)
+}
+
+fn send_old(
+    w: &[u64],
+    stamp: OldStamp,
+    center: Center,
+    trailing: bool,
+    free: &[u8],
+    out: &mut [u8],
+    at: usize,
+) -> Written
+    requires { ⌜ 48 ≤ length (now w) ⌝ }
+{
+    let body = body(w);
+    let m = OldMessage {
+        stamp,
+        center,
+        body,
+        trailing,
+    };
+    writer::write_old(m, free, out, at)
+}
+
+// The same of a message of the old feed.
+pub(crate) fn write_old(w: &[u64], free: &[u8], out: &mut [u8], at: usize) {
+    if w.len() < 48 {
+        return;
+    }
+    let stamp = OldStamp(w[1]);
+    let center = center(w[2]);
+    let written = send_old(w, stamp, center, w[4] == 1, free, out, at);
     say_written(written);
     say_bytes(&out[..]);
 }

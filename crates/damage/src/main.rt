@@ -76,6 +76,7 @@ fn call(asked: Asked, words: &mut [u64], first: &mut [u8], second: &mut [u8]) {
         11 => days::keep_line(&second[..], first, words, a as usize, b as usize),
         12 => days::end_file(first, &words[..], a as usize, b as usize),
         13 => days::end_many(a as usize, b as usize, c as usize),
+        14 => lines::write_old(&words[..], &first[..], second, a as usize),
         _ => {}
     }
 }
