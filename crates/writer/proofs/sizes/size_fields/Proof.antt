@@ -54,7 +54,8 @@ has k =
       right = so (e .before .is-count .ensures) (e .if1 .left);
     }
 
-told : (s : tie.After-size-all) → let a = s .before .before .before .before .before .before .before .before .before .before .before .before .before .before .args in s .size-all .result ≡ sizedAll (kindsIn (a .rule) (a .b)) (now (a .free)) (valuesIn (a .b))
+told : (s : tie.After-size-all) → let a = s .before .before .before .before .before .before .before .before .before .before .before .before .before .before .args in
+    s .size-all .result ≡ sizedAll (kindsIn (a .rule) (a .b)) (now (a .free)) (valuesIn (a .b))
 told s = s .size-all .ensures ∙ has-sized (has (s .before .before)) _
 
 -- the marks that the body keeps
