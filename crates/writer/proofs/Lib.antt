@@ -1,4 +1,5 @@
 pub mod Puts
+pub mod HeadPuts
 pub mod Round
 pub mod Calls
 pub mod FieldSizes

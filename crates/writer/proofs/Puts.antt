@@ -1,20 +1,20 @@
 -- Writing a line part by part: the rest of a buffer lent on, fields one after the other, and a body. Assumes nothing.
 use mathlib.Core.Path.{_≡_, refl, sym, ap, _∙_}
-use mathlib.Core.Bool.{Bool, true, false, and-false}
+use mathlib.Core.Bool.{Bool, true, false}
 use mathlib.Core.List.{List, [], _∷_, _++_, append-assoc}
 use Prim.Native.Nat.{ℕ, _+_, _-_, _≤_, _<_}
 use native.Mathlib.Omega.{arith}
 use lib.ListN.{length, take, drop, set, length-set, length-drop, length-append}
 use borrow.Rule.Slice.PartMut.{putMid}
 use Rattle.text.specs.Text.{spliced, writtenBytes}
-use Rattle.text.proofs.Logic.{true-false, not-fails}
 use Rattle.text.proofs.Splice.{set-spliced, spliced-next, next-store, length-spliced, lend-on}
 use Rattle.shapes.proofs.Laws.{rest-all}
+use Rattle.rules.specs.declared.Rule.{Rule}
 use Rattle.table.specs.Spacing.{space, bodyOf}
 use Rattle.table.specs.Field.{traceOf, shown}
 use Rattle.table.specs.declared.kinds.Value.{Value}
 use Rattle.fields.specs.declared.heads.MessageType.{MessageType}
-use Rattle.table.specs.Show.{textsFrom, allowedFrom}
+use Rattle.table.specs.Show.{textsFrom}
 use Rattle.table.specs.Table.{isCount}
 use Rattle.table.proofs.Tables.{table-few}
 use Rattle.messages.specs.Body.{typeIn, fieldCount, valuesIn}
@@ -22,7 +22,7 @@ use Rattle.messages.specs.Allowed.{isWhole, kindsIn, bodyText, isFielded, isBod
 use Rattle.messages.specs.declared.Body.{Body}
 use Rattle.writer.specs.Size.{fieldsText}
 use Rattle.text.proofs.Wrote.{wrote}
-use Rattle.writer.proofs.LineSizes.{Has, has-kinds, has-values, has-length}
+use Rattle.writer.proofs.LineSizes.{Has, has-kinds, has-values, has-length, fielded-count, fielded-allowed}
 use Rattle.writer.specs.Asks.{PutAsks, BodyAsks}
 
 -- ---- bytes
@@ -63,28 +63,23 @@ unfolding bodyOf
 body-space [] = refl
 body-space (f ∷ fs) = rw (body-space fs) (ap (λ (l : List ℕ). space ∷ l) (sym (append-assoc f (bodyOf fs false) (space ∷ []))))
 
-module _ (b : Body) (r : List ℕ) (t : Bool) (out : List ℕ) (a : BodyAsks b r t out) where
-  pub whole-wrote : isWhole b ≡ true → {o : List ℕ} → o ≡ writtenBytes true r out 0 → o ≡ spliced out 0 (bodyText b r t)
+module _ (ρ : Rule) (b : Body) (r : List ℕ) (t : Bool) (out : List ℕ) (a : BodyAsks ρ b r t out) where
+  pub whole-wrote : isWhole b ≡ true → {o : List ℕ} → o ≡ writtenBytes true r out 0 → o ≡ spliced out 0 (bodyText ρ b r t)
   unfolding bodyText
   whole-wrote e w =
       let h : length r ≤ length out = rw e at (a .room) in
       rw e (wrote r out 0 refl (omega arith) w)
 
   module _ (parted : isWhole b ≡ false) where
-    fielded : isFielded b r ≡ true
+    fielded : isFielded ρ b r ≡ true
     unfolding isBody
     fielded = rw parted at (a .good)
 
     pub right-count : isCount (typeIn b) (fieldCount b) ≡ true
-    unfolding isFielded
-    right-count = not-fails _ (λ q. true-false (rw q at fielded) refl)
+    right-count = fielded-count ρ b r fielded
 
-    allowed : allowedFrom (kindsIn b) 0 0 r (valuesIn b) ≡ true
-    unfolding isFielded
-    allowed = not-fails _ (λ q. true-false (rw (q, and-false) at fielded) refl)
-
-  module _ (parted : isWhole b ≡ false) {k : MessageType} {n : ℕ} {ks : List ℕ} {vs : List Value} (has : Has b k n ks vs) where
-    kinds-are : take n ks ≡ kindsIn b
+  module _ (parted : isWhole b ≡ false) {k : MessageType} {n : ℕ} {ks : List ℕ} {vs : List Value} (has : Has ρ b k n ks vs) where
+    kinds-are : take n ks ≡ kindsIn ρ b
     unfolding kindsIn
     kinds-are = has-kinds has ∙ rw (has .type, has .count)
 
@@ -92,17 +87,17 @@ module _ (b : Body) (r : List ℕ) (t : Bool) (out : List ℕ) (a : BodyAsks b r
     abbrev pub unspaced : List ℕ
     unspaced = fieldsText (take n ks) r (take (length (take n ks)) vs)
 
-    text-is : bodyOf (textsFrom (kindsIn b) 0 r (valuesIn b)) false ≡ unspaced
+    text-is : bodyOf (textsFrom (kindsIn ρ b) 0 r (valuesIn b)) false ≡ unspaced
     unfolding fieldsText
     text-is = rw (has-values has, kinds-are)
 
-    plain-is : t ≡ false → bodyText b r t ≡ unspaced
+    plain-is : t ≡ false → bodyText ρ b r t ≡ unspaced
     unfolding bodyText
     plain-is h = rw (parted, h) text-is
 
-    spaced-is : t ≡ true → bodyText b r t ≡ unspaced ++ space ∷ []
+    spaced-is : t ≡ true → bodyText ρ b r t ≡ unspaced ++ space ∷ []
     unfolding bodyText
-    spaced-is h = rw (parted, h) (body-space (textsFrom (kindsIn b) 0 r (valuesIn b)) ∙ ap (λ (l : List ℕ). l ++ space ∷ []) text-is)
+    spaced-is h = rw (parted, h) (body-space (textsFrom (kindsIn ρ b) 0 r (valuesIn b)) ∙ ap (λ (l : List ℕ). l ++ space ∷ []) text-is)
 
     fits : length unspaced ≤ length out
     fits = go t refl
@@ -112,9 +107,9 @@ module _ (b : Body) (r : List ℕ) (t : Bool) (out : List ℕ) (a : BodyAsks b r
         go false h = omega (arith, a .room, ap length (plain-is h))
 
     pub all-asks : PutAsks (take n ks) r (take (length (take n ks)) vs) out
-    all-asks = record { few = rw (has-length has) (table-few k n (has .right)); good = rw (has-values has, kinds-are) (allowed parted); room = fits }
+    all-asks = record { few = rw (has-length has) (table-few k n (has .right)); good = rw (has-values has, kinds-are) (fielded-allowed ρ b r (fielded parted)); room = fits }
 
-    pub plain-wrote : t ≡ false → {o : List ℕ} → o ≡ spliced out 0 unspaced → o ≡ spliced out 0 (bodyText b r t)
+    pub plain-wrote : t ≡ false → {o : List ℕ} → o ≡ spliced out 0 unspaced → o ≡ spliced out 0 (bodyText ρ b r t)
     plain-wrote h w = w ∙ ap (spliced out 0) (sym (plain-is h))
 
     -- the space after the fields
@@ -125,7 +120,7 @@ module _ (b : Body) (r : List ℕ) (t : Bool) (out : List ℕ) (a : BodyAsks b r
       pub space-inside : end < length o
       space-inside = omega (arith, more, ends, ap length w, length-spliced out unspaced 0 (omega (arith, fits)))
 
-      pub spaced-wrote : set o end space ≡ spliced out 0 (bodyText b r t)
+      pub spaced-wrote : set o end space ≡ spliced out 0 (bodyText ρ b r t)
       spaced-wrote =
           let z : end ≡ 0 + length unspaced = omega (arith, ends) in
           let i : 0 + length unspaced < length out = omega (arith, more, ends) in
@@ -141,18 +136,34 @@ restFrom m o = take (length o - m) (drop m o)
 abbrev pub given : ℕ → List ℕ → List ℕ → List ℕ
 given m o ys = putMid m (length o - m) o ys
 
--- vs stand at the start of o, and us are written at the start of the rest after them
-module _ (l vs us : List ℕ) (m : ℕ) {o : List ℕ} (size : length vs ≡ m) (fits : m + length us ≤ length l) (is : o ≡ spliced l 0 vs) where
-  same : length o ≡ length l
-  same = ap length is ∙ length-spliced l vs 0 (omega arith)
+-- vs stand at the start of l, n bytes of them, and o is what stands then
+pub record Stand (l vs : List ℕ) (n : ℕ) (o : List ℕ) : Type 0 where
+  pub size : length vs ≡ n
+  pub fits : n ≤ length l
+  pub bytes : o ≡ spliced l 0 vs
 
-  pub rest-long : length us ≤ length (restFrom m o)
-  rest-long = rw (rest-all o m) (omega (arith, same, length-drop m o))
+module _ {l vs : List ℕ} {n : ℕ} {o : List ℕ} (s : Stand l vs n o) where
+  -- the buffer is as long as it was
+  pub same-room : length o ≡ length l
+  same-room = ap length (s .bytes) ∙ length-spliced l vs 0 (omega (arith, s .size, s .fits))
 
-  pub part-next : {ys : List ℕ} → ys ≡ spliced (restFrom m o) 0 us → given m o ys ≡ spliced l 0 (vs ++ us)
-  part-next w =
-      let z : m ≡ 0 + length vs = omega arith in
-      lend-on o us m w ∙ rw (is, z) (spliced-next l vs us 0 (omega arith))
+  -- us are written at the start of the rest after them
+  module _ (us : List ℕ) {k : ℕ} (size : length us ≡ k) (fits : n + k ≤ length l) where
+    pub rest-long : length us ≤ length (restFrom n o)
+    rest-long = rw (rest-all o n) (omega (arith, same-room, length-drop n o))
 
-  pub written-next : {ok : Bool} {ys : List ℕ} → ok ≡ true → ys ≡ writtenBytes ok us (restFrom m o) 0 → given m o ys ≡ spliced l 0 (vs ++ us)
-  written-next e w = part-next (wrote us (restFrom m o) 0 e (omega (arith, rest-long)) w)
+    pub part-next : {ys : List ℕ} → ys ≡ spliced (restFrom n o) 0 us → Stand l (vs ++ us) (n + k) (given n o ys)
+    part-next w =
+        let z : n ≡ 0 + length vs = omega (arith, s .size) in
+        record {
+          size = rw length-append (omega (arith, s .size));
+          fits = fits;
+          bytes = lend-on o us n w ∙ rw (s .bytes, z) (spliced-next l vs us 0 (omega (arith, s .size, s .fits)));
+        }
+
+    pub written-next : {ok : Bool} {ys : List ℕ} → ok ≡ true → ys ≡ writtenBytes ok us (restFrom n o) 0 → Stand l (vs ++ us) (n + k) (given n o ys)
+    written-next e w = part-next (wrote us (restFrom n o) 0 e (omega (arith, rest-long)) w)
+
+-- the first of them
+pub written-first : (l us : List ℕ) {k : ℕ} {ok : Bool} {o : List ℕ} → length us ≡ k → k ≤ length l → ok ≡ true → o ≡ writtenBytes ok us l 0 → Stand l us k o
+written-first l us h f e w = record { size = h; fits = f; bytes = wrote us l 0 e (omega arith) w }

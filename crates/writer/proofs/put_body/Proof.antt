@@ -14,14 +14,14 @@ returns c =
     let p = c .before .before in
     let t = p .before .before in
     let h = t .before in
-    whole-wrote _ _ _ _ (h .before .before .before .before .pre) (whole-of _ (h .before .type-in .ensures) (h .has-fields .ensures) (t .if1 .taken)) (p .put-bytes .ensures .1)
+    whole-wrote _ _ _ _ _ (h .before .before .before .before .pre) (whole-of _ (h .before .type-in .ensures) (h .has-fields .ensures) (t .if1 .taken)) (p .put-bytes .ensures .1)
 
 -- past the first test the body has fields
 parted : (e : tie.Else1) → isWhole (e .before .before .before .before .before .args .b) ≡ false
 parted e = let h = e .before in parted-of _ (h .before .type-in .ensures) (h .has-fields .ensures) (e .if1 .left)
 
 has : (c : tie.After-values-in) → let f = c .before .before in let t = f .before .before .before .before in
-    Has (t .before .before .before .args .b) (t .type-in .result) (f .field-count .result) (c .before .kinds-of .result) (c .values-in .result)
+    Has (t .before .before .before .args .rule) (t .before .before .before .args .b) (t .type-in .result) (f .field-count .result) (c .before .kinds-of .result) (c .values-in .result)
 has c =
     let f = c .before .before in
     let e = f .before .before in
@@ -32,7 +32,7 @@ has c =
       count = n;
       kinds = c .before .kinds-of .ensures;
       values = c .values-in .ensures;
-      right = rw (t .type-in .ensures, n) (right-count _ _ _ _ (t .before .before .before .pre) (parted e));
+      right = rw (t .type-in .ensures, n) (right-count _ _ _ _ _ (t .before .before .before .pre) (parted e));
     }
 
 array-share-prefix-kinds : tie.Need-array-share-prefix-kinds
@@ -44,25 +44,25 @@ slice-aggregate-put-all c = sym (length-take-le _ _ (has-few (has (c .before))))
 put-all-requires : tie.Need-put-all-requires
 put-all-requires c κs =
     let f = c .before .before in
-    all-asks _ _ _ _ (f .before .before .before .before .before .before .before .before .before .pre) (parted (f .before .before .before .before)) (has f)
+    all-asks _ _ _ _ _ (f .before .before .before .before .before .before .before .before .before .pre) (parted (f .before .before .before .before)) (has f)
 
 slice-write-out : tie.Need-slice-write-out
 slice-write-out c =
     let p = c .before .before .before in
     let f = p .before .before .before in
-    space-inside _ _ _ _ (f .before .before .before .before .before .before .before .before .before .pre) (parted (f .before .before .before .before)) (has f) (c .if2 .taken) (p .put-all .ensures .0) (p .put-all .ensures .1)
+    space-inside _ _ _ _ _ (f .before .before .before .before .before .before .before .before .before .pre) (parted (f .before .before .before .before)) (has f) (c .if2 .taken) (p .put-all .ensures .0) (p .put-all .ensures .1)
 
 returns-2 : tie.Need-returns-2
 returns-2 c =
     let p = c .before .before .before in
     let f = p .before .before .before in
-    spaced-wrote _ _ _ _ (f .before .before .before .before .before .before .before .before .before .pre) (parted (f .before .before .before .before)) (has f) (c .if2 .taken) (p .put-all .ensures .0) (p .put-all .ensures .1)
+    spaced-wrote _ _ _ _ _ (f .before .before .before .before .before .before .before .before .before .pre) (parted (f .before .before .before .before)) (has f) (c .if2 .taken) (p .put-all .ensures .0) (p .put-all .ensures .1)
 
 returns-3 : tie.Need-returns-3
 returns-3 c =
     let p = c .before .before .before in
     let f = p .before .before .before in
-    plain-wrote _ _ _ _ (f .before .before .before .before .before .before .before .before .before .pre) (parted (f .before .before .before .before)) (has f) (c .if2 .left) (p .put-all .ensures .1)
+    plain-wrote _ _ _ _ _ (f .before .before .before .before .before .before .before .before .before .pre) (parted (f .before .before .before .before)) (has f) (c .if2 .left) (p .put-all .ensures .1)
 
 pub put-body-spec : {M : Type 1} → statement M
 put-body-spec =

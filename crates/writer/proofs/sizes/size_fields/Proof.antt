@@ -41,7 +41,7 @@ spared i =
     i .is-none-from .ensures ∙ rw (v .values-in .ensures, found (v .before .before .before .before .before))
 
 has : (k : tie.After-kinds-of) → let v = k .before .before .before in let f = v .before .before .before .before .before in
-    Has (f .before .before .before .before .args .b) (f .before .before .type-in .result) (f .field-count .result) (k .kinds-of .result) (v .values-in .result)
+    Has (f .before .before .before .before .args .rule) (f .before .before .before .before .args .b) (f .before .before .type-in .result) (f .field-count .result) (k .kinds-of .result) (v .values-in .result)
 has k =
     let v = k .before .before .before in
     let e = v .before .before .before in
@@ -54,7 +54,8 @@ has k =
       right = so (e .before .is-count .ensures) (e .if1 .left);
     }
 
-told : (s : tie.After-size-all) → let a = s .before .before .before .before .before .before .before .before .before .before .before .before .before .before .args in s .size-all .result ≡ sizedAll (kindsIn (a .b)) (now (a .free)) (valuesIn (a .b))
+told : (s : tie.After-size-all) → let a = s .before .before .before .before .before .before .before .before .before .before .before .before .before .before .args in
+    s .size-all .result ≡ sizedAll (kindsIn (a .rule) (a .b)) (now (a .free)) (valuesIn (a .b))
 told s = s .size-all .ensures ∙ has-sized (has (s .before .before)) _
 
 -- the marks that the body keeps
@@ -62,27 +63,27 @@ kept : (s : tie.After-size-all) → let m = s .before .before .before .before .b
 kept s = s .before .before .before .before .before .before .before .before .before .before .before .marks-in .ensures
 
 returns : tie.Need-returns
-returns c = not-count _ _ (not-so (counted (c .before)) (c .if1 .taken))
+returns c = not-count _ _ _ (not-so (counted (c .before)) (c .if1 .taken))
 
 returns-2 : tie.Need-returns-2
 returns-2 c =
     let t = c .before in
-    not-free _ _ (rw (not-so (routed (t .before)) (t .if2 .taken), ne-eqb _ _ (c .if3 .taken)))
+    not-free _ _ _ (rw (not-so (routed (t .before)) (t .if2 .taken), ne-eqb _ _ (c .if3 .taken)))
 
 returns-3 : tie.Need-returns-3
-returns-3 c = not-none _ _ (not-so (spared (c .before)) (c .if4 .taken))
+returns-3 c = not-none _ _ _ (not-so (spared (c .before)) (c .if4 .taken))
 
 size-all-requires : tie.Need-size-all-requires
 size-all-requires c κs = has-asks (has (c .before)) _ (c .before .before .before .before .before .before .before .before .before .before .before .before .before .pre)
 
 returns-4 : tie.Need-returns-4
-returns-4 c = not-allowed _ _ (sym (told (c .before .before)) ∙ c .enum-told .given .1)
+returns-4 c = not-allowed _ _ _ (sym (told (c .before .before)) ∙ c .enum-told .given .1)
 
 returns-5 : tie.Need-returns-5
 returns-5 c =
     let z = c .before .before in
     let s = z .before .before in
-    not-marks _ _ (sym (told s) ∙ z .size .given .1) (λ e. c .if5 .taken (e ∙ sym (kept s)))
+    not-marks _ _ _ (sym (told s) ∙ z .size .given .1) (λ e. c .if5 .taken (e ∙ sym (kept s)))
 
 returns-6 : tie.Need-returns-6
 returns-6 c =
@@ -91,7 +92,7 @@ returns-6 c =
     let e = s .before .before .before in
     let j = e .before .before .before in
     let i = j .before .before in
-    fields-are _ _ (sym (told s) ∙ z .size .given .1) (so (counted (i .before)) (i .if1 .left)) (free j) (so (spared (e .before)) (e .if4 .left)) (c .if5 .left ∙ kept s)
+    fields-are _ _ _ (sym (told s) ∙ z .size .given .1) (so (counted (i .before)) (i .if1 .left)) (free j) (so (spared (e .before)) (e .if4 .left)) (c .if5 .left ∙ kept s)
 
 pub size-fields-spec : {M : Type 1} → statement M
 size-fields-spec =
