@@ -171,14 +171,11 @@ pub fn write(m: Message, free: &[u8], out: &mut [u8], at: usize) -> Written
     ensures { λ _. ⌜ now (out .exit) ≡ writtenBytes (isAllowed m (now (free .entry))) (lineOf m (now (free .entry))) (now (out .entry)) at ⌝ }
     ensures { λ r. ⌜ WriteCase New (readingOf m) (now (free .entry)) (now (out .entry)) at (writeAnswer r) (placeAfter r) (now (out .exit)) ⌝ }
 {
-    let sequence = m.sequence;
-    let stamp = m.stamp;
-    let facility = m.facility;
     let body = m.body;
     let x = Reading {
-        sequence: sequence.0,
-        stamp: stamp.0,
-        facility: facility.0,
+        sequence: m.sequence.0,
+        stamp: m.stamp.0,
+        facility: m.facility.0,
         body,
         trailing: m.trailing,
     };
@@ -191,13 +188,11 @@ pub fn write_old(m: OldMessage, free: &[u8], out: &mut [u8], at: usize) -> Writt
     ensures { λ _. ⌜ now (out .exit) ≡ writtenBytes (isOldAllowed m (now (free .entry))) (oldLineOf m (now (free .entry))) (now (out .entry)) at ⌝ }
     ensures { λ r. ⌜ WriteCase Old (oldReadingOf m) (now (free .entry)) (now (out .entry)) at (writeAnswer r) (placeAfter r) (now (out .exit)) ⌝ }
 {
-    let stamp = m.stamp;
-    let center = m.center;
     let body = m.body;
     let x = Reading {
         sequence: 0,
-        stamp: stamp.0,
-        facility: center.0,
+        stamp: m.stamp.0,
+        facility: m.center.0,
         body,
         trailing: m.trailing,
     };
