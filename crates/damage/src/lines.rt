@@ -22,6 +22,7 @@ use fields::track::Clock;
 use fields::track::GroundSpeed;
 use fields::track::Position;
 use fields::track::TrackLevel;
+use fields::words;
 use messages::Af;
 use messages::Amended;
 use messages::Amendment;
@@ -219,13 +220,13 @@ pub(crate) fn write(w: &[u64], free: &[u8], out: &mut [u8], at: usize) {
     say_bytes(&out[..]);
 }
 
-// The word of a center's byte; 1, which is no text's word, for what is no byte of a text.
+// The word of a center's byte, a capital or a digit; 1, which is no text's word, for any other.
 fn center(n: u64) -> Center {
     if n > 255 {
         return Center(1);
     }
     let letter = [n as u8];
-    let Packed::Text(t) = text::pack(&letter) else {
+    let Packed::Text(t) = words::read(rules::PREFIX, &letter) else {
         return Center(1);
     };
     Center(t)

@@ -133,7 +133,10 @@ fn show(rule: Rule, body: Body, as_it_was: bool) {
 fn show_new(line: &[u8]) {
     let read = read(line);
     match read {
-        LineRead::Read(m) => show(Rule::New, m.body, writes_same(m, line)),
+        LineRead::Read(m) => {
+            let body = m.body;
+            show(Rule::New, body, writes_same(m, line));
+        }
         LineRead::Refused(refusal) => refuse(refusal.number() as u64, refusal.place()),
     }
 }
@@ -141,7 +144,10 @@ fn show_new(line: &[u8]) {
 fn show_old(line: &[u8]) {
     let read = read_old(line);
     match read {
-        OldRead::Read(m) => show(Rule::Old, m.body, writes_old_same(m, line)),
+        OldRead::Read(m) => {
+            let body = m.body;
+            show(Rule::Old, body, writes_old_same(m, line));
+        }
         OldRead::Refused(refusal) => refuse(refusal.number() as u64, refusal.place()),
     }
 }

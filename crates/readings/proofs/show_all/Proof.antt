@@ -7,10 +7,10 @@ use Rattle.readings.proofs.show_all.Statement.{statement}
 use Rattle.readings.proofs.show_all.Tie as tie
 
 abbrev Inv-loop : tie.InvT-loop
-Inv-loop feed at₀ at = at ≤ length feed
+Inv-loop old feed at₀ at = at ≤ length feed
 
 abbrev μ-loop : tie.MeasureT-loop
-μ-loop feed at₀ at = length feed - at
+μ-loop old feed at₀ at = length feed - at
 
 loop-holds : tie.Need-loop-holds Inv-loop μ-loop
 loop-holds c = omega arith
