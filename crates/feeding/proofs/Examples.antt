@@ -24,7 +24,7 @@ use Rattle.board.specs.Rows.{CAP, lookup, fits, written, lookRow}
 use Rattle.board.proofs.Examples.{word, tracked}
 use Rattle.board.proofs.Theorems.{empty-board}
 use Rattle.history.specs.Steps.{answer, rowsAfter}
-use Rattle.line.specs.Read.{readOf as lineRead}
+use Rattle.line.specs.Read.{readBy, readOf as lineRead}
 use Rattle.planner.specs.Apply.{lineEvent}
 use Rattle.planner.specs.Asked.{askedOf}
 use Rattle.planner.proofs.Examples.{tz, asks, none-fits}
@@ -136,6 +136,6 @@ first-line-lost κs a r s p n d g h e m f =
 pub one-line-too-many : (κs : _) (a : _) (r : _) (s : _) → feed-allowed.Post κs a r s → isBoard (now (a .0)) ≡ true
     → length (now (a .1 .0)) ≡ 2048 → a .1 .1 .0 ≡ start → a .1 .1 .1 .0 ≡ 1 → now (a .1 .1 .1 .1 .0) ≡ 65 ∷ 10 ∷ 66 ∷ 10 ∷ []
     → (r .used ≡ 2) × (r .lines ≡ 1) × (r .taken ≡ 0)
-unfolding readOf lineFeeds takenBy told stateIn more pieces eventOf lineEvent answer askedOf lineRead
+unfolding readOf lineFeeds takenBy told stateIn more pieces eventOf lineEvent answer askedOf lineRead readBy
 one-line-too-many κs a r s p b h e m f =
     counts (now (a .0)) (now (a .1 .0)) start b (start-allowed (now (a .1 .0)) h) r 1 (65 ∷ 10 ∷ 66 ∷ 10 ∷ []) (65 ∷ 10 ∷ []) refl (p .0 ∙ rw (e, m, f))

@@ -10,7 +10,7 @@ use Rattle.board.specs.declared.rows.Row.{Row}
 use Rattle.board.proofs.Theorems.{words-rows}
 use Rattle.history.specs.Events.{History, _then_}
 use Rattle.history.specs.Steps.{rowsAfter, after}
-use Rattle.line.specs.Read.{readOf as lineRead}
+use Rattle.line.specs.Read.{readBy, readOf as lineRead}
 use Rattle.planner.specs.Apply.{lineEvent, applyOf, boardAfter}
 use Rattle.planner.specs.Asked.{askedOf}
 use Rattle.planner.specs.Run.{OfCalls}
@@ -32,7 +32,7 @@ record Told (x : Line) : Type 0 where
   event : eventOf x ≡ lineEvent bytes
 
 told : (x : Line) → Told x
-unfolding eventOf lineEvent askedOf lineRead
+unfolding eventOf lineEvent askedOf lineRead readBy
 told (Whole s) = record { bytes = s; event = refl }
 told TooLong = record { bytes = []; event = refl }
 

@@ -4,6 +4,7 @@ use mathlib.Core.Path.{_≡_, refl, sym, ap, _∙_, subst}
 use mathlib.Core.List.{List}
 use Prim.Native.Nat.{ℕ}
 use native.Mathlib.Omega.{arith}
+use Rattle.rules.specs.declared.Rule.the-variants.{New}
 use Rattle.messages.specs.declared.Message.{Message}
 use Rattle.messages.specs.declared.Body.{Body}
 use Rattle.messages.specs.declared.Body.the-variants as body
@@ -13,7 +14,7 @@ use Rattle.line.specs.Read.{readOf, refusalNumber, refusalPlace, lineNumber, li
 use Rattle.line.specs.declared.LineRead.{LineRead}
 use Rattle.line.specs.declared.LineRead.the-variants as read
 use Rattle.line.specs.declared.Refusal.{Refusal}
-use Rattle.line.proofs.Cases.{case-of, case-only}
+use Rattle.line.proofs.Cases.{new-case, new-case-only}
 use Rattle.planner.specs.Asked.{askedIn, askedBy, askedFrom, askedOf, askedNumber, askedPlace}
 use Rattle.planner.specs.declared.asks.Asked.{Asked}
 use Rattle.planner.specs.declared.asks.Asked.the-variants.{Dz, Az, Tz, Other, Refused}
@@ -82,12 +83,12 @@ module _ (s : List ℕ) where
       go Other (m, e) = absurd (none m e)
 
   -- THE CASE of a refusal: the line is in the case of its number and place
-  pub refused-case : (x : Refusal) → askedOf s ≡ Refused x → Case s (refusalNumber x) (refusalPlace x)
-  refused-case x e = subst (λ (r : LineRead). Case s (lineNumber r) (linePlace r)) (sym (asks-read (Refused x) e)) (case-of s)
+  pub refused-case : (x : Refusal) → askedOf s ≡ Refused x → Case New s (refusalNumber x) (refusalPlace x)
+  refused-case x e = subst (λ (r : LineRead). Case New s (lineNumber r) (linePlace r)) (sym (asks-read (Refused x) e)) (new-case s)
 
   -- and in no other
-  pub refused-only : (x : Refusal) → askedOf s ≡ Refused x → (n i : ℕ) → Case s n i → (refusalNumber x ≡ n) × (refusalPlace x ≡ i)
+  pub refused-only : (x : Refusal) → askedOf s ≡ Refused x → (n i : ℕ) → Case New s n i → (refusalNumber x ≡ n) × (refusalPlace x ≡ i)
   refused-only x e n i c =
       let p = asks-number x e in
-      let q = case-only s n i c in
+      let q = new-case-only s n i c in
       (p .0 ∙ q .0, p .1 ∙ q .1)

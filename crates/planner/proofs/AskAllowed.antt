@@ -5,6 +5,7 @@ use mathlib.Core.Bool.{Bool, true}
 use mathlib.Core.List.{List}
 use Prim.Native.Nat.{ℕ}
 use Rattle.rules.specs.Kind.{KEY, STAMP}
+use Rattle.rules.specs.declared.Rule.the-variants.{New}
 use Rattle.fields.specs.Word.{isWord}
 use Rattle.fields.specs.declared.flight.Key.{Key}
 use Rattle.fields.specs.declared.frame.Stamp.{Stamp}
@@ -14,6 +15,7 @@ use Rattle.board.specs.declared.rows.ArrivalSlot.the-variants as arrival
 use Rattle.board.specs.declared.rows.Track.{Track}
 use Rattle.board.specs.declared.rows.TrackSlot.the-variants as track
 use Rattle.messages.specs.Allowed.{isBody}
+use Rattle.messages.specs.Reading.{readingOf}
 use Rattle.messages.specs.declared.Message.{Message}
 use Rattle.messages.specs.declared.Body.{Body}
 use Rattle.messages.specs.declared.Body.the-variants as body
@@ -36,7 +38,7 @@ May Other = Unit {0}
 May (Refused x) = Unit {0}
 
 -- a body that a line can have, with a line's stamp
-in-body : (s : Stamp) (b : Body) (r : List ℕ) (t : Bool) → isWord STAMP (s .0) ≡ true → isBody b r t ≡ true → May (askedIn s b)
+in-body : (s : Stamp) (b : Body) (r : List ℕ) (t : Bool) → isWord STAMP (s .0) ≡ true → isBody New b r t ≡ true → May (askedIn s b)
 unfolding isArrival isTrack
 in-body s (body.Dz m) r t p e = (key-dz m r t e, rw (from-dz m r t e, to-dz m r t e, clock-arrival (m .clock .0) (clock-dz m r t e), p))
 in-body s (body.Az m) r t p e = (key-az m r t e, rw (from-az m r t e, to-az m r t e, clock-az m r t e, p))
@@ -52,8 +54,8 @@ in-body s body.Hb r t p e = tt
 in-message : (s : List ℕ) (m : Message) → readOf s ≡ read.Read m → May (askedBy m)
 unfolding askedBy
 in-message s m e =
-    let a = allowed-allows m (freeOf s) (reads-allowed s m e .0) in
-    in-body (m .stamp) (m .body) (freeOf s) (m .trailing) (a .stamp-word) (a .body)
+    let a = allowed-allows New (readingOf m) (freeOf New s) (reads-allowed s m e .0) in
+    in-body (m .stamp) (m .body) (freeOf New s) (m .trailing) (a .stamp-held) (a .body)
 
 in-line : (s : List ℕ) → May (askedOf s)
 unfolding askedOf

@@ -19,6 +19,7 @@ use Rattle.shapes.specs.Cut.{before}
 use Rattle.shapes.specs.Picture.{part}
 use Rattle.rules.specs.Form.{isIdent}
 use Rattle.rules.specs.Kind.{STAMP, POINT, CLOCK, ARRIVAL, GROUND-SPEED, TRACK-LEVEL, POSITION}
+use Rattle.rules.specs.declared.Rule.the-variants.{New}
 use Rattle.fields.specs.Word.{isWord}
 use Rattle.fields.specs.Ident.{identFrom, identOf, identText, isIdentValue}
 use Rattle.fields.specs.MessageType.{typeText}
@@ -30,6 +31,7 @@ use Rattle.table.specs.Table.{hasFields}
 use Rattle.messages.specs.Body.{typeIn}
 use Rattle.messages.specs.Allowed.{isBody}
 use Rattle.messages.specs.Named.{named, AreFields}
+use Rattle.messages.specs.Reading.{readingOf}
 use Rattle.messages.specs.declared.Message.{Message}
 use Rattle.messages.specs.declared.Body.{Body}
 use Rattle.messages.specs.declared.Body.the-variants as body
@@ -38,7 +40,8 @@ use Rattle.line.specs.Placed.{Placed}
 use Rattle.line.specs.declared.LineRead.{LineRead}
 use Rattle.line.specs.declared.LineRead.the-variants as read
 use Rattle.line.proofs.Steps.{Allows, allowed-allows}
-use Rattle.line.proofs.Theorems.{reads-allowed, refusal-numbers}
+use Rattle.line.proofs.Lines.{refusal-numbers}
+use Rattle.line.proofs.Theorems.{reads-allowed}
 use Rattle.line.proofs.Placed.{reads-placed}
 use Rattle.board.specs.declared.rows.Arrival.{Arrival}
 use Rattle.board.specs.declared.rows.Track.{Track}
@@ -91,24 +94,24 @@ module _ (s : List ℕ) (m : Message) (e : readOf s ≡ read.Read m) where
   abbrev p : Placed s m
   p = reads-placed s m e
 
-  abbrev a : Allows m (freeOf s)
-  a = allowed-allows m (freeOf s) (reads-allowed s m e .0)
+  abbrev a : Allows New (readingOf m) (freeOf New s)
+  a = allowed-allows New (readingOf m) (freeOf New s) (reads-allowed s m e .0)
 
   reads-zero : lineNumber (readOf s) ≡ 0
   reads-zero = ap lineNumber e
 
   stamp-at : m .stamp .0 ≡ packed (part 4 8 s)
-  stamp-at = word-at STAMP (m .stamp .0) (a .stamp-word) (sym (p .stamp))
+  stamp-at = word-at STAMP (m .stamp .0) (a .stamp-held) (sym (p .stamp))
 
   module _ (b : Body) (q : m .body ≡ b) where
     type-at : part 16 2 s ≡ typeText (typeIn b)
     type-at = subst (λ (b : Body). part 16 2 s ≡ typeText (typeIn b)) q (sym (p .type))
 
-    fields-at : hasFields (typeIn b) ≡ true → AreFields (drop 18 s) (named b (freeOf s))
-    fields-at = subst (λ (b : Body). hasFields (typeIn b) ≡ true → AreFields (drop 18 s) (named b (freeOf s))) q (p .fields)
+    fields-at : hasFields (typeIn b) ≡ true → AreFields (drop 18 s) (named b (freeOf New s))
+    fields-at = subst (λ (b : Body). hasFields (typeIn b) ≡ true → AreFields (drop 18 s) (named b (freeOf New s))) q (p .fields)
 
-    body-at : isBody b (freeOf s) (m .trailing) ≡ true
-    body-at = subst (λ (b : Body). isBody b (freeOf s) (m .trailing) ≡ true) q (a .body)
+    body-at : isBody New b (freeOf New s) (m .trailing) ≡ true
+    body-at = subst (λ (b : Body). isBody New b (freeOf New s) (m .trailing) ≡ true) q (a .body)
 
     other-at : elsewhere (typeText (typeIn b)) ≡ true → OtherOf s
     other-at t =
@@ -125,7 +128,7 @@ module _ (s : List ℕ) (m : Message) (e : readOf s ≡ read.Read m) where
   known-body (body.Dz d) q =
       let f = fields-at (body.Dz d) q refl .stand in
       let g = body-at (body.Dz d) q in
-      let r = freeOf s in
+      let r = freeOf New s in
       let t = m .trailing in
       record {
         reads = reads-zero;
@@ -139,7 +142,7 @@ module _ (s : List ℕ) (m : Message) (e : readOf s ≡ read.Read m) where
   known-body (body.Az d) q =
       let f = fields-at (body.Az d) q refl .stand in
       let g = body-at (body.Az d) q in
-      let r = freeOf s in
+      let r = freeOf New s in
       let t = m .trailing in
       record {
         reads = reads-zero;
@@ -153,7 +156,7 @@ module _ (s : List ℕ) (m : Message) (e : readOf s ≡ read.Read m) where
   known-body (body.Tz d) q =
       let f = fields-at (body.Tz d) q refl .stand in
       let g = body-at (body.Tz d) q in
-      let r = freeOf s in
+      let r = freeOf New s in
       let t = m .trailing in
       record {
         reads = reads-zero;

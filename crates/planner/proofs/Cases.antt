@@ -10,7 +10,7 @@ use Rattle.text.proofs.Logic.{true-false}
 use Rattle.rules.specs.Kind.{KEY, isForm}
 use Rattle.line.specs.Read.{readOf, lineNumber, linePlace}
 use Rattle.line.specs.declared.Refusal.{Refusal}
-use Rattle.line.proofs.Theorems.{refusal-numbers}
+use Rattle.line.proofs.Lines.{refusal-numbers}
 use Rattle.board.specs.Rows.{keyOf, lookRow, written, fits, struck, isListed}
 use Rattle.board.specs.declared.rows.Row.{Row}
 use Rattle.board.specs.Board.{rowsOf, wordsOf, isAllowed}

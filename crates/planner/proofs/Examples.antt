@@ -19,7 +19,7 @@ use Rattle.shapes.specs.Picture.{isOf, fits as fitsPicture, fitsAny, oneOf, run
 use Rattle.shapes.specs.Pieces.{pieces}
 use Rattle.rules.specs.Form.{isStamp, isKey, isIdent, isTzIdent, isClock, isTime, isPosition}
 use Rattle.rules.specs.Kind.{isForm}
-use Rattle.fields.specs.Aircraft.{plainOf, prefixedOf, aircraftOf}
+use Rattle.fields.specs.Aircraft.{plainOf, prefixedOf, aircraftOf, aircraftBy}
 use Rattle.fields.specs.Ident.{identFrom, identOf, tzIdentOf}
 use Rattle.fields.specs.MessageType.{typeOf}
 use Rattle.fields.specs.Pair.{isPairForm, pairOf}
@@ -40,10 +40,10 @@ use Rattle.history.specs.Steps.{byTz, rowsAfter}
 use Rattle.table.specs.Field.{plain, traceOf, marksOf, readKind, readIn, follows}
 use Rattle.table.specs.Read.{padded, valuesFrom, answerFrom, counted, answers, values, answerOf, valuesOf}
 use Rattle.table.specs.Spacing.{ended, fieldsOf}
-use Rattle.table.specs.Table.{countWith, isCount, kindsOf, countIn, answerBy, valuesBy}
+use Rattle.table.specs.Table.{countWith, isCount, tableBy, kindsOf, countIn, answerBy, valuesBy}
 use Rattle.messages.specs.Body.{bodyFrom}
 use Rattle.messages.specs.Read.{bodyRead}
-use Rattle.line.specs.Read.{headOf, restOf, readOf}
+use Rattle.line.specs.Read.{typeBy, headOf, restOf, readBy, readOf}
 use Rattle.planner.specs.Apply.{eventOf, lineEvent, strikeEvent, answerTo, applyOf, boardAfter, strikeOf, boardStruck, applyNumber, strikeNumber, strikePlace}
 use Rattle.planner.specs.Asked.{askedBy, askedOf}
 use Rattle.planner.specs.declared.asks.Asked.the-variants as asked
@@ -66,7 +66,9 @@ abbrev pub due : Arrival
 due = record { departure = record { 0 = word "ABC" }; destination = record { 0 = word "DEF" }; clock = record { 0 = word "0930" }; stamp = record { 0 = word "06081600" } }
 
 pub asks : (askedOf tz ≡ asked.Tz (tracked .key) seen) × (askedOf dz ≡ asked.Dz (tracked .key) due) × (askedOf hb ≡ asked.Other)
-unfolding askedOf askedBy readOf headOf restOf bodyRead bodyFrom typeOf allIn answerBy valuesBy kindsOf countIn isCount countWith padded valuesFrom answerFrom counted answers values answerOf valuesOf plain traceOf marksOf readKind readIn follows ended fieldsOf plainOf prefixedOf aircraftOf identFrom identOf tzIdentOf isPairForm pairOf wordOf isForm isStamp isKey isIdent isTzIdent isClock isTime isPosition upTo has before after joins isOf fitsPicture fitsAny oneOf run within pieces isDigitTo digitOf isNumeral number packed value codeOf all isDigit isLetter isAlnum
+unfolding askedOf askedBy readOf readBy typeBy headOf restOf bodyRead bodyFrom typeOf allIn answerBy valuesBy kindsOf tableBy countIn isCount countWith padded valuesFrom answerFrom counted answers values answerOf valuesOf
+    plain traceOf marksOf readKind readIn follows ended fieldsOf plainOf prefixedOf aircraftOf aircraftBy identFrom identOf tzIdentOf isPairForm pairOf wordOf
+    isForm isStamp isKey isIdent isTzIdent isClock isTime isPosition upTo has before after joins isOf fitsPicture fitsAny oneOf run within pieces isDigitTo digitOf isNumeral number packed value codeOf all isDigit isLetter isAlnum
 asks = (refl, refl, refl)
 
 abbrev pub landed : Row

@@ -8,6 +8,7 @@ use Rattle.text.specs.Text.{textOf}
 use Rattle.text.proofs.Logic.{and-left}
 use Rattle.rules.specs.Form.{isClock, isArrival}
 use Rattle.rules.specs.Kind.{KEY, NUMBER, POINT, TIME, CLOCK, ARRIVAL, GROUND-SPEED, TRACK-LEVEL, POSITION, isForm}
+use Rattle.rules.specs.declared.Rule.the-variants.{New}
 use Rattle.fields.specs.Word.{isWord}
 use Rattle.fields.specs.Pair.{isPair}
 use Rattle.fields.proofs.WordLaws.{word-packed, word-form}
@@ -15,9 +16,9 @@ use Rattle.fields.specs.Ident.{isIdentValue}
 use Rattle.table.specs.Field.{IDENT, TZ-IDENT, AIRCRAFT, identIn, isTwo, plain, isKindValue, isValue}
 use Rattle.table.specs.declared.kinds.Value.{Value}
 use Rattle.table.specs.Read.{padded}
-use Rattle.table.specs.Table.{countWith, kindsOf}
+use Rattle.table.specs.Table.{countWith}
 use Rattle.messages.specs.Body.{valueOfWord, valueOfIdent, valueOfAircraft, slots, fieldCount, valuesIn}
-use Rattle.messages.specs.Allowed.{isWhole, kindsIn, isBody}
+use Rattle.messages.specs.Allowed.{isWhole, isBody}
 use Rattle.messages.specs.declared.Az.{Az}
 use Rattle.messages.specs.declared.Dz.{Dz}
 use Rattle.messages.specs.declared.Tz.{Tz}
@@ -50,10 +51,10 @@ clock-arrival t e =
 
 -- ---- by type
 
-module _ (m : Dz) (r : List ℕ) (t : Bool) (e : isBody (body.Dz m) r t ≡ true) where
+module _ (m : Dz) (r : List ℕ) (t : Bool) (e : isBody New (body.Dz m) r t ≡ true) where
   values-dz : First IDENT (AIRCRAFT ∷ POINT ∷ TIME ∷ POINT ∷ CLOCK ∷ []) r (valueOfIdent (m .ident)) (valueOfAircraft (m .aircraft) ∷ valueOfWord (m .from .0) ∷ valueOfWord (m .time .0) ∷ valueOfWord (m .to .0) ∷ valueOfWord (m .clock .0) ∷ [])
-  unfolding kindsIn kindsOf valuesIn fieldCount countWith slots padded isWhole
-  values-dz = first IDENT _ 0 0 r (valueOfIdent (m .ident)) _ (body-values (body.Dz m) r t refl e)
+  unfolding valuesIn fieldCount countWith slots padded isWhole
+  values-dz = first IDENT _ 0 0 r (valueOfIdent (m .ident)) _ (body-values New (body.Dz m) r t refl e)
 
   pub ident-dz : isIdentValue (m .ident) ≡ true
   ident-dz = ident-in (values-dz .left) r (valueOfIdent (m .ident)) (values-dz .value)
@@ -73,10 +74,10 @@ module _ (m : Dz) (r : List ℕ) (t : Bool) (e : isBody (body.Dz m) r t ≡ true
   unfolding isValue isKindValue plain
   clock-dz = let f = next (next (next (next (next values-dz)))) in word-in CLOCK (f .left) r (valueOfWord (m .clock .0)) refl (f .value)
 
-module _ (m : Az) (r : List ℕ) (t : Bool) (e : isBody (body.Az m) r t ≡ true) where
+module _ (m : Az) (r : List ℕ) (t : Bool) (e : isBody New (body.Az m) r t ≡ true) where
   values-az : First IDENT (POINT ∷ POINT ∷ ARRIVAL ∷ []) r (valueOfIdent (m .ident)) (valueOfWord (m .from .0) ∷ valueOfWord (m .to .0) ∷ valueOfWord (m .clock .0) ∷ [])
-  unfolding kindsIn kindsOf valuesIn fieldCount countWith slots padded isWhole
-  values-az = first IDENT _ 0 0 r (valueOfIdent (m .ident)) _ (body-values (body.Az m) r t refl e)
+  unfolding valuesIn fieldCount countWith slots padded isWhole
+  values-az = first IDENT _ 0 0 r (valueOfIdent (m .ident)) _ (body-values New (body.Az m) r t refl e)
 
   pub ident-az : isIdentValue (m .ident) ≡ true
   ident-az = ident-in (values-az .left) r (valueOfIdent (m .ident)) (values-az .value)
@@ -96,10 +97,10 @@ module _ (m : Az) (r : List ℕ) (t : Bool) (e : isBody (body.Az m) r t ≡ true
   unfolding isValue isKindValue plain
   clock-az = let f = next (next (next values-az)) in word-in ARRIVAL (f .left) r (valueOfWord (m .clock .0)) refl (f .value)
 
-module _ (m : Tz) (r : List ℕ) (t : Bool) (e : isBody (body.Tz m) r t ≡ true) where
+module _ (m : Tz) (r : List ℕ) (t : Bool) (e : isBody New (body.Tz m) r t ≡ true) where
   values-tz : First TZ-IDENT (GROUND-SPEED ∷ TRACK-LEVEL ∷ POSITION ∷ []) r (valueOfIdent (m .ident)) (valueOfWord (m .speed .0) ∷ valueOfWord (m .level .0) ∷ valueOfWord (m .position .0) ∷ [])
-  unfolding kindsIn kindsOf valuesIn fieldCount countWith slots padded isWhole
-  values-tz = first TZ-IDENT _ 0 0 r (valueOfIdent (m .ident)) _ (body-values (body.Tz m) r t refl e)
+  unfolding valuesIn fieldCount countWith slots padded isWhole
+  values-tz = first TZ-IDENT _ 0 0 r (valueOfIdent (m .ident)) _ (body-values New (body.Tz m) r t refl e)
 
   pub ident-tz : isIdentValue (m .ident) ≡ true
   ident-tz = ident-in-tz (values-tz .left) r (valueOfIdent (m .ident)) (values-tz .value)

@@ -20,11 +20,12 @@ use Rattle.text.proofs.Laws.{text-short}
 use Rattle.shapes.specs.Pieces.{pieces}
 use Rattle.shapes.specs.Picture.{isOf, fits, fitsAny, oneOf, run, within}
 use Rattle.rules.specs.Form.{isStamp, isKey, isClock, isArrival as isArrivalText}
-use Rattle.rules.specs.Frame.{headLength}
 use Rattle.rules.specs.Kind.{SEQUENCE, STAMP, KEY, NUMBER, POINT, ARRIVAL, GROUND-SPEED, TRACK-LEVEL, POSITION, isForm}
+use Rattle.rules.specs.declared.Rule.the-variants.{New}
 use Rattle.rules.proofs.Held.{form-held}
 use Rattle.fields.specs.Word.{isWord}
 use Rattle.fields.specs.Pair.{isPair}
+use Rattle.fields.specs.Head.{headLength}
 use Rattle.fields.specs.Facility.{facilityOf, isFacilityValue}
 use Rattle.fields.specs.declared.frame.Stamp.{Stamp}
 use Rattle.fields.proofs.WordLaws.{form-word, word-packed}
@@ -35,13 +36,14 @@ use Rattle.table.specs.Spacing.{bodyOf}
 use Rattle.table.specs.Field.{isOne, isTwo, plain, marksOf, follows, isKindValue, isValue, shown, shownKind}
 use Rattle.table.specs.Plan.{isLongPlan}
 use Rattle.table.specs.Show.{textsFrom, allowedFrom, marksFrom}
-use Rattle.table.specs.Table.{countWith, isCount, kindsOf}
+use Rattle.table.specs.Table.{countWith, isCount, tableBy, kindsOf}
 use Rattle.messages.specs.Body.{typeIn, slots, fieldCount, valuesIn, spare}
 use Rattle.messages.specs.Allowed.{isWhole, hasRoute, kindsIn, bodyText, isFielded, isBody}
+use Rattle.messages.specs.Reading.{readingOf}
 use Rattle.messages.specs.declared.Message.{Message}
 use Rattle.messages.specs.declared.Body.{Body}
 use Rattle.messages.specs.declared.Body.the-variants as body
-use Rattle.line.specs.Line.{lineOf}
+use Rattle.line.specs.Line.{lineBy, lineOf}
 use Rattle.line.specs.Read.{readOf}
 use Rattle.line.specs.declared.LineRead.the-variants as read
 use Rattle.line.proofs.Heads.{headed-parts}
@@ -79,14 +81,15 @@ unfolding facilityOf isOf fits fitsAny oneOf pieces isAlnum isDigit isLetter
 facility-made = facility-sound (bytes "KZAA") (record { 0 = value 256 4 (bytes "KZAA") }) refl .2
 
 -- it reads, where the body is allowed and short, and no FZ
-made-reads : (t : Stamp) (b : Body) → isWord STAMP (t .0) ≡ true → isBody b [] false ≡ true → length (bodyText b [] false) ≤ 1000 → isLongPlan (typeIn b) (length (lineOf (made t b) [])) ≡ false
-    → readOf (lineOf (made t b) []) ≡ read.Read (made t b)
-unfolding lineOf
+made-reads : (t : Stamp) (b : Body) → isWord STAMP (t .0) ≡ true → isBody New b [] false ≡ true → length (bodyText New b [] false) ≤ 1000
+    → isLongPlan New (typeIn b) (length (lineOf (made t b) [])) ≡ false → readOf (lineOf (made t b) []) ≡ read.Read (made t b)
+unfolding lineBy
 made-reads t b w e l p =
     let m = made t b in
-    let z : length (lineOf m []) ≡ headLength + length (bodyText b [] false) = headed-parts (headIn m (typeIn b)) (bodyText b [] false) sequence-made w facility-made .size in
-    let a : Allows m [] = record { sequence-word = sequence-made; stamp-word = w; facility-value = facility-made; body = e; short = omega arith; plan = p } in
-    allowed-reads m [] (allows-allowed m [] a) .0
+    let x = readingOf m in
+    let z : length (lineOf m []) ≡ headLength New + length (bodyText New b [] false) = headed-parts New (headIn x (typeIn b)) (bodyText New b [] false) sequence-made w facility-made .size in
+    let a : Allows New x [] = record { sequence-held = sequence-made; stamp-held = w; facility-held = facility-made; type-given = refl; body = e; short = omega arith; plan = p } in
+    allowed-reads m [] (allows-allowed New x [] a) .0
 
 word-short : (k t : ℕ) → isWord k t ≡ true → length (textOf t) ≤ 12
 word-short k t e = text-short t (word-packed k t e)
@@ -98,12 +101,12 @@ azBody k a = body.Az (record { ident = record { key = record { 0 = k }; number =
 
 module _ (k : ℕ) (a : Arrival) (i : isPair KEY NUMBER k 0 ≡ true) (f : isWord POINT (a .departure .0) ≡ true) (t : isWord POINT (a .destination .0) ≡ true)
     (c : isWord ARRIVAL (a .clock .0) ≡ true) where
-  az-body : isBody (azBody k a) [] false ≡ true
-  unfolding isBody isFielded isWhole hasRoute kindsIn kindsOf valuesIn spare fieldCount countWith slots isCount allowedFrom marksFrom isValue isKindValue plain follows marksOf isOne isTwo
+  az-body : isBody New (azBody k a) [] false ≡ true
+  unfolding isBody isFielded isWhole hasRoute kindsIn kindsOf tableBy valuesIn spare fieldCount countWith slots isCount allowedFrom marksFrom isValue isKindValue plain follows marksOf isOne isTwo
   az-body = rw (i, f, t, c)
 
-  az-short : length (bodyText (azBody k a) [] false) ≤ 1000
-  unfolding bodyText isWhole kindsIn kindsOf valuesIn fieldCount countWith slots textsFrom shown shownKind plain bodyOf
+  az-short : length (bodyText New (azBody k a) [] false) ≤ 1000
+  unfolding bodyText isWhole kindsIn kindsOf tableBy valuesIn fieldCount countWith slots textsFrom shown shownKind plain bodyOf
   az-short =
       simp length-append
       (omega (arith, ident-short k 0 i, word-short POINT (a .departure .0) f, word-short POINT (a .destination .0) t, word-short ARRIVAL (a .clock .0) c))
@@ -125,12 +128,12 @@ tzBody k t = body.Tz (record { ident = record { key = record { 0 = k }; number =
 
 module _ (k : ℕ) (t : Track) (i : isPair KEY NUMBER k some-number ≡ true) (g : isWord GROUND-SPEED (t .speed .0) ≡ true)
     (l : isWord TRACK-LEVEL (t .level .0) ≡ true) (p : isWord POSITION (t .position .0) ≡ true) where
-  tz-body : isBody (tzBody k t) [] false ≡ true
-  unfolding isBody isFielded isWhole hasRoute kindsIn kindsOf valuesIn spare fieldCount countWith slots isCount allowedFrom marksFrom isValue isKindValue plain follows marksOf isOne isTwo
+  tz-body : isBody New (tzBody k t) [] false ≡ true
+  unfolding isBody isFielded isWhole hasRoute kindsIn kindsOf tableBy valuesIn spare fieldCount countWith slots isCount allowedFrom marksFrom isValue isKindValue plain follows marksOf isOne isTwo
   tz-body = rw (i, number-some, g, l, p)
 
-  tz-short : length (bodyText (tzBody k t) [] false) ≤ 1000
-  unfolding bodyText isWhole kindsIn kindsOf valuesIn fieldCount countWith slots textsFrom shown shownKind plain bodyOf
+  tz-short : length (bodyText New (tzBody k t) [] false) ≤ 1000
+  unfolding bodyText isWhole kindsIn kindsOf tableBy valuesIn fieldCount countWith slots textsFrom shown shownKind plain bodyOf
   tz-short =
       simp length-append
       (omega (arith, ident-short k some-number i, word-short GROUND-SPEED (t .speed .0) g, word-short TRACK-LEVEL (t .level .0) l, word-short POSITION (t .position .0) p))

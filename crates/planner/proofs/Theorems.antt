@@ -17,7 +17,7 @@ use Rattle.history.specs.Steps.{Answer, Took, Refused, NoRoom, NotListed, rowsA
 use Rattle.history.specs.Promise.{Shows, Taken}
 use Rattle.history.proofs.Boards.{step-board}
 use Rattle.history.proofs.Demand.{demand3}
-use Rattle.line.proofs.Theorems.{refusal-numbers}
+use Rattle.line.proofs.Lines.{refusal-numbers}
 use Rattle.planner.specs.Asked.{askedOf}
 use Rattle.planner.specs.declared.asks.Asked.{Asked}
 use Rattle.planner.specs.declared.asks.Asked.the-variants as asked

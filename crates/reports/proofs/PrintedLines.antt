@@ -11,7 +11,7 @@ use Rattle.shapes.specs.Picture.{isOf, fits as fitsPicture, fitsAny, oneOf, run
 use Rattle.shapes.specs.Pieces.{pieces}
 use Rattle.rules.specs.Form.{isStamp, isKey, isIdent, isTzIdent, isClock, isTime, isArrival, isPosition}
 use Rattle.rules.specs.Kind.{isForm}
-use Rattle.fields.specs.Aircraft.{plainOf, prefixedOf, aircraftOf}
+use Rattle.fields.specs.Aircraft.{plainOf, prefixedOf, aircraftOf, aircraftBy}
 use Rattle.fields.specs.Ident.{identFrom, identOf, tzIdentOf}
 use Rattle.fields.specs.MessageType.{typeOf}
 use Rattle.fields.specs.Pair.{isPairForm, pairOf}
@@ -19,10 +19,10 @@ use Rattle.fields.specs.Word.{wordOf}
 use Rattle.table.specs.Field.{plain, traceOf, marksOf, readKind, readIn, follows}
 use Rattle.table.specs.Read.{padded, valuesFrom, answerFrom, counted, answers, values, answerOf, valuesOf}
 use Rattle.table.specs.Spacing.{ended, fieldsOf}
-use Rattle.table.specs.Table.{countWith, isCount, kindsOf, countIn, answerBy, valuesBy}
+use Rattle.table.specs.Table.{countWith, isCount, tableBy, kindsOf, countIn, answerBy, valuesBy}
 use Rattle.messages.specs.Body.{bodyFrom}
 use Rattle.messages.specs.Read.{bodyRead}
-use Rattle.line.specs.Read.{headOf, restOf, readOf}
+use Rattle.line.specs.Read.{typeBy, headOf, restOf, readBy, readOf}
 use Rattle.text.specs.Bytes.{bytes}
 use Rattle.table.specs.declared.walk.Fault.the-variants as fault
 use Rattle.line.specs.declared.Refusal.the-variants as refusal
@@ -47,5 +47,7 @@ moves v l p s = record { speed = record { 0 = word v }; level = record { 0 = wor
 pub asks-later : (askedOf (bytes line3) ≡ asked.Tz (key "QQX12") (moves "315" "250C" "3020N/08430W" "06081700"))
     × (askedOf (bytes line4) ≡ asked.Az (key "N5AB") (arrives "GHI" "JKL" "A0810" "06081800"))
     × (askedOf (bytes line5) ≡ asked.Refused (refusal.Body (fault.Field 1)))
-unfolding askedOf askedBy readOf headOf restOf bodyRead bodyFrom typeOf allIn answerBy valuesBy kindsOf countIn isCount countWith padded valuesFrom answerFrom counted answers values answerOf valuesOf plain traceOf marksOf readKind readIn follows ended fieldsOf plainOf prefixedOf aircraftOf identFrom identOf tzIdentOf isPairForm pairOf wordOf isForm isStamp isKey isIdent isTzIdent isClock isTime isPosition upTo has before after joins isOf fitsPicture fitsAny oneOf run within pieces isDigitTo digitOf isNumeral number packed value codeOf all isDigit isLetter isAlnum isArrival
+unfolding askedOf askedBy readOf readBy typeBy headOf restOf bodyRead bodyFrom typeOf allIn answerBy valuesBy kindsOf tableBy countIn isCount countWith padded valuesFrom answerFrom counted answers values answerOf valuesOf
+    plain traceOf marksOf readKind readIn follows ended fieldsOf plainOf prefixedOf aircraftOf aircraftBy identFrom identOf tzIdentOf isPairForm pairOf wordOf
+    isForm isStamp isKey isIdent isTzIdent isClock isTime isPosition upTo has before after joins isOf fitsPicture fitsAny oneOf run within pieces isDigitTo digitOf isNumeral number packed value codeOf all isDigit isLetter isAlnum isArrival
 asks-later = (refl, refl, refl)
