@@ -1,12 +1,13 @@
--- EACH LINE OF A FEED HAS ONE LINE OF TEXT: where all are asked for, the i-th line of what is said is what is said of the i-th line of the feed, with its
--- number from 1, and there are no others. Where only the refused are asked for, no refused line is left out, and no line that reads stays. Assumes nothing.
+-- EACH LINE OF A FEED HAS ONE LINE OF TEXT, under either rule: where all are asked for, the i-th line of what is said is what is said of the i-th line of the
+-- feed, with its number from 1, and there are no others. Where only the refused are asked for, no refused line is left out, and no line that reads stays.
+-- Assumes nothing.
 use mathlib.Core.Path.{_≡_, refl, sym, ap, _∙_}
-use mathlib.Core.Bool.{Bool, true, false, cond}
+use mathlib.Core.Bool.{Bool, true, false, cond, _&&_}
 use mathlib.Core.List.{List, [], _∷_, _++_, map, append-assoc}
-use Prim.Native.Nat.{ℕ, zero, suc, _+_, _<_}
+use Prim.Native.Nat.{ℕ, zero, suc, _+_, _≤_, _<_}
 use native.Mathlib.Nat.{le-of-suc-le-suc}
 use native.Mathlib.Omega.{arith}
-use borrow.Author.Tests.{ne-eqb, leb-false, le-ltb, lt-ltb}
+use borrow.Author.Tests.{ne-eqb, leb-false}
 use denote.Ref.{now}
 use lib.Dec.{eqb, leb}
 use lib.ListN.{length, getD, length-append}
@@ -18,20 +19,27 @@ use Rattle.text.specs.Text.{textOf}
 use Rattle.shapes.specs.Cut.{upTo, has}
 use Rattle.shapes.specs.Pieces.{noneHas}
 use Rattle.shapes.proofs.Joins.{upTo-past, whole-has}
-use Rattle.rules.specs.Frame.{headLength, lineFeed, longestLine}
+use Rattle.rules.specs.Frame.{lineFeed, longestLine}
+use Rattle.rules.specs.declared.Rule.{Rule}
+use Rattle.rules.specs.declared.Rule.the-variants.{New, Old}
+use Rattle.fields.specs.Head.{headLength}
 use Rattle.cutter.specs.Feed.{Line, Whole, TooLong, feedOf, textsOf, restOf, lineOf, linesOf}
 use Rattle.cutter.proofs.Feeds.{feed-only}
 use Rattle.line.specs.Cases.{Case}
-use Rattle.line.specs.Read.{readOf, lineNumber, linePlace}
-use Rattle.line.specs.declared.LineRead.the-variants.{Refused}
+use Rattle.line.specs.Read.{readBy, newly, oldly, readOf, oldReadOf, numberBy, lineNumber, linePlace, oldNumber, oldPlace}
+use Rattle.line.specs.declared.RuleRead.{RuleRead}
+use Rattle.line.specs.declared.RuleRead.the-variants.{Read, Refused}
 use Rattle.line.specs.declared.Refusal.the-variants.{Long}
 use Rattle.line.proofs.Cases.{case-only}
+use Rattle.line.proofs.Ways.{line-long}
 use Rattle.line.proofs.read.Reads as read
+use Rattle.line.proofs.read_old.Reads as read-old
 use Rattle.printer.specs.RowText.{space, hyphen, lineText}
 use Rattle.printer.specs.Parts.{partText}
-use Rattle.checks.specs.Check.{saying, typeSaid, keySaid, checkOf, isTaken, saidOf}
+use Rattle.checks.specs.Check.{everyLine, refusedLines, saying, typeSaid, keySaid, readSaid, checkOf, isTaken, saidOf, ofNew, ofOld}
 use Rattle.checks.specs.Feed.{checksFrom, checksOf}
 use Rattle.checks.specs.Part.{verdictOf, verdictText}
+use Rattle.checks.specs.declared.Asked.{Asked}
 use Rattle.checks.specs.declared.Verdict.{Verdict}
 use Rattle.checks.proofs.Lines.{verdict-text}
 
@@ -92,110 +100,128 @@ module _ (n : ℕ) (v : Verdict) where
 
 -- ---- the lines of text of lines, from number n on
 
-abbrev allWords : ℕ → List Line → List (List ℕ)
-allWords n [] = []
-allWords n (l ∷ ls) = words n (verdictOf l) ∷ allWords (suc n) ls
+module _ (ρ : Rule) where
+  abbrev allWords : ℕ → List Line → List (List ℕ)
+  allWords n [] = []
+  allWords n (l ∷ ls) = words n (verdictOf ρ l) ∷ allWords (suc n) ls
 
-line-is : (n : ℕ) (l : Line) → words n (verdictOf l) ++ lineFeed ∷ [] ≡ checkOf n l
-line-is n l = sym (words-line n (verdictOf l)) ∙ verdict-text n l
+  line-is : (n : ℕ) (l : Line) → words n (verdictOf ρ l) ++ lineFeed ∷ [] ≡ checkOf ρ n l
+  line-is n l = sym (words-line n (verdictOf ρ l)) ∙ verdict-text ρ n l
 
-all-said : (n : ℕ) (l : Line) → saidOf false n l ≡ checkOf n l
-unfolding saidOf
-all-said n l = refl
+  all-said : (n : ℕ) (l : Line) → saidOf (everyLine ρ) n l ≡ checkOf ρ n l
+  unfolding saidOf
+  all-said n l = refl
 
-each : (n : ℕ) (ls : List Line) → feedOf (allWords n ls) [] ≡ checksFrom false n ls
-unfolding feedOf checksFrom
-each n [] = refl
-each n (l ∷ ls) =
-    let w = words n (verdictOf l) in
-    let rest = feedOf (allWords (suc n) ls) [] in
-    sym (append-assoc w (lineFeed ∷ []) rest) ∙ rw (line-is n l, each (suc n) ls, all-said n l)
+  each : (n : ℕ) (ls : List Line) → feedOf (allWords n ls) [] ≡ checksFrom (everyLine ρ) n ls
+  unfolding feedOf checksFrom
+  each n [] = refl
+  each n (l ∷ ls) =
+      let w = words n (verdictOf ρ l) in
+      let rest = feedOf (allWords (suc n) ls) [] in
+      sym (append-assoc w (lineFeed ∷ []) rest) ∙ rw (line-is n l, each (suc n) ls, all-said n l)
 
-none : (n : ℕ) (ls : List Line) → noneHas lineFeed (allWords n ls) ≡ true
-unfolding noneHas
-none n [] = refl
-none n (l ∷ ls) = rw (whole-has lineFeed (words n (verdictOf l)) (words-free n (verdictOf l)), none (suc n) ls)
+  none : (n : ℕ) (ls : List Line) → noneHas lineFeed (allWords n ls) ≡ true
+  unfolding noneHas
+  none n [] = refl
+  none n (l ∷ ls) = rw (whole-has lineFeed (words n (verdictOf ρ l)) (words-free n (verdictOf ρ l)), none (suc n) ls)
 
-count : (n : ℕ) (ls : List Line) → length (allWords n ls) ≡ length ls
-count n [] = refl
-count n (l ∷ ls) = ap suc (count (suc n) ls)
+  count : (n : ℕ) (ls : List Line) → length (allWords n ls) ≡ length ls
+  count n [] = refl
+  count n (l ∷ ls) = ap suc (count (suc n) ls)
 
-at : (n : ℕ) (ls : List Line) (i : ℕ) → i < length ls → getD (allWords n ls) i [] ++ lineFeed ∷ [] ≡ checkOf (n + i) (getD ls i TooLong)
-at n [] i h = absurd (omega arith)
-at n (l ∷ ls) zero h = let z : n + 0 ≡ n = omega arith in rw z (line-is n l)
-at n (l ∷ ls) (suc i) h = let z : n + suc i ≡ suc n + i = omega arith in rw z (at (suc n) ls i (le-of-suc-le-suc h))
+  at : (n : ℕ) (ls : List Line) (i : ℕ) → i < length ls → getD (allWords n ls) i [] ++ lineFeed ∷ [] ≡ checkOf ρ (n + i) (getD ls i TooLong)
+  at n [] i h = absurd (omega arith)
+  at n (l ∷ ls) zero h = let z : n + 0 ≡ n = omega arith in rw z (line-is n l)
+  at n (l ∷ ls) (suc i) h = let z : n + suc i ≡ suc n + i = omega arith in rw z (at (suc n) ls i (le-of-suc-le-suc h))
 
 no-feed-in-none : has lineFeed [] ≡ false
 unfolding has upTo
 no-feed-in-none = refl
 
 -- THE THEOREM
-pub record EachLine (feed : List ℕ) : Type 0 where
+pub record EachLine (ρ : Rule) (feed : List ℕ) : Type 0 where
   -- as many lines of text as the feed has lines, and no byte after the last
-  pub count : length (textsOf (checksOf false feed)) ≡ length (linesOf feed)
-  pub ended : restOf (checksOf false feed) ≡ []
+  pub count : length (textsOf (checksOf (everyLine ρ) feed)) ≡ length (linesOf feed)
+  pub ended : restOf (checksOf (everyLine ρ) feed) ≡ []
   -- "its number from 1"
-  pub nth : (i : ℕ) → i < length (linesOf feed) → getD (textsOf (checksOf false feed)) i [] ++ lineFeed ∷ [] ≡ checkOf (suc i) (getD (linesOf feed) i TooLong)
+  pub nth : (i : ℕ) → i < length (linesOf feed) → getD (textsOf (checksOf (everyLine ρ) feed)) i [] ++ lineFeed ∷ [] ≡ checkOf ρ (suc i) (getD (linesOf feed) i TooLong)
 
-pub each-line : (feed : List ℕ) → EachLine feed
+pub each-line : (ρ : Rule) (feed : List ℕ) → EachLine ρ feed
 unfolding checksOf
-each-line feed =
+each-line ρ feed =
     let ls = linesOf feed in
-    let o = feed-only (allWords 1 ls) [] (none 1 ls) no-feed-in-none in
-    let t : textsOf (checksFrom false 1 ls) ≡ allWords 1 ls = ap textsOf (sym (each 1 ls)) ∙ o .0 in
+    let o = feed-only (allWords ρ 1 ls) [] (none ρ 1 ls) no-feed-in-none in
+    let t : textsOf (checksFrom (everyLine ρ) 1 ls) ≡ allWords ρ 1 ls = ap textsOf (sym (each ρ 1 ls)) ∙ o .0 in
     record {
-      count = ap length t ∙ count 1 ls;
-      ended = ap restOf (sym (each 1 ls)) ∙ o .1;
-      nth = λ i h. rw t (at 1 ls i h ∙ let z : 1 + i ≡ suc i = omega arith in rw z);
+      count = ap length t ∙ count ρ 1 ls;
+      ended = ap restOf (sym (each ρ 1 ls)) ∙ o .1;
+      nth = λ i h. rw t (at ρ 1 ls i h ∙ let z : 1 + i ≡ suc i = omega arith in rw z);
     }
 
 -- ---- where only the refused lines are asked for
 
-pub refused-stays : (only : Bool) (n : ℕ) (l : Line) → isTaken l ≡ false → saidOf only n l ≡ checkOf n l
+pub refused-stays : (asked : Asked) (n : ℕ) (l : Line) → isTaken (asked .rule) l ≡ false → saidOf asked n l ≡ checkOf (asked .rule) n l
 unfolding saidOf
-refused-stays true n l e = rw e
-refused-stays false n l e = refl
+refused-stays asked n l e = rw e (go (asked .only))
+  where
+    go : (b : Bool) → cond (b && false) [] (checkOf (asked .rule) n l) ≡ checkOf (asked .rule) n l
+    go true = refl
+    go false = refl
 
-pub taken-left-out : (n : ℕ) (l : Line) → isTaken l ≡ true → saidOf true n l ≡ []
+pub taken-left-out : (ρ : Rule) (n : ℕ) (l : Line) → isTaken ρ l ≡ true → saidOf (refusedLines ρ) n l ≡ []
 unfolding saidOf
-taken-left-out n l e = rw e
+taken-left-out ρ n l e = rw e
 
--- ---- THE ANSWER IS THAT OF `line::read`, whose `ensures` as it stands in the source is `Post`: with its number and place, and the case of document 01's table that they
--- are of
+-- ---- THE ANSWER IS THAT OF `line::read`, and under the old rule that of `line::read_old`, whose `ensures` as they stand in the source are `Post`: with its number and
+-- place, and the case of document 01's table that they are of
+
+new-said : (n : ℕ) (r : RuleRead) → readSaid n r ≡ saying n (lineNumber (newly r)) (linePlace (newly r)) (typeSaid (ofNew (newly r))) (keySaid (ofNew (newly r)))
+new-said n (Read x) = refl
+new-said n (Refused y) = refl
 
 pub answer-read : (κs : _) (a : _) (r : _) (s : _) → read.Post κs a r s → (n : ℕ)
-    → (checkOf n (Whole (now (a .0))) ≡ saying n (lineNumber r) (linePlace r) (typeSaid r) (keySaid r)) × Case (now (a .0)) (lineNumber r) (linePlace r)
-unfolding checkOf
-answer-read κs a r s p n = (rw (p .0), p .1)
+    → (checkOf New n (Whole (now (a .0))) ≡ saying n (lineNumber r) (linePlace r) (typeSaid (ofNew r)) (keySaid (ofNew r))) × Case New (now (a .0)) (lineNumber r) (linePlace r)
+unfolding checkOf readOf
+answer-read κs a r s p n = (rw (p .0) (new-said n (readBy New (now (a .0)))), p .1)
+
+old-said : (n : ℕ) (r : RuleRead) → readSaid n r ≡ saying n (oldNumber (oldly r)) (oldPlace (oldly r)) (typeSaid (ofOld (oldly r))) (keySaid (ofOld (oldly r)))
+old-said n (Read x) = refl
+old-said n (Refused y) = refl
+
+pub answer-read-old : (κs : _) (a : _) (r : _) (s : _) → read-old.Post κs a r s → (n : ℕ)
+    → (checkOf Old n (Whole (now (a .0))) ≡ saying n (oldNumber r) (oldPlace r) (typeSaid (ofOld r)) (keySaid (ofOld r))) × Case Old (now (a .0)) (oldNumber r) (oldPlace r)
+unfolding checkOf oldReadOf
+answer-read-old κs a r s p n = (rw (p .0) (old-said n (readBy Old (now (a .0)))), p .1)
 
 -- ---- AND SO OF EVERY LINE, ALSO AN OVERLONG ONE: what is said is the number and the place of its case in document 01's table
 
-long-read : (s : List ℕ) → leb (length s) longestLine ≡ false → readOf s ≡ Refused Long
-unfolding readOf
-long-read s q =
-    let h : longestLine < length s = leb-false (length s) longestLine q in
-    rw (le-ltb (length s) headLength (omega arith), lt-ltb longestLine (length s) h)
+module _ (ρ : Rule) (s : List ℕ) where
+  long-read : leb (length s) longestLine ≡ false → readBy ρ s ≡ Refused Long
+  long-read q = let h = leb-false (length s) longestLine q in sym (line-long ρ s (go ρ h) h)
+    where
+      go : (ρ : Rule) → longestLine < length s → headLength ρ ≤ length s
+      go New h = omega arith
+      go Old h = omega arith
 
-line-said : (n : ℕ) (s : List ℕ) → checkOf n (lineOf s) ≡ saying n (lineNumber (readOf s)) (linePlace (readOf s)) (typeSaid (readOf s)) (keySaid (readOf s))
-unfolding lineOf checkOf
-line-said n s = go (leb (length s) longestLine) refl
-  where
-    go : (b : Bool) → leb (length s) longestLine ≡ b
-        → checkOf n (cond (leb (length s) longestLine) (Whole s) TooLong) ≡ saying n (lineNumber (readOf s)) (linePlace (readOf s)) (typeSaid (readOf s)) (keySaid (readOf s))
-    go true q = rw q
-    go false q = rw (q, long-read s q)
+  line-said : (n : ℕ) → checkOf ρ n (lineOf s) ≡ readSaid n (readBy ρ s)
+  unfolding lineOf checkOf
+  line-said n = go (leb (length s) longestLine) refl
+    where
+      go : (b : Bool) → leb (length s) longestLine ≡ b → checkOf ρ n (cond (leb (length s) longestLine) (Whole s) TooLong) ≡ readSaid n (readBy ρ s)
+      go true q = rw q
+      go false q = rw (q, long-read q)
 
-line-taken : (s : List ℕ) → isTaken (lineOf s) ≡ eqb (lineNumber (readOf s)) 0
-unfolding lineOf isTaken
-line-taken s = go (leb (length s) longestLine) refl
-  where
-    go : (b : Bool) → leb (length s) longestLine ≡ b → isTaken (cond (leb (length s) longestLine) (Whole s) TooLong) ≡ eqb (lineNumber (readOf s)) 0
-    go true q = rw q
-    go false q = rw (q, long-read s q)
+  line-taken : isTaken ρ (lineOf s) ≡ eqb (numberBy (readBy ρ s)) 0
+  unfolding lineOf isTaken
+  line-taken = go (leb (length s) longestLine) refl
+    where
+      go : (b : Bool) → leb (length s) longestLine ≡ b → isTaken ρ (cond (leb (length s) longestLine) (Whole s) TooLong) ≡ eqb (numberBy (readBy ρ s)) 0
+      go true q = rw q
+      go false q = rw (q, long-read q)
 
-pub case-said : (s : List ℕ) (a p : ℕ) → Case s a p → (n : ℕ) → checkOf n (lineOf s) ≡ saying n a p (typeSaid (readOf s)) (keySaid (readOf s))
-case-said s a p c n = let e = case-only s a p c in line-said n s ∙ rw (e .0, e .1)
+  pub case-said : (a p : ℕ) → Case ρ s a p → (n : ℕ) → checkOf ρ n (lineOf s) ≡ saying n a p (typeSaid (readBy ρ s)) (keySaid (readBy ρ s))
+  case-said a p c n = let e = case-only ρ s a p c in line-said n ∙ rw (e .0, e .1)
 
--- it counts as read exactly if that case is 0
-pub case-taken : (s : List ℕ) (a p : ℕ) → Case s a p → isTaken (lineOf s) ≡ eqb a 0
-case-taken s a p c = line-taken s ∙ rw (case-only s a p c .0)
+  -- it counts as read exactly if that case is 0
+  pub case-taken : (a p : ℕ) → Case ρ s a p → isTaken ρ (lineOf s) ≡ eqb a 0
+  case-taken a p c = line-taken ∙ rw (case-only ρ s a p c .0)

@@ -1,6 +1,5 @@
 -- A feed in parts cut anywhere: what the parts add, one after the other, is what is said of the whole; and its end. Assumes nothing.
 use mathlib.Core.Path.{_≡_, refl, sym, ap, _∙_}
-use mathlib.Core.Bool.{Bool}
 use mathlib.Core.List.{List, [], _++_}
 use Prim.Native.Nat.{ℕ, suc, _+_}
 use native.Mathlib.Omega.{arith}
@@ -16,6 +15,7 @@ use Rattle.cutter.proofs.Feeds.{start-lines, feed-then}
 use Rattle.checks.specs.Feed.{checksFrom, checksOf, readsIn, Checked}
 use Rattle.checks.specs.Part.{linesIn, textIn, Adds, Continues}
 use Rattle.checks.specs.Run.{atFirst}
+use Rattle.checks.specs.declared.Asked.{Asked}
 use Rattle.checks.specs.declared.Sums.{Sums}
 use Rattle.checks.proofs.Joins.{reads-then, checks-then}
 
@@ -25,17 +25,17 @@ no-lines : linesOf [] ≡ []
 unfolding told pieces
 no-lines = sym (start-lines [])
 
-pub first-checked : (only : Bool) (held : List ℕ) → length held ≡ longestLine → Checked only [] held atFirst []
+pub first-checked : (asked : Asked) (held : List ℕ) → length held ≡ longestLine → Checked asked [] held atFirst []
 unfolding stateIn stateAfter pieces more readsIn checksFrom checksOf
-first-checked only held e = record { allowed = start-allowed held e; state = refl; lines = rw no-lines; read = rw no-lines; text = rw no-lines }
+first-checked asked held e = record { allowed = start-allowed held e; state = refl; lines = rw no-lines; read = rw no-lines; text = rw no-lines }
 
 -- ---- a part more
 
-module _ {only : Bool} {held : List ℕ} {s : Sums} {part out held′ : List ℕ} {s′ : Sums} {out′ : List ℕ} {size : ℕ} (x : Adds only held s part out 0 held′ s′ out′ size) where
-  pub the-text : take size out′ ≡ textIn only held s part
-  the-text = rw (x .bytes) (take-spliced out (textIn only held s part) size (omega (arith, x .place)))
+module _ {asked : Asked} {held : List ℕ} {s : Sums} {part out held′ : List ℕ} {s′ : Sums} {out′ : List ℕ} {size : ℕ} (x : Adds asked held s part out 0 held′ s′ out′ size) where
+  pub the-text : take size out′ ≡ textIn asked held s part
+  the-text = rw (x .bytes) (take-spliced out (textIn asked held s part) size (omega (arith, x .place)))
 
-  pub continues : Continues only held s part held′ s′ (take size out′)
+  pub continues : Continues asked held s part held′ s′ (take size out′)
   unfolding checksOf
   continues feed said c =
       let f = feed-then (Bytes []) feed part in
@@ -45,6 +45,6 @@ module _ {only : Bool} {held : List ℕ} {s : Sums} {part out held′ : List ℕ
         allowed = x .allowed;
         state = x .state ∙ rw (c .state) (sym (f .1));
         lines = omega (arith, x .lines, c .lines, ap length l, length-append (linesOf feed) (linesIn held s part));
-        read = omega (arith, x .read, c .read, ap readsIn l, reads-then (linesOf feed) (linesIn held s part));
-        text = rw (l, checks-then only 1 (linesOf feed) (linesIn held s part), z, c .text, the-text);
+        read = omega (arith, x .read, c .read, ap (readsIn (asked .rule)) l, reads-then (asked .rule) (linesOf feed) (linesIn held s part));
+        text = rw (l, checks-then asked 1 (linesOf feed) (linesIn held s part), z, c .text, the-text);
       }

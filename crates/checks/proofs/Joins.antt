@@ -10,6 +10,7 @@ use Rattle.text.proofs.Splice.{spliced-none, spliced-next, length-spliced}
 use Rattle.shapes.specs.Many.{howMany}
 use Rattle.shapes.specs.Pieces.{grow, pieces}
 use Rattle.rules.specs.Frame.{lineFeed}
+use Rattle.rules.specs.declared.Rule.{Rule}
 use Rattle.cutter.specs.Feed.{Line, feedOf, allButLast, textsOf, restOf}
 use Rattle.cutter.specs.State.{State, Bytes, stateIn, isAllowed}
 use Rattle.cutter.specs.Told.{told, stateAfter}
@@ -18,35 +19,36 @@ use Rattle.cutter.proofs.Feeds.{feed-text, feed-then}
 use Rattle.checks.specs.Check.{isTaken, saidOf}
 use Rattle.checks.specs.Feed.{checksFrom, readsIn}
 use Rattle.checks.specs.Part.{linesIn, textIn, longestSaying, Adds}
+use Rattle.checks.specs.declared.Asked.{Asked}
 use Rattle.checks.specs.declared.Sums.{Sums}
 use Rattle.checks.proofs.Lines.{checks-few}
 
 -- ---- lines after lines
 
-pub reads-then : (ls ms : List Line) → readsIn (ls ++ ms) ≡ readsIn ls + readsIn ms
+pub reads-then : (ρ : Rule) (ls ms : List Line) → readsIn ρ (ls ++ ms) ≡ readsIn ρ ls + readsIn ρ ms
 unfolding readsIn
-reads-then [] ms = omega arith
-reads-then (l ∷ ls) ms = go (isTaken l) (reads-then ls ms)
+reads-then ρ [] ms = omega arith
+reads-then ρ (l ∷ ls) ms = go (isTaken ρ l) (reads-then ρ ls ms)
   where
-    go : (b : Bool) → readsIn (ls ++ ms) ≡ readsIn ls + readsIn ms → cond b (suc (readsIn (ls ++ ms))) (readsIn (ls ++ ms)) ≡ cond b (suc (readsIn ls)) (readsIn ls) + readsIn ms
+    go : (b : Bool) → readsIn ρ (ls ++ ms) ≡ readsIn ρ ls + readsIn ρ ms → cond b (suc (readsIn ρ (ls ++ ms))) (readsIn ρ (ls ++ ms)) ≡ cond b (suc (readsIn ρ ls)) (readsIn ρ ls) + readsIn ρ ms
     go true e = omega arith
     go false e = e
 
-pub reads-few : (ls : List Line) → readsIn ls ≤ length ls
+pub reads-few : (ρ : Rule) (ls : List Line) → readsIn ρ ls ≤ length ls
 unfolding readsIn
-reads-few [] = omega arith
-reads-few (l ∷ ls) = go (isTaken l) (reads-few ls)
+reads-few ρ [] = omega arith
+reads-few ρ (l ∷ ls) = go (isTaken ρ l) (reads-few ρ ls)
   where
-    go : (b : Bool) → readsIn ls ≤ length ls → cond b (suc (readsIn ls)) (readsIn ls) ≤ suc (length ls)
+    go : (b : Bool) → readsIn ρ ls ≤ length ls → cond b (suc (readsIn ρ ls)) (readsIn ρ ls) ≤ suc (length ls)
     go true h = omega arith
     go false h = omega arith
 
-pub checks-then : (only : Bool) (n : ℕ) (ls ms : List Line) → checksFrom only n (ls ++ ms) ≡ checksFrom only n ls ++ checksFrom only (n + length ls) ms
+pub checks-then : (asked : Asked) (n : ℕ) (ls ms : List Line) → checksFrom asked n (ls ++ ms) ≡ checksFrom asked n ls ++ checksFrom asked (n + length ls) ms
 unfolding checksFrom
-checks-then only n [] ms = let z : n + 0 ≡ n = omega arith in rw z
-checks-then only n (l ∷ ls) ms =
+checks-then asked n [] ms = let z : n + 0 ≡ n = omega arith in rw z
+checks-then asked n (l ∷ ls) ms =
     let z : n + suc (length ls) ≡ suc n + length ls = omega arith in
-    rw (z, checks-then only (suc n) ls ms, append-assoc (saidOf only n l) (checksFrom only (suc n) ls) (checksFrom only (suc n + length ls) ms))
+    rw (z, checks-then asked (suc n) ls ms, append-assoc (saidOf asked n l) (checksFrom asked (suc n) ls) (checksFrom asked (suc n + length ls) ms))
 
 -- ---- not more lines than bytes, whatever state they come from
 
@@ -93,9 +95,9 @@ feeds-told h s =
 
 -- ---- parts after parts
 
-pub adds-none : (only : Bool) (held : List ℕ) (s : Sums) (out : List ℕ) (at : ℕ) → isAllowed held (s .begun) ≡ true → Adds only held s [] out at held s out at
+pub adds-none : (asked : Asked) (held : List ℕ) (s : Sums) (out : List ℕ) (at : ℕ) → isAllowed held (s .begun) ≡ true → Adds asked held s [] out at held s out at
 unfolding pieces told stateAfter checksFrom readsIn
-adds-none only held s out at a =
+adds-none asked held s out at a =
     record {
       allowed = a;
       state = sym (more-none held (s .begun) a);
@@ -105,25 +107,25 @@ adds-none only held s out at a =
       bytes = sym (spliced-none out at);
     }
 
-module _ {only : Bool} {held : List ℕ} {s : Sums} {a out : List ℕ} {at : ℕ} {held₁ : List ℕ} {s₁ : Sums} {out₁ : List ℕ} {at₁ : ℕ} (x : Adds only held s a out at held₁ s₁ out₁ at₁) where
+module _ {asked : Asked} {held : List ℕ} {s : Sums} {a out : List ℕ} {at : ℕ} {held₁ : List ℕ} {s₁ : Sums} {out₁ : List ℕ} {at₁ : ℕ} (x : Adds asked held s a out at held₁ s₁ out₁ at₁) where
   -- the lines of both
   pub lines-then : (b : List ℕ) → linesIn held s (a ++ b) ≡ linesIn held s a ++ linesIn held₁ s₁ b
   lines-then b = feed-then (stateIn held (s .begun)) a b .0 ∙ rw (x .state)
 
-  pub text-then : (b : List ℕ) → textIn only held s (a ++ b) ≡ textIn only held s a ++ textIn only held₁ s₁ b
+  pub text-then : (b : List ℕ) → textIn asked held s (a ++ b) ≡ textIn asked held s a ++ textIn asked held₁ s₁ b
   text-then b =
       let z : suc (s .lines) + length (linesIn held s a) ≡ suc (s₁ .lines) = omega (arith, x .lines) in
-      rw (lines-then b, checks-then only (suc (s .lines)) (linesIn held s a) (linesIn held₁ s₁ b), z)
+      rw (lines-then b, checks-then asked (suc (s .lines)) (linesIn held s a) (linesIn held₁ s₁ b), z)
 
-  pub text-few : length (textIn only held s a) ≤ longestSaying * length a
-  text-few = omega (arith, checks-few only (suc (s .lines)) (linesIn held s a), lines-few (stateIn held (s .begun)) a)
+  pub text-few : length (textIn asked held s a) ≤ longestSaying * length a
+  text-few = omega (arith, checks-few asked (suc (s .lines)) (linesIn held s a), lines-few (stateIn held (s .begun)) a)
 
-  module _ (room : at + length (textIn only held s a) ≤ length out) where
+  module _ (room : at + length (textIn asked held s a) ≤ length out) where
     pub same-size : length out₁ ≡ length out
-    same-size = ap length (x .bytes) ∙ length-spliced out (textIn only held s a) at room
+    same-size = ap length (x .bytes) ∙ length-spliced out (textIn asked held s a) at room
 
     -- WHAT BOTH ADD
-    pub adds-then : {b held₂ : List ℕ} {s₂ : Sums} {out₂ : List ℕ} {at₂ : ℕ} → Adds only held₁ s₁ b out₁ at₁ held₂ s₂ out₂ at₂ → Adds only held s (a ++ b) out at held₂ s₂ out₂ at₂
+    pub adds-then : {b held₂ : List ℕ} {s₂ : Sums} {out₂ : List ℕ} {at₂ : ℕ} → Adds asked held₁ s₁ b out₁ at₁ held₂ s₂ out₂ at₂ → Adds asked held s (a ++ b) out at held₂ s₂ out₂ at₂
     adds-then {b} y =
         let t = text-then b in
         let l = lines-then b in
@@ -131,7 +133,7 @@ module _ {only : Bool} {held : List ℕ} {s : Sums} {a out : List ℕ} {at : ℕ
           allowed = y .allowed;
           state = y .state ∙ rw (x .state) (sym (feed-then (stateIn held (s .begun)) a b .1));
           lines = omega (arith, y .lines, x .lines, ap length l, length-append (linesIn held s a) (linesIn held₁ s₁ b));
-          read = omega (arith, y .read, x .read, ap readsIn l, reads-then (linesIn held s a) (linesIn held₁ s₁ b));
-          place = omega (arith, y .place, x .place, ap length t, length-append (textIn only held s a) (textIn only held₁ s₁ b));
-          bytes = y .bytes ∙ rw (t, x .bytes, x .place) (spliced-next out (textIn only held s a) (textIn only held₁ s₁ b) at room);
+          read = omega (arith, y .read, x .read, ap (readsIn (asked .rule)) l, reads-then (asked .rule) (linesIn held s a) (linesIn held₁ s₁ b));
+          place = omega (arith, y .place, x .place, ap length t, length-append (textIn asked held s a) (textIn asked held₁ s₁ b));
+          bytes = y .bytes ∙ rw (t, x .bytes, x .place) (spliced-next out (textIn asked held s a) (textIn asked held₁ s₁ b) at room);
         }

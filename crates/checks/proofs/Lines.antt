@@ -16,6 +16,7 @@ use Rattle.text.proofs.Decimal.{decimal-short}
 use Rattle.text.proofs.Laws.{text-short}
 use Rattle.text.proofs.Logic.{and-left, and-right}
 use Rattle.rules.specs.Kind.{KEY}
+use Rattle.rules.specs.declared.Rule.{Rule}
 use Rattle.fields.specs.MessageType.{typeText}
 use Rattle.fields.specs.declared.heads.MessageType.{MessageType}
 use Rattle.fields.specs.declared.heads.MessageType.the-variants as type
@@ -23,17 +24,18 @@ use Rattle.fields.proofs.WordLaws.{word-packed}
 use Rattle.table.specs.Table.{hasFields}
 use Rattle.cutter.specs.Feed.{Line, Whole, TooLong}
 use Rattle.messages.specs.Body.{typeIn, keyIn}
-use Rattle.messages.specs.declared.Message.{Message}
+use Rattle.messages.specs.declared.Reading.{Reading}
 use Rattle.messages.proofs.Keys.{no-key}
-use Rattle.line.specs.Read.{readOf, lineNumber, linePlace}
-use Rattle.line.specs.declared.LineRead.{LineRead}
-use Rattle.line.specs.declared.LineRead.the-variants.{Read, Refused}
-use Rattle.line.proofs.Placed.{reads-key}
+use Rattle.line.specs.Read.{readBy, numberBy}
+use Rattle.line.specs.declared.RuleRead.{RuleRead}
+use Rattle.line.specs.declared.RuleRead.the-variants.{Read, Refused}
+use Rattle.line.proofs.Placed.{stands-key}
 use Rattle.printer.specs.RowText.{hyphen, lineText}
 use Rattle.printer.specs.Parts.{partText}
-use Rattle.checks.specs.Check.{saying, typeSaid, keySaid, checkOf, isTaken, saidOf}
+use Rattle.checks.specs.Check.{saying, readSaid, checkOf, isTaken, saidOf}
 use Rattle.checks.specs.Feed.{checksFrom}
 use Rattle.checks.specs.Part.{verdictBy, overlong, verdictOf, isVerdict, verdictText, verdictSaid, longestSaying}
+use Rattle.checks.specs.declared.Asked.{Asked}
 use Rattle.checks.specs.declared.Verdict.{Verdict}
 
 -- ---- the words
@@ -75,55 +77,55 @@ letters-written type.To = (refl, refl)
 letters-written type.Hb = (refl, refl)
 
 -- a key's that of a key; where there is none it is 0
-key-word : (s : List ℕ) (m : Message) → readOf s ≡ Read m → isPacked (keyIn (m .body)) ≡ true
-key-word s m e = go (hasFields (typeIn (m .body))) refl
+key-word : (ρ : Rule) (s : List ℕ) (x : Reading) → readBy ρ s ≡ Read x → isPacked (keyIn (x .body)) ≡ true
+key-word ρ s x e = go (hasFields (typeIn (x .body))) refl
   where
-    go : (f : Bool) → hasFields (typeIn (m .body)) ≡ f → isPacked (keyIn (m .body)) ≡ true
-    go true f = word-packed KEY (keyIn (m .body)) (reads-key s m e f .0)
-    go false f = rw (no-key (m .body) f) zero-packed
+    go : (f : Bool) → hasFields (typeIn (x .body)) ≡ f → isPacked (keyIn (x .body)) ≡ true
+    go true f = word-packed KEY (keyIn (x .body)) (stands-key ρ s x e f .0)
+    go false f = rw (no-key (x .body) f) zero-packed
 
-verdict-by : (s : List ℕ) (r : LineRead) → readOf s ≡ r → isVerdict (verdictBy r) ≡ true
+verdict-by : (ρ : Rule) (s : List ℕ) (r : RuleRead) → readBy ρ s ≡ r → isVerdict (verdictBy r) ≡ true
 unfolding isVerdict
-verdict-by s (Read m) e = rw (type-word (typeIn (m .body)) .0, key-word s m e)
-verdict-by s (Refused x) e = rw zero-packed
+verdict-by ρ s (Read x) e = rw (type-word (typeIn (x .body)) .0, key-word ρ s x e)
+verdict-by ρ s (Refused y) e = rw zero-packed
 
 over-is : isVerdict overlong ≡ true
 unfolding isVerdict
 over-is = rw zero-packed
 
-pub verdict-is : (l : Line) → isVerdict (verdictOf l) ≡ true
+pub verdict-is : (ρ : Rule) (l : Line) → isVerdict (verdictOf ρ l) ≡ true
 unfolding verdictOf
-verdict-is (Whole s) = verdict-by s (readOf s) refl
-verdict-is TooLong = over-is
+verdict-is ρ (Whole s) = verdict-by ρ s (readBy ρ s) refl
+verdict-is ρ TooLong = over-is
 
 -- ---- what they say
 
-text-by : (n : ℕ) (r : LineRead) → verdictText n (verdictBy r) ≡ saying n (lineNumber r) (linePlace r) (typeSaid r) (keySaid r)
+text-by : (n : ℕ) (r : RuleRead) → verdictText n (verdictBy r) ≡ readSaid n r
 unfolding verdictText
-text-by n (Read m) = rw (type-word (typeIn (m .body)) .1)
-text-by n (Refused x) = rw zero-part
+text-by n (Read x) = rw (type-word (typeIn (x .body)) .1)
+text-by n (Refused y) = rw zero-part
 
 over-text : (n : ℕ) → verdictText n overlong ≡ saying n 2 0 hyphen hyphen
 unfolding verdictText
 over-text n = rw zero-part
 
-pub verdict-text : (n : ℕ) (l : Line) → verdictText n (verdictOf l) ≡ checkOf n l
+pub verdict-text : (ρ : Rule) (n : ℕ) (l : Line) → verdictText n (verdictOf ρ l) ≡ checkOf ρ n l
 unfolding verdictOf checkOf
-verdict-text n (Whole s) = text-by n (readOf s)
-verdict-text n TooLong = over-text n
+verdict-text ρ n (Whole s) = text-by n (readBy ρ s)
+verdict-text ρ n TooLong = over-text n
 
-taken-by : (r : LineRead) → eqb (verdictBy r .answer) 0 ≡ eqb (lineNumber r) 0
-taken-by (Read m) = refl
-taken-by (Refused x) = refl
+taken-by : (r : RuleRead) → eqb (verdictBy r .answer) 0 ≡ eqb (numberBy r) 0
+taken-by (Read x) = refl
+taken-by (Refused y) = refl
 
-pub verdict-taken : (l : Line) → eqb (verdictOf l .answer) 0 ≡ isTaken l
+pub verdict-taken : (ρ : Rule) (l : Line) → eqb (verdictOf ρ l .answer) 0 ≡ isTaken ρ l
 unfolding verdictOf isTaken
-verdict-taken (Whole s) = taken-by (readOf s)
-verdict-taken TooLong = refl
+verdict-taken ρ (Whole s) = taken-by (readBy ρ s)
+verdict-taken ρ TooLong = refl
 
-pub verdict-said : (only : Bool) (n : ℕ) (l : Line) → verdictSaid only n (verdictOf l) ≡ saidOf only n l
+pub verdict-said : (asked : Asked) (n : ℕ) (l : Line) → verdictSaid (asked .only) n (verdictOf (asked .rule) l) ≡ saidOf asked n l
 unfolding verdictSaid saidOf
-verdict-said only n l = rw (verdict-taken l, verdict-text n l)
+verdict-said asked n l = rw (verdict-taken (asked .rule) l, verdict-text (asked .rule) n l)
 
 -- ---- how long it is
 
@@ -160,10 +162,10 @@ verdict-few only n v e = go (only && eqb (v .answer) 0)
     go true = omega arith
     go false = text-few n v e
 
-pub said-few : (only : Bool) (n : ℕ) (l : Line) → length (saidOf only n l) ≤ longestSaying
-said-few only n l = rw (← (verdict-said only n l)) (verdict-few only n (verdictOf l) (verdict-is l))
+pub said-few : (asked : Asked) (n : ℕ) (l : Line) → length (saidOf asked n l) ≤ longestSaying
+said-few asked n l = rw (← (verdict-said asked n l)) (verdict-few (asked .only) n (verdictOf (asked .rule) l) (verdict-is (asked .rule) l))
 
-pub checks-few : (only : Bool) (n : ℕ) (ls : List Line) → length (checksFrom only n ls) ≤ longestSaying * length ls
+pub checks-few : (asked : Asked) (n : ℕ) (ls : List Line) → length (checksFrom asked n ls) ≤ longestSaying * length ls
 unfolding checksFrom
-checks-few only n [] = omega arith
-checks-few only n (l ∷ ls) = omega (arith, length-append (saidOf only n l) (checksFrom only (suc n) ls), said-few only n l, checks-few only (suc n) ls)
+checks-few asked n [] = omega arith
+checks-few asked n (l ∷ ls) = omega (arith, length-append (saidOf asked n l) (checksFrom asked (suc n) ls), said-few asked n l, checks-few asked (suc n) ls)

@@ -1,6 +1,6 @@
 -- One call of `cut`, and what is said of the line that it told of: what the bytes that it used add. Assumes nothing.
 use mathlib.Core.Path.{_≡_, refl, sym, ap, _∙_}
-use mathlib.Core.Bool.{Bool, true, false, cond}
+use mathlib.Core.Bool.{true, false, cond}
 use mathlib.Core.List.{List, [], _∷_, _++_, append-nil}
 use Prim.Native.Nat.{ℕ, suc, _+_, _≤_, _<_}
 use native.Mathlib.Numerals.{add-one}
@@ -17,6 +17,7 @@ use Rattle.shapes.proofs.Joins.{cut-whole, whole-has, before-none, no-cut}
 use Rattle.shapes.proofs.Laws.{upTo-le}
 use Rattle.shapes.proofs.Pieces.{pieces-one}
 use Rattle.rules.specs.Frame.{lineFeed}
+use Rattle.rules.specs.declared.Rule.{Rule}
 use Rattle.cutter.specs.Feed.{Line, Whole, TooLong}
 use Rattle.cutter.specs.State.{State, Bytes, stateIn, isAllowed, more}
 use Rattle.cutter.specs.Calls.{cutOf, heldCut, lineIn}
@@ -31,6 +32,7 @@ use Rattle.cutter.proofs.Runs.{cut-still, cut-used}
 use Rattle.checks.specs.Check.{saidOf}
 use Rattle.checks.specs.Feed.{checksFrom, readsIn}
 use Rattle.checks.specs.Part.{verdictOf, judgedOf, isVerdict, verdictSaid, counted, linesIn, Steps}
+use Rattle.checks.specs.declared.Asked.{Asked}
 use Rattle.checks.specs.declared.Sums.{Sums}
 use Rattle.checks.specs.declared.Verdict.{Verdict}
 use Rattle.checks.specs.declared.Judged.{Judged}
@@ -76,19 +78,19 @@ used-by {held} {begun} {rest} (OverlongEnded p q z) a = used-line (stateIn held 
 
 -- ---- at most one line is told of
 
-told-none : (ts : List Line) → judgedOf ts ≡ judged.Nothing → ts ≡ []
-told-none [] e = refl
-told-none (l ∷ ts) e = absurd (let z : _≡_ {A = ℕ} 0 1 = cc in omega arith)
+told-none : (ρ : Rule) (ts : List Line) → judgedOf ρ ts ≡ judged.Nothing → ts ≡ []
+told-none ρ [] e = refl
+told-none ρ (l ∷ ts) e = absurd (let z : _≡_ {A = ℕ} 0 1 = cc in omega arith)
 
-pub record Told (ts : List Line) (v : Verdict) : Type 0 where
+pub record Told (ρ : Rule) (ts : List Line) (v : Verdict) : Type 0 where
   pub line : Line
   pub is : ts ≡ line ∷ []
-  pub verdict : v ≡ verdictOf line
+  pub verdict : v ≡ verdictOf ρ line
 
-told-line : (ts : List Line) → length ts ≤ 1 → (v : Verdict) → judgedOf ts ≡ judged.Line v → Told ts v
-told-line [] h v e = absurd (let z : _≡_ {A = ℕ} 0 1 = cc in omega arith)
-told-line (l ∷ []) h v e = let z : verdictOf l ≡ v = cc in record { line = l; is = refl; verdict = sym z }
-told-line (l ∷ (k ∷ ts)) h v e = absurd (omega arith)
+told-line : (ρ : Rule) (ts : List Line) → length ts ≤ 1 → (v : Verdict) → judgedOf ρ ts ≡ judged.Line v → Told ρ ts v
+told-line ρ [] h v e = absurd (let z : _≡_ {A = ℕ} 0 1 = cc in omega arith)
+told-line ρ (l ∷ []) h v e = let z : verdictOf ρ l ≡ v = cc in record { line = l; is = refl; verdict = sym z }
+told-line ρ (l ∷ (k ∷ ts)) h v e = absurd (omega arith)
 
 told-few : (a : CutAnswer) (l : List ℕ) → length (toldBy a l) ≤ 1
 unfolding toldBy
@@ -100,7 +102,7 @@ told-few cut.NotAllowed l = omega arith
 
 -- ---- THE STEP
 
-module _ (only : Bool) (held : List ℕ) (s : Sums) (rest out : List ℕ) (at : ℕ) (a : isAllowed held (s .begun) ≡ true) (done : AfterCut) (held′ : List ℕ)
+module _ (asked : Asked) (held : List ℕ) (s : Sums) (rest out : List ℕ) (at : ℕ) (a : isAllowed held (s .begun) ≡ true) (done : AfterCut) (held′ : List ℕ)
     (d : (done ≡ cutOf held (s .begun) rest) × ((held′ ≡ heldCut held (s .begun) rest) × CutIs held (s .begun) rest done held′)) where
   abbrev the-lines : List Line
   the-lines = toldBy (done .answer) (lineIn (done .answer) held′ rest)
@@ -123,11 +125,11 @@ module _ (only : Bool) (held : List ℕ) (s : Sums) (rest out : List ℕ) (at : 
   lines-are ls e = sym (the-used .lines) ∙ e
 
   -- no line ended
-  pub step-none : (0 < length rest) → (j : Judged) → j ≡ judgedOf the-lines → j ≡ judged.Nothing
-      → Steps only held s rest out at held′ (record { sums = moved; used = done .used; next = at }) out
+  pub step-none : (0 < length rest) → (j : Judged) → j ≡ judgedOf (asked .rule) the-lines → j ≡ judged.Nothing
+      → Steps asked held s rest out at held′ (record { sums = moved; used = done .used; next = at }) out
   unfolding checksFrom readsIn
   step-none h j e f =
-      let l = lines-are [] (told-none the-lines (sym e ∙ f)) in
+      let l = lines-are [] (told-none (asked .rule) the-lines (sym e ∙ f)) in
       record {
         adds = record {
           allowed = still;
@@ -142,28 +144,28 @@ module _ (only : Bool) (held : List ℕ) (s : Sums) (rest out : List ℕ) (at : 
       }
 
   -- a line ended
-  module _ (j : Judged) (e : j ≡ judgedOf the-lines) (v : Verdict) (f : j ≡ judged.Line v) where
-    the-told : Told the-lines v
-    the-told = told-line the-lines (told-few (done .answer) (lineIn (done .answer) held′ rest)) v (sym e ∙ f)
+  module _ (j : Judged) (e : j ≡ judgedOf (asked .rule) the-lines) (v : Verdict) (f : j ≡ judged.Line v) where
+    the-told : Told (asked .rule) the-lines v
+    the-told = told-line (asked .rule) the-lines (told-few (done .answer) (lineIn (done .answer) held′ rest)) v (sym e ∙ f)
 
     pub step-verdict : isVerdict v ≡ true
-    step-verdict = rw (the-told .verdict) (verdict-is (the-told .line))
+    step-verdict = rw (the-told .verdict) (verdict-is (asked .rule) (the-told .line))
 
-    reads-one : (l : Line) → cond (eqb (verdictOf l .answer) 0) 1 0 ≡ readsIn (l ∷ [])
+    reads-one : (l : Line) → cond (eqb (verdictOf (asked .rule) l .answer) 0) 1 0 ≡ readsIn (asked .rule) (l ∷ [])
     unfolding readsIn
-    reads-one l = rw (verdict-taken l)
+    reads-one l = rw (verdict-taken (asked .rule) l)
 
-    says-one : (l : Line) → verdictSaid only (s .lines + 1) (verdictOf l) ≡ checksFrom only (suc (s .lines)) (l ∷ [])
+    says-one : (l : Line) → verdictSaid (asked .only) (s .lines + 1) (verdictOf (asked .rule) l) ≡ checksFrom asked (suc (s .lines)) (l ∷ [])
     unfolding checksFrom
-    says-one l = rw (verdict-said only (s .lines + 1) l, add-one (s .lines)) (sym (append-nil (saidOf only (suc (s .lines)) l)))
+    says-one l = rw (verdict-said asked (s .lines + 1) l, add-one (s .lines)) (sym (append-nil (saidOf asked (suc (s .lines)) l)))
 
-    pub step-line : (0 < length rest) → (next : ℕ) (out′ : List ℕ) → (next ≡ at + length (verdictSaid only (s .lines + 1) v)) × (out′ ≡ spliced out at (verdictSaid only (s .lines + 1) v))
-        → (s′ : Sums) → s′ ≡ counted moved v → Steps only held s rest out at held′ (record { sums = s′; used = done .used; next = next }) out′
+    pub step-line : (0 < length rest) → (next : ℕ) (out′ : List ℕ) → (next ≡ at + length (verdictSaid (asked .only) (s .lines + 1) v)) × (out′ ≡ spliced out at (verdictSaid (asked .only) (s .lines + 1) v))
+        → (s′ : Sums) → s′ ≡ counted moved v → Steps asked held s rest out at held′ (record { sums = s′; used = done .used; next = next }) out′
     step-line h next out′ w s′ c =
         let l = the-told .line in
         let k = lines-are (l ∷ []) (the-told .is) in
-        let x : cond (eqb (v .answer) 0) 1 0 ≡ readsIn (l ∷ []) = ap (λ (w : Verdict). cond (eqb (w .answer) 0) 1 0) (the-told .verdict) ∙ reads-one l in
-        let y : verdictSaid only (s .lines + 1) v ≡ checksFrom only (suc (s .lines)) (l ∷ []) = ap (verdictSaid only (s .lines + 1)) (the-told .verdict) ∙ says-one l in
+        let x : cond (eqb (v .answer) 0) 1 0 ≡ readsIn (asked .rule) (l ∷ []) = ap (λ (w : Verdict). cond (eqb (w .answer) 0) 1 0) (the-told .verdict) ∙ reads-one l in
+        let y : verdictSaid (asked .only) (s .lines + 1) v ≡ checksFrom asked (suc (s .lines)) (l ∷ []) = ap (verdictSaid (asked .only) (s .lines + 1)) (the-told .verdict) ∙ says-one l in
         rw c (record {
           adds = record {
             allowed = still;

@@ -26,6 +26,7 @@ use Rattle.printer.specs.RowText.{hyphen}
 use Rattle.checks.specs.Check.{saying, tornOf}
 use Rattle.checks.specs.Feed.{Checked}
 use Rattle.checks.specs.Part.{verdictText, isVerdict, longestSaying, tornIn, EndsFeed}
+use Rattle.checks.specs.declared.Asked.{Asked}
 use Rattle.checks.specs.declared.Sums.{Sums}
 use Rattle.checks.specs.declared.Verdict.{Verdict}
 use Rattle.checks.proofs.Lines.{zero-part, zero-packed, text-few}
@@ -40,16 +41,16 @@ torn-state n rest = go rest (leb (length rest) longestLine) refl
     go [] false q = true-false refl q
     go (x ∷ s) false q = rw q
 
-pub torn-feed : {only : Bool} {feed held : List ℕ} {s : Sums} {said : List ℕ} → Checked only feed held s said → tornIn (suc (s .lines)) (stateIn held (s .begun)) ≡ tornOf (suc (s .lines)) (restOf feed)
-torn-feed {only} {feed} {held} {s} c = rw (c .state, start-rest feed) (torn-state (suc (s .lines)) (restOf feed))
+pub torn-feed : {asked : Asked} {feed held : List ℕ} {s : Sums} {said : List ℕ} → Checked asked feed held s said → tornIn (suc (s .lines)) (stateIn held (s .begun)) ≡ tornOf (suc (s .lines)) (restOf feed)
+torn-feed {asked} {feed} {held} {s} c = rw (c .state, start-rest feed) (torn-state (suc (s .lines)) (restOf feed))
 
 module _ (held : List ℕ) (s : Sums) (out : List ℕ) {r : ℕ} {out′ : List ℕ} (e : r ≡ length (tornIn (suc (s .lines)) (stateIn held (s .begun)))) (f : out′ ≡ spliced out 0 (tornIn (suc (s .lines)) (stateIn held (s .begun)))) where
   pub ends-feed : EndsFeed held s (take r out′)
-  ends-feed only feed said c = rw f (take-spliced out (tornIn (suc (s .lines)) (stateIn held (s .begun))) r e) ∙ torn-feed c
+  ends-feed asked feed said c = rw f (take-spliced out (tornIn (suc (s .lines)) (stateIn held (s .begun))) r e) ∙ torn-feed c
 
 -- a feed that did not end at a line's start has a rest
-pub inside-rest : {only : Bool} {feed held : List ℕ} {s : Sums} {said : List ℕ} → Checked only feed held s said → (stateIn held (s .begun) ≡ Bytes [] → ⊥) → 1 ≤ length (restOf feed)
-inside-rest {only} {feed} c q = go (restOf feed) refl
+pub inside-rest : {asked : Asked} {feed held : List ℕ} {s : Sums} {said : List ℕ} → Checked asked feed held s said → (stateIn held (s .begun) ≡ Bytes [] → ⊥) → 1 ≤ length (restOf feed)
+inside-rest {asked} {feed} c q = go (restOf feed) refl
   where
     go : (l : List ℕ) → restOf feed ≡ l → 1 ≤ length l
     go [] e = absurd (q (c .state ∙ start-rest feed ∙ rw e))

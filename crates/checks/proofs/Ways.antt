@@ -1,5 +1,5 @@
 -- What each way through the code gives, but for the loop, is what its definition says. Assumes nothing.
-use mathlib.Core.Path.{_≡_, refl, sym}
+use mathlib.Core.Path.{_≡_, refl, sym, ap, _∙_}
 use mathlib.Core.Bool.{Bool, true, false}
 use mathlib.Core.List.{List, [], _∷_}
 use Prim.Native.Nat.{ℕ, _+_}
@@ -10,6 +10,8 @@ use denote.Enum.Declared.{tagOf}
 use types.Run.{OneOf, miss}
 use Rattle.text.specs.Text.{packed, spliced}
 use Rattle.text.proofs.Splice.{spliced-none}
+use Rattle.rules.specs.declared.Rule.{Rule}
+use Rattle.rules.specs.declared.Rule.the-variants.{New, Old}
 use Rattle.fields.specs.MessageType.{typeText}
 use Rattle.fields.specs.declared.heads.MessageType.{MessageType}
 use Rattle.cutter.specs.Calls.{lineIn}
@@ -18,49 +20,69 @@ use Rattle.cutter.specs.declared.CutAnswer.{CutAnswer}
 use Rattle.cutter.specs.declared.CutAnswer.the-variants as cut
 use Rattle.cutter.proofs.CutAnswer.{the-type}
 use Rattle.messages.specs.Body.{typeIn, keyIn}
-use Rattle.messages.specs.declared.Message.{Message}
-use Rattle.line.specs.Read.{readOf, refusalNumber, refusalPlace}
-use Rattle.line.specs.declared.LineRead.the-variants.{Read, Refused}
+use Rattle.messages.specs.declared.Body.{Body}
+use Rattle.line.specs.Read.{readBy, newly, oldly, readOf, oldReadOf, refusalNumber, refusalPlace}
+use Rattle.line.specs.declared.LineRead.{LineRead}
+use Rattle.line.specs.declared.OldRead.{OldRead}
 use Rattle.line.specs.declared.Refusal.{Refusal}
-use Rattle.checks.specs.Part.{verdictBy, overlong, verdictOf, judgedOf, verdictText, verdictSaid, counted}
+use Rattle.line.specs.declared.RuleRead.{RuleRead}
+use Rattle.line.specs.declared.RuleRead.the-variants.{Read, Refused}
+use Rattle.checks.specs.Check.{ofNew, ofOld}
+use Rattle.checks.specs.Part.{bodyVerdict, refusedVerdict, verdictBy, overlong, verdictOf, judgedOf, verdictText, verdictSaid, counted}
 use Rattle.checks.specs.declared.Sums.{Sums}
 use Rattle.checks.specs.declared.Verdict.{Verdict}
 use Rattle.checks.specs.declared.Judged.the-variants as judged
 
--- ---- `of_message` and `judge_line`
+-- ---- `of_body`, `of_refusal`, `judge_new` and `judge_old`
 
-pub message-as : (m : Message) {t : MessageType} {w k : ℕ} → t ≡ typeIn (m .body) → w ≡ packed (typeText t) → k ≡ keyIn (m .body)
-    → record { answer = 0; place = 0; kind = w; key = k } ≡ verdictBy (Read m)
-message-as m e f g = rw (f, e, g)
+pub body-as : (b : Body) {t : MessageType} {w k : ℕ} → t ≡ typeIn b → w ≡ packed (typeText t) → k ≡ keyIn b → record { answer = 0; place = 0; kind = w; key = k } ≡ bodyVerdict b
+body-as b e f g = rw (f, e, g)
 
-pub refused-as : (s : List ℕ) (x : Refusal) {n p : ℕ} → n ≡ refusalNumber x → p ≡ refusalPlace x → Refused x ≡ readOf s
-    → record { answer = n; place = p; kind = 0; key = 0 } ≡ verdictBy (readOf s)
-refused-as s x e f g = rw (← g, e, f)
+pub refused-as : (y : Refusal) {n p : ℕ} → n ≡ refusalNumber y → p ≡ refusalPlace y → record { answer = n; place = p; kind = 0; key = 0 } ≡ refusedVerdict y
+refused-as y e f = rw (e, f)
+
+-- nothing is said of a message's head, so that its type and its key are those which its rule reads
+new-by : (r : RuleRead) → verdictBy (ofNew (newly r)) ≡ verdictBy r
+new-by (Read x) = refl
+new-by (Refused y) = refl
+
+old-by : (r : RuleRead) → verdictBy (ofOld (oldly r)) ≡ verdictBy r
+old-by (Read x) = refl
+old-by (Refused y) = refl
+
+module _ (s : List ℕ) (v : Verdict) where
+  pub new-judged : {r : LineRead} → r ≡ readOf s → (x : LineRead) → r ≡ x → v ≡ verdictBy (ofNew x) → v ≡ verdictBy (readBy New s)
+  unfolding readOf
+  new-judged e x g f = f ∙ ap (λ (l : LineRead). verdictBy (ofNew l)) (sym g ∙ e) ∙ new-by (readBy New s)
+
+  pub old-judged : {r : OldRead} → r ≡ oldReadOf s → (x : OldRead) → r ≡ x → v ≡ verdictBy (ofOld x) → v ≡ verdictBy (readBy Old s)
+  unfolding oldReadOf
+  old-judged e x g f = f ∙ ap (λ (l : OldRead). verdictBy (ofOld l)) (sym g ∙ e) ∙ old-by (readBy Old s)
 
 -- ---- `judge`
 
-module _ (a : CutAnswer) (held rest : List ℕ) where
-  module _ (s : List ℕ) (is : s ≡ lineIn a held rest) (v : Verdict) (e : v ≡ verdictBy (readOf s)) where
-    pub buffer-judged : (n : ℕ) → a ≡ cut.InBuffer n → judged.Line v ≡ judgedOf (toldBy a (lineIn a held rest))
+module _ (ρ : Rule) (a : CutAnswer) (held rest : List ℕ) where
+  module _ (s : List ℕ) (is : s ≡ lineIn a held rest) (v : Verdict) (e : v ≡ verdictBy (readBy ρ s)) where
+    pub buffer-judged : (n : ℕ) → a ≡ cut.InBuffer n → judged.Line v ≡ judgedOf ρ (toldBy a (lineIn a held rest))
     unfolding toldBy verdictOf
     buffer-judged n q = rw (← is, q, e)
 
-    pub part-judged : (n : ℕ) → a ≡ cut.InPart n → judged.Line v ≡ judgedOf (toldBy a (lineIn a held rest))
+    pub part-judged : (n : ℕ) → a ≡ cut.InPart n → judged.Line v ≡ judgedOf ρ (toldBy a (lineIn a held rest))
     unfolding toldBy verdictOf
     part-judged n q = rw (← is, q, e)
 
-  pub long-judged : a ≡ cut.TooLong → judged.Line overlong ≡ judgedOf (toldBy a (lineIn a held rest))
+  pub long-judged : a ≡ cut.TooLong → judged.Line overlong ≡ judgedOf ρ (toldBy a (lineIn a held rest))
   unfolding toldBy verdictOf
   long-judged q = rw q
 
 -- where no line ended, the code tells only the variant's number
-pub none-judged : (a : CutAnswer) (l : List ℕ) → OneOf (0 ∷ 4 ∷ []) (tagOf the-type a) → judged.Nothing ≡ judgedOf (toldBy a l)
+pub none-judged : (ρ : Rule) (a : CutAnswer) (l : List ℕ) → OneOf (0 ∷ 4 ∷ []) (tagOf the-type a) → judged.Nothing ≡ judgedOf ρ (toldBy a l)
 unfolding toldBy
-none-judged cut.Taken l h = refl
-none-judged (cut.InBuffer n) l h = absurd (miss (0 ∷ 4 ∷ []) 1 tt h)
-none-judged (cut.InPart n) l h = absurd (miss (0 ∷ 4 ∷ []) 2 tt h)
-none-judged cut.TooLong l h = absurd (miss (0 ∷ 4 ∷ []) 3 tt h)
-none-judged cut.NotAllowed l h = refl
+none-judged ρ cut.Taken l h = refl
+none-judged ρ (cut.InBuffer n) l h = absurd (miss (0 ∷ 4 ∷ []) 1 tt h)
+none-judged ρ (cut.InPart n) l h = absurd (miss (0 ∷ 4 ∷ []) 2 tt h)
+none-judged ρ cut.TooLong l h = absurd (miss (0 ∷ 4 ∷ []) 3 tt h)
+none-judged ρ cut.NotAllowed l h = refl
 
 -- ---- `say`
 

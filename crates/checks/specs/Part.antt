@@ -9,18 +9,22 @@ use lib.ListN.{length, take}
 use Rattle.text.specs.Text.{packed, isPacked, spliced}
 use Rattle.shapes.specs.Pieces.{pieces}
 use Rattle.rules.specs.Frame.{lineFeed}
+use Rattle.rules.specs.declared.Rule.{Rule}
 use Rattle.fields.specs.MessageType.{typeText}
 use Rattle.cutter.specs.Feed.{Line, Whole, TooLong, restOf}
 use Rattle.cutter.specs.State.{State, Bytes, Mark, stateIn, isAllowed}
 use Rattle.cutter.specs.Told.{told, stateAfter}
 use Rattle.messages.specs.Body.{typeIn, keyIn}
-use Rattle.line.specs.Read.{readOf, refusalNumber, refusalPlace}
-use Rattle.line.specs.declared.LineRead.{LineRead}
-use Rattle.line.specs.declared.LineRead.the-variants.{Read, Refused}
+use Rattle.messages.specs.declared.Body.{Body}
+use Rattle.line.specs.Read.{readBy, refusalNumber, refusalPlace}
+use Rattle.line.specs.declared.Refusal.{Refusal}
+use Rattle.line.specs.declared.RuleRead.{RuleRead}
+use Rattle.line.specs.declared.RuleRead.the-variants.{Read, Refused}
 use Rattle.printer.specs.RowText.{hyphen}
 use Rattle.printer.specs.Parts.{partText}
 use Rattle.checks.specs.Check.{saying, tornOf}
 use Rattle.checks.specs.Feed.{checksFrom, readsIn, Checked}
+use Rattle.checks.specs.declared.Asked.{Asked}
 use Rattle.checks.specs.declared.Turn.{Turn}
 use Rattle.checks.specs.declared.Sums.{Sums}
 use Rattle.checks.specs.declared.Verdict.{Verdict}
@@ -29,21 +33,27 @@ use Rattle.checks.specs.declared.Judged.the-variants as judged
 
 -- ---- a line: its answer and place, and its type and key as words, 0 where there is none
 
-abbrev pub verdictBy : LineRead → Verdict
-verdictBy (Read m) = record { answer = 0; place = 0; kind = packed (typeText (typeIn (m .body))); key = keyIn (m .body) }
-verdictBy (Refused x) = record { answer = refusalNumber x; place = refusalPlace x; kind = 0; key = 0 }
+abbrev pub bodyVerdict : Body → Verdict
+bodyVerdict b = record { answer = 0; place = 0; kind = packed (typeText (typeIn b)); key = keyIn b }
+
+abbrev pub refusedVerdict : Refusal → Verdict
+refusedVerdict y = record { answer = refusalNumber y; place = refusalPlace y; kind = 0; key = 0 }
+
+abbrev pub verdictBy : RuleRead → Verdict
+verdictBy (Read x) = bodyVerdict (x .body)
+verdictBy (Refused y) = refusedVerdict y
 
 abbrev pub overlong : Verdict
 overlong = record { answer = 2; place = 0; kind = 0; key = 0 }
 
-unfoldable pub verdictOf : Line → Verdict
-verdictOf (Whole s) = verdictBy (readOf s)
-verdictOf TooLong = overlong
+unfoldable pub verdictOf : Rule → Line → Verdict
+verdictOf ρ (Whole s) = verdictBy (readBy ρ s)
+verdictOf ρ TooLong = overlong
 
 -- of the line that a cut told of, if it did
-abbrev pub judgedOf : List Line → Judged
-judgedOf [] = judged.Nothing
-judgedOf (l ∷ ls) = judged.Line (verdictOf l)
+abbrev pub judgedOf : Rule → List Line → Judged
+judgedOf ρ [] = judged.Nothing
+judgedOf ρ (l ∷ ls) = judged.Line (verdictOf ρ l)
 
 unfoldable pub isVerdict : Verdict → Bool
 isVerdict v = isPacked (v .kind) && isPacked (v .key)
@@ -70,17 +80,17 @@ abbrev pub linesIn : List ℕ → Sums → List ℕ → List Line
 linesIn held s part = told (stateIn held (s .begun)) (pieces lineFeed part)
 
 -- what is said of them
-abbrev pub textIn : Bool → List ℕ → Sums → List ℕ → List ℕ
-textIn only held s part = checksFrom only (suc (s .lines)) (linesIn held s part)
+abbrev pub textIn : Asked → List ℕ → Sums → List ℕ → List ℕ
+textIn asked held s part = checksFrom asked (suc (s .lines)) (linesIn held s part)
 
 -- WHAT A PART ADDS: the cutter's state after it, the counts, and what is said of it, written into out from place `at`; every other byte as it was
-pub record Adds (only : Bool) (held : List ℕ) (s : Sums) (part out : List ℕ) (at : ℕ) (held′ : List ℕ) (s′ : Sums) (out′ : List ℕ) (at′ : ℕ) : Type 0 where
+pub record Adds (asked : Asked) (held : List ℕ) (s : Sums) (part out : List ℕ) (at : ℕ) (held′ : List ℕ) (s′ : Sums) (out′ : List ℕ) (at′ : ℕ) : Type 0 where
   pub allowed : isAllowed held′ (s′ .begun) ≡ true
   pub state : stateIn held′ (s′ .begun) ≡ stateAfter (stateIn held (s .begun)) (pieces lineFeed part)
   pub lines : s′ .lines ≡ s .lines + length (linesIn held s part)
-  pub read : s′ .read ≡ s .read + readsIn (linesIn held s part)
-  pub place : at′ ≡ at + length (textIn only held s part)
-  pub bytes : out′ ≡ spliced out at (textIn only held s part)
+  pub read : s′ .read ≡ s .read + readsIn (asked .rule) (linesIn held s part)
+  pub place : at′ ≡ at + length (textIn asked held s part)
+  pub bytes : out′ ≡ spliced out at (textIn asked held s part)
 
 -- what is asked for: a state that is allowed, counts that can grow by a line for each byte, and room for a line of text for each byte
 pub record Ready (held : List ℕ) (s : Sums) (part : List ℕ) (room : ℕ) : Type 0 where
@@ -98,14 +108,14 @@ pub record StepReady (held : List ℕ) (s : Sums) (rest out : List ℕ) (at : �
   pub roomy : at + longestSaying ≤ length out
 
 -- it adds what its bytes add, and uses at least one
-pub record Steps (only : Bool) (held : List ℕ) (s : Sums) (rest out : List ℕ) (at : ℕ) (held′ : List ℕ) (r : Turn) (out′ : List ℕ) : Type 0 where
-  pub adds : Adds only held s (take (r .used) rest) out at held′ (r .sums) out′ (r .next)
+pub record Steps (asked : Asked) (held : List ℕ) (s : Sums) (rest out : List ℕ) (at : ℕ) (held′ : List ℕ) (r : Turn) (out′ : List ℕ) : Type 0 where
+  pub adds : Adds asked held s (take (r .used) rest) out at held′ (r .sums) out′ (r .next)
   pub within : r .used ≤ length rest
   pub some : 0 < r .used
 
 -- AFTER ANY FEED that led to this state and these counts, the part's bytes have come too, and what was said then was said of the whole
-abbrev pub Continues : Bool → List ℕ → Sums → List ℕ → List ℕ → Sums → List ℕ → Type 0
-Continues only held s part held′ s′ text = (feed said : List ℕ) → Checked only feed held s said → Checked only (feed ++ part) held′ s′ (said ++ text)
+abbrev pub Continues : Asked → List ℕ → Sums → List ℕ → List ℕ → Sums → List ℕ → Type 0
+Continues asked held s part held′ s′ text = (feed said : List ℕ) → Checked asked feed held s said → Checked asked (feed ++ part) held′ s′ (said ++ text)
 
 -- ---- the end of a feed
 
@@ -122,4 +132,4 @@ pub record EndReady (held : List ℕ) (s : Sums) (room : ℕ) : Type 0 where
 
 -- after any feed that led here, what is said of its unended rest
 abbrev pub EndsFeed : List ℕ → Sums → List ℕ → Type 0
-EndsFeed held s text = (only : Bool) (feed said : List ℕ) → Checked only feed held s said → text ≡ tornOf (suc (s .lines)) (restOf feed)
+EndsFeed held s text = (asked : Asked) (feed said : List ℕ) → Checked asked feed held s said → text ≡ tornOf (suc (s .lines)) (restOf feed)

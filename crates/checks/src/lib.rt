@@ -1,5 +1,5 @@
 // Why was this line refused? For each line of a feed one line of text: its number, document 01's answer and place, its type and its flight's
-// key. Memory is fixed, whatever the feed; no board is needed.
+// key. Memory is fixed, whatever the feed; no board is needed. The caller names the rule by which the lines are read.
 use cutter::Begun;
 use cutter::CutAnswer;
 use cutter::EndAnswer;
@@ -7,11 +7,14 @@ use cutter::cut;
 use cutter::line;
 use fields::heads::MessageType;
 use line::LineRead;
-use messages::Message;
+use line::OldRead;
+use line::Refusal;
+use messages::Body;
 use messages::key_in;
 use messages::type_in;
 use printer::put_count;
 use printer::slips::put_part;
+use rules::Rule;
 use text::pack_known;
 ghost use mathlib.Core.Path.{_≡_};
 ghost use mathlib.Core.Bool.{true};
@@ -22,12 +25,18 @@ ghost use Rattle.fields.specs.MessageType.{typeText};
 ghost use Rattle.cutter.specs.State.{stateIn};
 ghost use Rattle.cutter.specs.Calls.{lineIn};
 ghost use Rattle.cutter.specs.Cases.{toldBy};
-ghost use Rattle.line.specs.Read.{readOf};
-ghost use Rattle.line.specs.declared.LineRead.the-variants as read;
-ghost use Rattle.checks.specs.Part.{verdictBy, judgedOf, isVerdict, verdictText, verdictSaid, counted, longestSaying, Adds, Ready, StepReady, Steps, Continues, tornIn, EndReady, EndsFeed};
+ghost use Rattle.rules.specs.declared.Rule.the-variants.{New, Old};
+ghost use Rattle.line.specs.Read.{readBy};
+ghost use Rattle.checks.specs.Part.{bodyVerdict, refusedVerdict, verdictBy, judgedOf, isVerdict, verdictText, verdictSaid, counted, longestSaying, Adds, Ready, StepReady, Steps, Continues, tornIn, EndReady, EndsFeed};
 
 // No line of text is longer.
 pub const LONGEST_SAYING: usize = 90;
+
+// The rule by which lines are read, and whether the refused ones alone are told.
+pub struct Asked {
+    pub rule: Rule,
+    pub only: bool,
+}
 
 // What is kept from part to part: the cutter's state, how many lines ended, and how many of these read.
 pub struct Sums {
@@ -71,11 +80,10 @@ fn type_word(kind: MessageType) -> u64
     pack_known(&letters)
 }
 
-// A message has no answer but 0, and no place.
-fn of_message(m: Message) -> Verdict
-    ensures { λ r. ⌜ r ≡ verdictBy (read.Read m) ⌝ }
+// A line that reads has no answer but 0, and no place; its type and its key are those of its body.
+fn of_body(body: Body) -> Verdict
+    ensures { λ r. ⌜ r ≡ bodyVerdict body ⌝ }
 {
-    let body = m.body;
     let kind = type_word(type_in(body));
     let key = key_in(body);
     Verdict {
@@ -86,29 +94,63 @@ fn of_message(m: Message) -> Verdict
     }
 }
 
-// What is said of a line that is not overlong.
-fn judge_line(line: &[u8]) -> Verdict
-    ensures { λ r. ⌜ r ≡ verdictBy (readOf (now (line .entry))) ⌝ }
+// A refused line has neither type nor key.
+fn of_refusal(refusal: Refusal) -> Verdict
+    ensures { λ r. ⌜ r ≡ refusedVerdict refusal ⌝ }
+{
+    Verdict {
+        answer: refusal.number() as u64,
+        place: refusal.place() as u64,
+        kind: 0,
+        key: 0,
+    }
+}
+
+// What is said of a line of the feed that is not overlong.
+fn judge_new(line: &[u8]) -> Verdict
+    ensures { λ r. ⌜ r ≡ verdictBy (readBy New (now (line .entry))) ⌝ }
 {
     let read = line::read(line);
     match read {
-        LineRead::Read(m) => of_message(m),
-        LineRead::Refused(refusal) => Verdict {
-            answer: refusal.number() as u64,
-            place: refusal.place() as u64,
-            kind: 0,
-            key: 0,
-        },
+        LineRead::Read(m) => {
+            let body = m.body;
+            of_body(body)
+        }
+        LineRead::Refused(refusal) => of_refusal(refusal),
+    }
+}
+
+// The same of a line of the old feed.
+fn judge_old(line: &[u8]) -> Verdict
+    ensures { λ r. ⌜ r ≡ verdictBy (readBy Old (now (line .entry))) ⌝ }
+{
+    let read = line::read_old(line);
+    match read {
+        OldRead::Read(m) => {
+            let body = m.body;
+            of_body(body)
+        }
+        OldRead::Refused(refusal) => of_refusal(refusal),
+    }
+}
+
+// What is said of a line that is not overlong, read under the rule.
+fn judge_line(rule: Rule, line: &[u8]) -> Verdict
+    ensures { λ r. ⌜ r ≡ verdictBy (readBy rule (now (line .entry))) ⌝ }
+{
+    match rule {
+        Rule::New => judge_new(line),
+        Rule::Old => judge_old(line),
     }
 }
 
 // Of the line that a cut told of, if it did. An overlong one answers 2.
-fn judge<'a>(answer: CutAnswer, held: &'a [u8], rest: &'a [u8]) -> Judged
-    ensures { λ r. ⌜ r ≡ judgedOf (toldBy answer (lineIn answer (now (held .entry)) (now (rest .entry)))) ⌝ }
+fn judge<'a>(rule: Rule, answer: CutAnswer, held: &'a [u8], rest: &'a [u8]) -> Judged
+    ensures { λ r. ⌜ r ≡ judgedOf rule (toldBy answer (lineIn answer (now (held .entry)) (now (rest .entry)))) ⌝ }
 {
     match answer {
-        CutAnswer::InBuffer(_) => Judged::Line(judge_line(line(answer, held, rest))),
-        CutAnswer::InPart(_) => Judged::Line(judge_line(line(answer, held, rest))),
+        CutAnswer::InBuffer(_) => Judged::Line(judge_line(rule, line(answer, held, rest))),
+        CutAnswer::InPart(_) => Judged::Line(judge_line(rule, line(answer, held, rest))),
         CutAnswer::TooLong => Judged::Line(Verdict {
             answer: 2,
             place: 0,
@@ -170,9 +212,9 @@ fn count(sums: Sums, verdict: Verdict) -> Sums
 }
 
 // One line of what is left of the part, or all of it where no line ends there.
-fn step(held: &mut [u8], only: bool, sums: Sums, rest: &[u8], out: &mut [u8], at: usize) -> Turn
+fn step(held: &mut [u8], asked: Asked, sums: Sums, rest: &[u8], out: &mut [u8], at: usize) -> Turn
     requires { ⌜ StepReady (now held) sums (now rest) (now out) at ⌝ }
-    ensures { λ r. ⌜ Steps only (now (held .entry)) sums (now (rest .entry)) (now (out .entry)) at (now (held .exit)) r (now (out .exit)) ⌝ }
+    ensures { λ r. ⌜ Steps asked (now (held .entry)) sums (now (rest .entry)) (now (out .entry)) at (now (held .exit)) r (now (out .exit)) ⌝ }
 {
     let begun = sums.begun;
     let done = cut(held, begun, rest);
@@ -183,10 +225,11 @@ fn step(held: &mut [u8], only: bool, sums: Sums, rest: &[u8], out: &mut [u8], at
         lines: sums.lines,
         read: sums.read,
     };
-    let judged = judge(answer, &held[..], rest);
+    let rule = asked.rule;
+    let judged = judge(rule, answer, &held[..], rest);
     match judged {
         Judged::Line(verdict) => {
-            let next = say(only, (sums.lines + 1) as u64, verdict, out, at);
+            let next = say(asked.only, (sums.lines + 1) as u64, verdict, out, at);
             let sums = count(sums, verdict);
             Turn {
                 sums,
@@ -204,17 +247,17 @@ fn step(held: &mut [u8], only: bool, sums: Sums, rest: &[u8], out: &mut [u8], at
 
 // Cuts the part into its lines, and writes what is said of them from the start of out: a part of any size, with room for a line of text for each of
 // its bytes.
-pub fn check(held: &mut [u8], only: bool, sums: Sums, part: &[u8], out: &mut [u8]) -> Said
+pub fn check(held: &mut [u8], asked: Asked, sums: Sums, part: &[u8], out: &mut [u8]) -> Said
     requires { ⌜ Ready (now held) sums (now part) (length (now out)) ⌝ }
-    ensures { λ r. ⌜ Adds only (now (held .entry)) sums (now (part .entry)) (now (out .entry)) 0 (now (held .exit)) (r .sums) (now (out .exit)) (r .size) ⌝ }
+    ensures { λ r. ⌜ Adds asked (now (held .entry)) sums (now (part .entry)) (now (out .entry)) 0 (now (held .exit)) (r .sums) (now (out .exit)) (r .size) ⌝ }
     ensures { λ r. ⌜ r .size ≤ length (now (out .exit)) ⌝ }
-    ensures { λ r. ⌜ Continues only (now (held .entry)) sums (now (part .entry)) (now (held .exit)) (r .sums) (take (r .size) (now (out .exit))) ⌝ }
+    ensures { λ r. ⌜ Continues asked (now (held .entry)) sums (now (part .entry)) (now (held .exit)) (r .sums) (take (r .size) (now (out .exit))) ⌝ }
 {
     let mut now = sums;
     let mut used: usize = 0;
     let mut at: usize = 0;
     while used < part.len() {
-        let turn = step(held, only, now, &part[used..], out, at);
+        let turn = step(held, asked, now, &part[used..], out, at);
         now = turn.sums;
         used += turn.used;
         at = turn.next;

@@ -1,16 +1,18 @@
 // The desks' program: a word for each job.
 use check::same;
+use checks::Asked;
 use intake::say;
 use intake::words::is_help;
 use intake::words::is_option;
 use libc::STDIN_FILENO;
 use libc::STDOUT_FILENO;
+use rules::Rule;
 
-const HELP: [u8; 373] =
-    *b"desk: what the desks ask of a feed\n\n  desk check [--refused] [FILE]    each line of the feed with its answer\n  desk keep FILE                   the feed kept as a day file\n  desk lines FILE                  the lines of a day file\n\n'desk check --help' says more of it, and so for each word. What went wrong is said on\nstandard error; there is no exit status that tells it.\n";
+const HELP: [u8; 397] =
+    *b"desk: what the desks ask of a feed\n\n  desk check [--old] [--refused] [FILE]    each line of the feed with its answer\n  desk keep FILE                           the feed kept as a day file\n  desk lines FILE                          the lines of a day file\n\n'desk check --help' says more of it, and so for each word. What went wrong is said on\nstandard error; there is no exit status that tells it.\n";
 
-const CHECK_HELP: [u8; 727] =
-    *b"desk check: why was this line refused?\n\n  desk check            reads standard input; so does 'desk check -'\n  desk check FILE       reads the file\n  desk check --refused [FILE]    leaves out the lines that are read\n\nEach line of the feed gets a line: NUMBER ANSWER PLACE TYPE KEY. NUMBER counts from 1.\nANSWER is 0 for a line that is read, else the number that says why not, and PLACE the\nfield at fault, 1 for the ident, or 0. TYPE and KEY are those of a line that is read, a\nhyphen where there is none. 2 is an overlong line, 17 a last line without a line feed.\nThe sums go to standard error: how many LINES, how many READ, how many REFUSED. No board\nis there, so a line that would find the board full is read all the same.\n";
+const CHECK_HELP: [u8; 862] =
+    *b"desk check: why was this line refused?\n\n  desk check            reads standard input; so does 'desk check -'\n  desk check FILE       reads the file\n  desk check --refused [FILE]    leaves out the lines that are read\n  desk check --old [FILE]        reads lines of the feed that ended in 1999\n\nBoth options may be given, each once and in either order.\n\nEach line of the feed gets a line: NUMBER ANSWER PLACE TYPE KEY. NUMBER counts from 1.\nANSWER is 0 for a line that is read, else the number that says why not, and PLACE the\nfield at fault, 1 for the ident, or 0. TYPE and KEY are those of a line that is read, a\nhyphen where there is none. 2 is an overlong line, 17 a last line without a line feed.\nThe sums go to standard error: how many LINES, how many READ, how many REFUSED. No board\nis there, so a line that would find the board full is read all the same.\n";
 
 const KEEP_HELP: [u8; 613] =
     *b"desk keep: what came in, kept until the morning\n\n  desk keep FILE        reads the feed from standard input and makes the day file FILE\n\nA line is kept as it came, whether it reads or not. Two are not, and are said on standard\nerror with their number: a line over 2,048 bytes (answer 2), and a last line without a\nline feed (answer 17). A day file holds 65,535 lines; with the next one it is ended, and\nthe feed is read no further (answer 24). Until the file is whole it is called FILE.part;\na FILE that is there already stays as it is. The sums go to standard error: how many lines\nwere KEPT, how many NOT KEPT.\n";
@@ -38,24 +40,72 @@ fn print_lines_help() {
     io::write_all(STDOUT_FILENO, &text);
 }
 
+// What is asked for: the old feed's lines or the feed's, and the refused ones alone or all.
+fn asked_for(old: bool, refused: bool) -> Asked {
+    if old {
+        return Asked {
+            rule: Rule::Old,
+            only: refused,
+        };
+    }
+    Asked {
+        rule: Rule::New,
+        only: refused,
+    }
+}
+
+// More words than one feed needs.
+fn too_many() {
+    say(
+        b"desk check",
+        b"it reads one feed; 'desk check --help' says how",
+    );
+}
+
+// A word that has no place where it stands: an option that there is not, or else a word too many. So is an option that was given already.
+fn refuse(word: &[u8]) {
+    if !is_option(word) {
+        return too_many();
+    }
+    if same(word, b"--old") {
+        return too_many();
+    }
+    if same(word, b"--refused") {
+        return too_many();
+    }
+    say(
+        word,
+        b"no such option; 'desk check --help' names what there is",
+    );
+}
+
 // The checks of the feed in the file that is named; of standard input where that is a hyphen.
-fn check_named(name: &[u8], only: bool) {
+fn check_named(name: &[u8], old: bool, refused: bool) {
+    let asked = asked_for(old, refused);
     if same(name, b"-") {
-        return intake::checking::run(STDIN_FILENO, b"standard input", only);
+        return intake::checking::run(STDIN_FILENO, b"standard input", asked);
     }
     if is_option(name) {
-        return say(
-            name,
-            b"no such option; 'desk check --help' names what there is",
-        );
+        return refuse(name);
     }
     let fd = os::open_read(name);
     if fd < 0 {
         os::fail(name);
         return;
     }
-    intake::checking::run(fd, name, only);
+    intake::checking::run(fd, name, asked);
     libc::close(fd);
+}
+
+// The last word, after the option that was given, if one was: an option more, or the feed.
+fn check_last(word: &[u8], old: bool, refused: bool) {
+    if !old && same(word, b"--old") {
+        return check_named(b"-", true, refused);
+    }
+    if !refused && same(word, b"--refused") {
+        return check_named(b"-", old, true);
+    }
+    check_named(word, old, refused);
 }
 
 // One word after 'check'.
@@ -63,39 +113,44 @@ fn check_word(word: &[u8]) {
     if is_help(word) {
         return print_check_help();
     }
-    if same(word, b"--refused") {
-        return check_named(b"-", true);
-    }
-    check_named(word, false);
+    check_last(word, false, false);
 }
 
-// Two words after 'check': the first is the option.
-fn check_words(option: &[u8], name: &[u8]) {
+// Two words after 'check': the first is an option.
+fn check_two(option: &[u8], last: &[u8]) {
+    if same(option, b"--old") {
+        return check_last(last, true, false);
+    }
     if same(option, b"--refused") {
-        return check_named(name, true);
+        return check_last(last, false, true);
     }
-    if is_option(option) {
-        return say(
-            option,
-            b"no such option; 'desk check --help' names what there is",
-        );
+    refuse(option);
+}
+
+// Three words after 'check': both options, and the feed.
+fn check_three(first: &[u8], second: &[u8], name: &[u8]) {
+    if same(first, b"--old") {
+        if same(second, b"--refused") {
+            return check_named(name, true, true);
+        }
+        return refuse(second);
     }
-    say(
-        b"desk check",
-        b"it reads one feed; 'desk check --help' says how",
-    );
+    if same(first, b"--refused") {
+        if same(second, b"--old") {
+            return check_named(name, true, true);
+        }
+        return refuse(second);
+    }
+    refuse(first);
 }
 
 fn check() {
     let words = os::arg_count();
     if words < 3 {
-        return check_named(b"-", false);
+        return check_named(b"-", false, false);
     }
-    if words > 4 {
-        return say(
-            b"desk check",
-            b"it reads one feed; 'desk check --help' says how",
-        );
+    if words > 5 {
+        return too_many();
     }
     let mut first = io::buffer();
     let n = os::arg(2, &mut first);
@@ -108,9 +163,17 @@ fn check() {
     let mut second = io::buffer();
     let m = os::arg(3, &mut second);
     if os::errno() != 0 {
+        return os::fail(b"the second word after check");
+    }
+    if words < 5 {
+        return check_two(&first[..n], &second[..m]);
+    }
+    let mut name = io::buffer();
+    let k = os::arg(4, &mut name);
+    if os::errno() != 0 {
         return os::fail(b"the name of the file");
     }
-    check_words(&first[..n], &second[..m]);
+    check_three(&first[..n], &second[..m], &name[..k]);
 }
 
 // The word after 'keep'.

@@ -14,6 +14,7 @@ use Rattle.checks.specs.Check.{tornOf}
 use Rattle.checks.specs.Feed.{checksOf, checkedOf, Checked}
 use Rattle.checks.specs.Part.{longestSaying, Ready, Continues, EndReady, EndsFeed}
 use Rattle.checks.specs.Run.{atFirst}
+use Rattle.checks.specs.declared.Asked.{Asked}
 use Rattle.checks.specs.declared.Sums.{Sums}
 use Rattle.checks.proofs.Joins.{reads-few}
 use Rattle.checks.proofs.Feeds.{first-checked}
@@ -55,20 +56,20 @@ module _ (w : Work) where
 
 -- ---- the start
 
-pub first-kept : (only : Bool) (held : List ℕ) → length held ≡ longestLine → (i : Input) → i .total ≡ 0 → (o : Output) → o .total ≡ 0
-    → Kept only held (record { input = i; sums = atFirst; output = o })
+pub first-kept : (asked : Asked) (held : List ℕ) → length held ≡ longestLine → (i : Input) → i .total ≡ 0 → (o : Output) → o .total ≡ 0
+    → Kept asked held (record { input = i; sums = atFirst; output = o })
 unfolding checksOf
-first-kept only held h i e o f =
-    let c = first-checked only held h in
+first-kept asked held h i e o f =
+    let c = first-checked asked held h in
     ([], record { checked = record { allowed = c .allowed; state = c .state; lines = c .lines; read = c .read; text = refl }; came = sym e; handed = λ q. f ∙ ap length (c .text) })
 
 -- ---- a block
 
-module _ (only : Bool) (held : List ℕ) (w : Work) (k : Kept only held w) where
+module _ (asked : Asked) (held : List ℕ) (w : Work) (k : Kept asked held w) where
   abbrev feed : List ℕ
   feed = k .0
 
-  abbrev has : Checked only feed held (w .sums) (checksOf only feed)
+  abbrev has : Checked asked feed held (w .sums) (checksOf asked feed)
   has = k .1 .checked
 
   -- fewer lines than bytes, so that the counts have room
@@ -76,26 +77,26 @@ module _ (only : Bool) (held : List ℕ) (w : Work) (k : Kept only held w) where
   few = omega (arith, checked-few has, k .1 .came)
 
   pub fewer : w .sums .read ≤ w .sums .lines
-  fewer = omega (arith, has .lines, has .read, reads-few (linesOf feed))
+  fewer = omega (arith, has .lines, has .read, reads-few (asked .rule) (linesOf feed))
 
   -- what came is a part that can be checked
   pub block-ready : (part : List ℕ) (room : ℕ) → w .input .total + length part < 2 ^ 64 → longestSaying * length part ≤ room → Ready held (w .sums) part room
   block-ready part room h r = record { allowed = has .allowed; few = omega (arith, few); less = fewer; roomy = r }
 
-  module _ (on : isOn w ≡ true) (part held′ : List ℕ) (s′ : Sums) (text : List ℕ) (x : Continues only held (w .sums) part held′ s′ text) where
-    next : Checked only (feed ++ part) held′ s′ (checksOf only feed ++ text)
-    next = x feed (checksOf only feed) has
+  module _ (on : isOn w ≡ true) (part held′ : List ℕ) (s′ : Sums) (text : List ℕ) (x : Continues asked held (w .sums) part held′ s′ text) where
+    next : Checked asked (feed ++ part) held′ s′ (checksOf asked feed ++ text)
+    next = x feed (checksOf asked feed) has
 
-    pub block-next : (n : ℕ) → n ≡ w .input .total + length part → Next only n (w .output .total) text
+    pub block-next : (n : ℕ) → n ≡ w .input .total + length part → Next asked n (w .output .total) text
     block-next n e = More feed part (omega (arith, e, length-append feed part, k .1 .came)) (k .1 .handed (on-is w on .1)) (sym (next .text))
 
-    pub block-kept : (i : Input) → i .total ≡ w .input .total + length part → (o : Output) → Handed (w .output) (length text) o → Kept only held′ (record { input = i; sums = s′; output = o })
+    pub block-kept : (i : Input) → i .total ≡ w .input .total + length part → (o : Output) → Handed (w .output) (length text) o → Kept asked held′ (record { input = i; sums = s′; output = o })
     block-kept i e o h = (
       feed ++ part,
       record {
         checked = record { allowed = next .allowed; state = next .state; lines = next .lines; read = next .read; text = refl };
         came = omega (arith, e, length-append feed part, k .1 .came);
-        handed = λ q. omega (arith, h q, k .1 .handed (on-is w on .1), ap length (next .text), length-append (checksOf only feed) text);
+        handed = λ q. omega (arith, h q, k .1 .handed (on-is w on .1), ap length (next .text), length-append (checksOf asked feed) text);
       },
     )
 
@@ -124,43 +125,43 @@ less-still i j size c e = go (j .live) refl
 
 -- ---- the end
 
-module _ (only : Bool) (held : List ℕ) (w : Work) (h : Whole only held w) where
+module _ (asked : Asked) (held : List ℕ) (w : Work) (h : Whole asked held w) where
   abbrev all : List ℕ
   all = h .0 .0
 
-  abbrev said : Checked only all held (w .sums) (checksOf only all)
+  abbrev said : Checked asked all held (w .sums) (checksOf asked all)
   said = h .0 .1 .checked
 
   pub end-ready : (room : ℕ) → w .input .total < 2 ^ 64 → longestSaying ≤ room → EndReady held (w .sums) room
   end-ready room t r =
       record {
         allowed = said .allowed;
-        few = λ q. omega (arith, few only held w (h .0), inside-rest said q, t);
+        few = λ q. omega (arith, few asked held w (h .0), inside-rest said q, t);
         roomy = r;
       }
 
   -- nothing more is taken
-  pub done-closed : w .output .live ≡ false → Done only w
+  pub done-closed : w .output .live ≡ false → Done asked w
   done-closed q =
-      record { feed = all; came = h .0 .1 .came; lines = said .lines; read = said .read; fewer = fewer only held w (h .0); handed = λ p. true-false p q }
+      record { feed = all; came = h .0 .1 .came; lines = said .lines; read = said .read; fewer = fewer asked held w (h .0); handed = λ p. true-false p q }
 
   module _ (live : w .output .live ≡ true) (text : List ℕ) (x : EndsFeed held (w .sums) text) where
-    whole : checkedOf only all ≡ checksOf only all ++ text
+    whole : checkedOf asked all ≡ checksOf asked all ++ text
     unfolding checkedOf
     whole =
-        let t : text ≡ tornOf (suc (length (linesOf all))) (restOf all) = x only all (checksOf only all) said ∙ ap (λ (n : ℕ). tornOf (suc n) (restOf all)) (said .lines) in
-        ap (λ (l : List ℕ). checksOf only all ++ l) (sym t)
+        let t : text ≡ tornOf (suc (length (linesOf all))) (restOf all) = x asked all (checksOf asked all) said ∙ ap (λ (n : ℕ). tornOf (suc n) (restOf all)) (said .lines) in
+        ap (λ (l : List ℕ). checksOf asked all ++ l) (sym t)
 
-    pub end-next : Next only (w .input .total) (w .output .total) text
+    pub end-next : Next asked (w .input .total) (w .output .total) text
     end-next = Last all (h .0 .1 .came) (h .0 .1 .handed live) whole
 
-    pub end-done : (o : Output) → Handed (w .output) (length text) o → Done only (record { input = w .input; sums = w .sums; output = o })
+    pub end-done : (o : Output) → Handed (w .output) (length text) o → Done asked (record { input = w .input; sums = w .sums; output = o })
     end-done o k =
         record {
           feed = all;
           came = h .0 .1 .came;
           lines = said .lines;
           read = said .read;
-          fewer = fewer only held w (h .0);
-          handed = λ q. (off-is w (h .1) live, omega (arith, k q, h .0 .1 .handed live, ap length whole, length-append (checksOf only all) text));
+          fewer = fewer asked held w (h .0);
+          handed = λ q. (off-is w (h .1) live, omega (arith, k q, h .0 .1 .handed live, ap length whole, length-append (checksOf asked all) text));
         }

@@ -5,6 +5,7 @@ use crate::input::Input;
 use crate::output;
 use crate::output::Output;
 use crate::output::hand_over;
+use checks::Asked;
 use checks::LONGEST_SAYING;
 use checks::Sums;
 use checks::check;
@@ -44,26 +45,26 @@ fn is_on(work: Work) -> bool
 // One read, what is said of what came, and that handed over.
 fn check_block(
     name: &[u8],
-    only: bool,
+    asked: Asked,
     block: &mut [u8],
     held: &mut [u8],
     out: &mut [u8],
     work: Work,
 ) -> Work
-    requires { ⌜ Kept only (now held) work ⌝ }
+    requires { ⌜ Kept asked (now held) work ⌝ }
     requires { ⌜ isOn work ≡ true ⌝ }
     requires { ⌜ longestSaying * length (now block) ≤ length (now out) ⌝ }
-    ensures { λ r. ⌜ Works only work (length (now (block .exit))) (now (held .exit)) r ⌝ }
+    ensures { λ r. ⌜ Works asked work (length (now (block .exit))) (now (held .exit)) r ⌝ }
 {
     let before = work.input;
     let sums = work.sums;
     let output = work.output;
     let input = input::next(before, name, block);
     let n = input::total(input) - input::total(before);
-    let said = check(held, only, sums, &block[..n], out);
+    let said = check(held, asked, sums, &block[..n], out);
     let size = said.size;
     let sums = said.sums;
-    let output = hand_over(output, input, only, &out[..size]);
+    let output = hand_over(output, input, asked, &out[..size]);
     Work {
         input,
         sums,
@@ -75,14 +76,14 @@ fn check_block(
 fn check_all(
     fd: i32,
     name: &[u8],
-    only: bool,
+    asked: Asked,
     block: &mut [u8],
     held: &mut [u8],
     out: &mut [u8],
 ) -> Work
     requires { ⌜ length (now held) ≡ longestLine ⌝ }
     requires { ⌜ longestSaying * length (now block) ≤ length (now out) ⌝ }
-    ensures { λ r. ⌜ Whole only (now (held .exit)) r ⌝ }
+    ensures { λ r. ⌜ Whole asked (now (held .exit)) r ⌝ }
 {
     let input = input::start(fd);
     let output = output::start();
@@ -98,17 +99,17 @@ fn check_all(
     };
     let mut on = true;
     while on {
-        work = check_block(name, only, block, held, out, work);
+        work = check_block(name, asked, block, held, out, work);
         on = is_on(work);
     }
     work
 }
 
 // The unended rest of a feed that was read whole: a line of text for it, if there is one.
-fn finish(only: bool, held: &[u8], out: &mut [u8], work: Work) -> Work
-    requires { ⌜ Whole only (now held) work ⌝ }
+fn finish(asked: Asked, held: &[u8], out: &mut [u8], work: Work) -> Work
+    requires { ⌜ Whole asked (now held) work ⌝ }
     requires { ⌜ longestSaying ≤ length (now out) ⌝ }
-    ensures { λ r. ⌜ Done only r ⌝ }
+    ensures { λ r. ⌜ Done asked r ⌝ }
 {
     let input = work.input;
     let sums = work.sums;
@@ -117,7 +118,7 @@ fn finish(only: bool, held: &[u8], out: &mut [u8], work: Work) -> Work
         return work;
     }
     let size = checks::end(held, sums, out);
-    let output = hand_over(output, input, only, &out[..size]);
+    let output = hand_over(output, input, asked, &out[..size]);
     Work {
         input,
         sums,
@@ -126,14 +127,14 @@ fn finish(only: bool, held: &[u8], out: &mut [u8], work: Work) -> Work
 }
 
 // Reads the feed that fd gives, to its end or to a read that fails, and hands over what is said of each of its lines.
-pub(crate) fn check_feed(fd: i32, name: &[u8], only: bool) -> Work
-    ensures { λ r. ⌜ Done only r ⌝ }
+pub(crate) fn check_feed(fd: i32, name: &[u8], asked: Asked) -> Work
+    ensures { λ r. ⌜ Done asked r ⌝ }
 {
     let mut block = io::buffer();
     let mut held = [0u8; LONGEST_LINE];
     let mut out = [0u8; LONGEST_SAID];
-    let work = check_all(fd, name, only, &mut block, &mut held, &mut out);
-    finish(only, &held, &mut out, work)
+    let work = check_all(fd, name, asked, &mut block, &mut held, &mut out);
+    finish(asked, &held, &mut out, work)
 }
 
 // A sum, on standard error.
@@ -145,8 +146,8 @@ fn tell(name: &[u8], n: usize, after: &[u8]) {
 
 // For each line of the feed one line of text on standard output, and the sums on standard error. Where a read fails before a byte came, there is
 // nothing to sum up.
-pub fn run(fd: i32, name: &[u8], only: bool) {
-    let work = check_feed(fd, name, only);
+pub fn run(fd: i32, name: &[u8], asked: Asked) {
+    let work = check_feed(fd, name, asked);
     let input = work.input;
     if input::is_barren(input) {
         return;

@@ -2,6 +2,7 @@
 // and nothing outside this file can make an `Output`, so no other code can say that bytes were handed over.
 use crate::Reported;
 use crate::input::Input;
+use checks::Asked;
 use libc::STDOUT_FILENO;
 ghost use mathlib.Core.Path.{_≡_};
 ghost use mathlib.Core.Bool.{true, false};
@@ -44,8 +45,8 @@ fn closed(output: Output) -> Output
 }
 
 // What is said next of what came in, and nothing else.
-pub(crate) fn hand_over(output: Output, input: Input, only: bool, text: &[u8]) -> Output
-    requires { ⌜ Next only (input .total) (output .total) (now text) ⌝ }
+pub(crate) fn hand_over(output: Output, input: Input, asked: Asked, text: &[u8]) -> Output
+    requires { ⌜ Next asked (input .total) (output .total) (now text) ⌝ }
     ensures { λ r. ⌜ Handed output (length (now (text .entry))) r ⌝ }
 {
     if text.len() > usize::MAX - output.total {

@@ -9,11 +9,11 @@ use Rattle.intake.proofs.checking.check_all.Statement.{statement}
 use Rattle.intake.proofs.checking.check_all.Tie as tie
 
 abbrev Inv-loop : tie.InvT-loop
-Inv-loop fd name only block₀ held₀ out₀ work₀ on₀ block held out work on =
-    (Kept only held work) × (on ≡ isOn work) × (length block ≡ length block₀) × (length held ≡ length held₀) × (length out ≡ length out₀)
+Inv-loop fd name asked block₀ held₀ out₀ work₀ on₀ block held out work on =
+    (Kept asked held work) × (on ≡ isOn work) × (length block ≡ length block₀) × (length held ≡ length held₀) × (length out ≡ length out₀)
 
 abbrev μ-loop : tie.MeasureT-loop
-μ-loop fd name only block₀ held₀ out₀ work₀ on₀ block held out work on = stillToCome (work .input)
+μ-loop fd name asked block₀ held₀ out₀ work₀ on₀ block held out work on = stillToCome (work .input)
 
 pub check-all-spec : {M : Type 1} → statement M
 check-all-spec =
@@ -24,7 +24,7 @@ check-all-spec =
     (λ c. let s = c .before .before .before .before .before .before in
     let i = c .before .start .ensures in
     let o = c .start2 .ensures in
-    (first-kept (s .args .only) _ (s .pre .0) _ (i .0) _ (o .0), on-first _ (i .1) (o .1), refl, refl, refl))
+    (first-kept (s .args .asked) _ (s .pre .0) _ (i .0) _ (o .0), on-first _ (i .1) (o .1), refl, refl, refl))
     (λ c κs. let l = c .before .before .before in
     let v = l .before .loop .inv in
     let s = l .before .before .before .before .before .before .before .before in

@@ -24,7 +24,7 @@ check-block-spec =
     let f = c .before .before .before .total2 .ensures in
     let i = s .args .work .input in
     let b = n .next .last .1 .1 .0 in
-    block-ready (s .args .only) _ (s .args .work) (s .pre .0) _ _
+    block-ready (s .args .asked) _ (s .args .work) (s .pre .0) _ _
     (omega (arith, came-total i b (n .next .result) (n .next .ensures) e f, e))
     (omega (arith, came-size i b (n .next .result) (n .next .ensures) e f, came-inside i b (n .next .result) (n .next .ensures) e f, n .next .kept .1 .1 .0, s .pre .1 .1)))
     (λ c. search needs)
@@ -32,7 +32,7 @@ check-block-spec =
     (λ c κs. let k = c .before .before .before .before .before .before in
     let n = k .before .before .before .before .before .before .before .before in
     let s = n .before .before .before .before .before .before .before .before .before in
-    block-next (s .args .only) _ (s .args .work) (s .pre .0) (s .pre .1 .0) _ _ (k .check .result .sums) _ (k .check .ensures .1 .1) _
+    block-next (s .args .asked) _ (s .args .work) (s .pre .0) (s .pre .1 .0) _ _ (k .check .result .sums) _ (k .check .ensures .1 .1) _
     (came-total (s .args .work .input) _ (n .next .result) (n .next .ensures) (k .before .before .before .before .before .total .ensures) (k .before .before .before .before .total2 .ensures)))
     (λ c. search needs) (λ c. search needs) (λ c. search needs)
     (λ c. let k = c .before .before .before .before .before .before .before in
@@ -41,7 +41,7 @@ check-block-spec =
     record {
       came = n .next .ensures;
       kept =
-          block-kept (s .args .only) _ (s .args .work) (s .pre .0) (s .pre .1 .0) _ _ (k .check .result .sums) _ (k .check .ensures .1 .1) (n .next .result)
+          block-kept (s .args .asked) _ (s .args .work) (s .pre .0) (s .pre .1 .0) _ _ (k .check .result .sums) _ (k .check .ensures .1 .1) (n .next .result)
           (came-total (s .args .work .input) _ (n .next .result) (n .next .ensures) (k .before .before .before .before .before .total .ensures) (k .before .before .before .before .total2 .ensures))
           (c .hand-over .result) (c .hand-over .ensures);
     }))

@@ -14,16 +14,16 @@ finish-spec =
     tie.close
     (tie.spec
     (λ c κs. search needs)
-    (λ c. let l = c .before in let s = l .before .before .before .before .before .before in done-closed (s .args .only) _ (s .args .work) (s .pre .0) (not-so (l .is-live .ensures) (c .if1 .taken)))
-    (λ c κs. let s = c .before .before .before .before .before .before .before .before in end-ready (s .args .only) _ (s .args .work) (s .pre .0) _ (omega arith) (s .pre .1))
+    (λ c. let l = c .before in let s = l .before .before .before .before .before .before in done-closed (s .args .asked) _ (s .args .work) (s .pre .0) (not-so (l .is-live .ensures) (c .if1 .taken)))
+    (λ c κs. let s = c .before .before .before .before .before .before .before .before in end-ready (s .args .asked) _ (s .args .work) (s .pre .0) _ (omega arith) (s .pre .1))
     (λ c. let e = c .before .before in torn-inside _ _ _ (e .before .before .before .before .before .before .before .before .before .pre .1) (e .end .ensures .0) (e .end .ensures .1 .0))
     (λ c. let e = c .before .before .before in sym (length-take-le _ _ (torn-inside _ _ _ (e .before .before .before .before .before .before .before .before .before .pre .1) (e .end .ensures .0) (e .end .ensures .1 .0))))
     (λ c κs. let e = c .before .before .before in
     let t = e .before .before in
     let s = t .before .before .before .before .before .before .before in
-    end-next (s .args .only) _ (s .args .work) (s .pre .0) (so (t .before .is-live .ensures) (t .if1 .left)) _ (e .end .ensures .1 .1))
+    end-next (s .args .asked) _ (s .args .work) (s .pre .0) (so (t .before .is-live .ensures) (t .if1 .left)) _ (e .end .ensures .1 .1))
     (λ c. search needs)
     (λ c. let e = c .before .before .before .before in
     let t = e .before .before in
     let s = t .before .before .before .before .before .before .before in
-    end-done (s .args .only) _ (s .args .work) (s .pre .0) (so (t .before .is-live .ensures) (t .if1 .left)) _ (e .end .ensures .1 .1) (c .hand-over .result) (c .hand-over .ensures)))
+    end-done (s .args .asked) _ (s .args .work) (s .pre .0) (so (t .before .is-live .ensures) (t .if1 .left)) _ (e .end .ensures .1 .1) (c .hand-over .result) (c .hand-over .ensures)))
