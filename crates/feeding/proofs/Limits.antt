@@ -16,7 +16,7 @@ use Rattle.line.specs.Read.{newly, readOf, lineNumber}
 use Rattle.line.specs.Cases.{Case, Taken, Short, Long, Unprintable, NoSequence, NoStamp, NoFacility, NoType, Spacing, Field, Number, LongPlan}
 use Rattle.line.specs.declared.LineRead.the-variants as read
 use Rattle.line.specs.declared.Refusal.the-variants as refusal
-use Rattle.line.proofs.Cases.{new-case, new-case-only}
+use Rattle.line.proofs.Cases.{answer-case, answer-only}
 use Rattle.line.proofs.Ways.{line-long}
 use Rattle.planner.specs.Apply.{lineEvent}
 use Rattle.planner.specs.Asked.{askedOf}
@@ -45,8 +45,8 @@ overlong-exactly s = go (leb (length s) longestLine) refl
     go : (b : Bool) → leb (length s) longestLine ≡ b → (lineOf s ≡ TooLong) ↔ (lineNumber (readOf s) ≡ 2)
     go true q =
         let k = leb-true (length s) longestLine q in
-        (λ e. let f : Whole s ≡ TooLong = rw q at e in let z : _≡_ {A = ℕ} 0 1 = cc in absurd (omega arith), λ e. absurd (omega (arith, two-long s (new-case s) e)))
-    go false q = let k = leb-false (length s) longestLine q in (λ e. new-case-only s 2 0 (Long k) .0, λ e. rw q)
+        (λ e. let f : Whole s ≡ TooLong = rw q at e in let z : _≡_ {A = ℕ} 0 1 = cc in absurd (omega arith), λ e. absurd (omega (arith, two-long s (answer-case New s) e)))
+    go false q = let k = leb-false (length s) longestLine q in (λ e. answer-only New s 2 0 (Long k) .0, λ e. rw q)
 
 -- what the reader makes of a line over the limit
 reads-long : (s : List ℕ) → longestLine < length s → read.Refused refusal.Long ≡ readOf s

@@ -38,12 +38,11 @@ use Rattle.messages.specs.declared.typed.BodyRead.{BodyRead}
 use Rattle.messages.specs.declared.typed.BodyRead.the-variants as body
 use Rattle.messages.proofs.ReadWays.{by-table, kept-whole}
 use Rattle.line.specs.Cases.{fewest, untyped, Framed, Stamped, Headed, Faulty, RightUpTo, Case, Taken, Short, Long, Unprintable, NoSequence, NoStamp, NoFacility, NoType, Spacing, Field, Number, LongPlan}
-use Rattle.line.specs.Read.{typeBy, headOf, withBody, restOf, byHead, readBy, headNumber, refusalNumber, refusalPlace, numberBy, placeBy, readOf, oldReadOf, lineNumber, linePlace, oldNumber, oldPlace, freeOf}
+use Rattle.line.specs.Messages.{AnswerOf, answerTo, numberOf, placeOf}
+use Rattle.line.specs.Read.{typeBy, headOf, withBody, restOf, byHead, readBy, headNumber, refusalNumber, refusalPlace, numberBy, placeBy, freeOf}
 use Rattle.line.specs.declared.front.Head.{Head}
 use Rattle.line.specs.declared.front.HeadRead.{HeadRead}
 use Rattle.line.specs.declared.front.HeadRead.the-variants as head
-use Rattle.line.specs.declared.LineRead.{LineRead}
-use Rattle.line.specs.declared.OldRead.{OldRead}
 use Rattle.line.specs.declared.RuleRead.{RuleRead}
 use Rattle.line.specs.declared.RuleRead.the-variants as read
 use Rattle.line.specs.declared.Refusal.{Refusal}
@@ -51,7 +50,7 @@ use Rattle.line.specs.declared.Refusal.the-variants as refusal
 use Rattle.line.proofs.Heads.{madeOf, type-by-sound, type-by-complete}
 use Rattle.line.proofs.Ways.{line-short, line-long, line-byte, line-head, rest-long}
 use Rattle.line.proofs.Lines.{reads-allowed, allowed-reads, line-numbers}
-use Rattle.line.proofs.Theorems.{new-number, new-place, old-number, old-place}
+use Rattle.line.proofs.Theorems.{answer-told}
 use Rattle.line.proofs.CasesBodies.{faulty-fields, no-fields, fields-none, fault-faulty, faulty-fault}
 
 -- the line is in the case of the answer that it reads as
@@ -302,24 +301,18 @@ module _ (ρ : Rule) (s : List ℕ) (t : MessageType) (fs : List (List ℕ)) (i 
       go n p (Number t′ j k l f) e = omega (arith, none t′ j 10 k f e)
       go n p (LongPlan k h) e = omega (arith, e)
 
--- ---- of messages, of the feed and of the old feed
+-- ---- the same of what the readers answer
 
-module _ (s : List ℕ) where
-  pub new-case : Case New s (lineNumber (readOf s)) (linePlace (readOf s))
-  new-case = rw (new-number s, new-place s) (case-of New s)
+module _ (ρ : Rule) (s : List ℕ) where
+  pub answer-case : Case ρ s (numberOf ρ (answerTo ρ s)) (placeOf ρ (answerTo ρ s))
+  answer-case = let q = answer-told ρ s in rw (q .0, q .1) (case-of ρ s)
 
-  pub old-case : Case Old s (oldNumber (oldReadOf s)) (oldPlace (oldReadOf s))
-  old-case = rw (old-number s, old-place s) (case-of Old s)
-
-  pub new-case-only : (n p : ℕ) → Case New s n p → (lineNumber (readOf s) ≡ n) × (linePlace (readOf s) ≡ p)
-  new-case-only n p c = let q = case-only New s n p c in (new-number s ∙ q .0, new-place s ∙ q .1)
-
-  pub old-case-only : (n p : ℕ) → Case Old s n p → (oldNumber (oldReadOf s) ≡ n) × (oldPlace (oldReadOf s) ≡ p)
-  old-case-only n p c = let q = case-only Old s n p c in (old-number s ∙ q .0, old-place s ∙ q .1)
+  pub answer-only : (n p : ℕ) → Case ρ s n p → (numberOf ρ (answerTo ρ s) ≡ n) × (placeOf ρ (answerTo ρ s) ≡ p)
+  answer-only n p c =
+      let q = answer-told ρ s in
+      let d = case-only ρ s n p c in
+      (q .0 ∙ d .0, q .1 ∙ d .1)
 
   -- what `line::read` and `line::read_old` promise of their answers
-  pub told : {r : LineRead} → r ≡ readOf s → (r ≡ readOf s) × Case New s (lineNumber r) (linePlace r)
-  told e = (e, subst (λ (x : LineRead). Case New s (lineNumber x) (linePlace x)) (sym e) new-case)
-
-  pub old-told : {r : OldRead} → r ≡ oldReadOf s → (r ≡ oldReadOf s) × Case Old s (oldNumber r) (oldPlace r)
-  old-told e = (e, subst (λ (x : OldRead). Case Old s (oldNumber x) (oldPlace x)) (sym e) old-case)
+  pub told : {r : AnswerOf ρ} → r ≡ answerTo ρ s → (r ≡ answerTo ρ s) × Case ρ s (numberOf ρ r) (placeOf ρ r)
+  told e = (e, subst (λ (x : AnswerOf ρ). Case ρ s (numberOf ρ x) (placeOf ρ x)) (sym e) answer-case)

@@ -31,7 +31,7 @@ use Rattle.line.specs.declared.LineRead.the-variants as new
 use Rattle.line.specs.declared.OldRead.the-variants as old
 use Rattle.line.proofs.Cases.{wrong-there, right-there}
 use Rattle.line.proofs.Steps.{allowed-allows}
-use Rattle.line.proofs.Theorems.{reads-allowed, old-reads-allowed, new-number, new-place, old-number, old-place}
+use Rattle.line.proofs.Theorems.{reads-allowed, answer-told}
 use Rattle.line.proofs.read.Reads as read
 use Rattle.line.proofs.read_old.Reads as read-old
 
@@ -41,25 +41,25 @@ allowed-levels ρ y r e l x = level-exactly (textOf (l .0)) .0 (word-form LEVEL 
 
 -- what `line::read` and `line::read_old` hand out: `Post` is the `ensures` as it stands in the source
 pub read-levels : (κs : _) (a : _) (r : _) (s : _) (m : Message) → read.Post κs a r s → r ≡ new.Read m → (l : Level) → List·Memᴰ l (levelsIn (m .body)) → level.Level (textOf (l .0))
-read-levels κs a r s m p e = allowed-levels New (readingOf m) _ (reads-allowed (now (a .0)) m (sym (p .0) ∙ e) .0)
+read-levels κs a r s m p e = allowed-levels New (readingOf m) _ (reads-allowed New (now (a .0)) m (sym (p .0) ∙ e) .0)
 
 pub read-old-levels : (κs : _) (a : _) (r : _) (s : _) (m : OldMessage) → read-old.Post κs a r s → r ≡ old.Read m → (l : Level) → List·Memᴰ l (levelsIn (m .body)) → level.Level (textOf (l .0))
-read-old-levels κs a r s m p e = allowed-levels Old (oldReadingOf m) _ (old-reads-allowed (now (a .0)) m (sym (p .0) ∙ e) .0)
+read-old-levels κs a r s m p e = allowed-levels Old (oldReadingOf m) _ (reads-allowed Old (now (a .0)) m (sym (p .0) ∙ e) .0)
 
 -- and what they refuse, of a line that is right up to the place of a level: a block that falls there, and no level
 pub read-falls : (κs : _) (a : _) (r : _) (s : _) → read.Post κs a r s → (t : MessageType) (fs : List (List ℕ)) (i : ℕ) → RightUpTo New (now (a .0)) t fs i → LevelAt fs t i
     → Falls (fieldAt fs i) → (lineNumber r ≡ 9) × (linePlace r ≡ suc i)
 read-falls κs a r s p t fs i u l f =
     let q = wrong-there New (now (a .0)) t fs i u (level-falls New t fs i (u .count) (u .inside) l f) in
-    (ap lineNumber (p .0) ∙ new-number (now (a .0)) ∙ q .0, ap linePlace (p .0) ∙ new-place (now (a .0)) ∙ q .1)
+    (ap lineNumber (p .0) ∙ answer-told New (now (a .0)) .0 ∙ q .0, ap linePlace (p .0) ∙ answer-told New (now (a .0)) .1 ∙ q .1)
 
 pub read-old-falls : (κs : _) (a : _) (r : _) (s : _) → read-old.Post κs a r s → (t : MessageType) (fs : List (List ℕ)) (i : ℕ) → RightUpTo Old (now (a .0)) t fs i → LevelAt fs t i
     → Falls (fieldAt fs i) → (oldNumber r ≡ 9) × (oldPlace r ≡ suc i)
 read-old-falls κs a r s p t fs i u l f =
     let q = wrong-there Old (now (a .0)) t fs i u (level-falls Old t fs i (u .count) (u .inside) l f) in
-    (ap oldNumber (p .0) ∙ old-number (now (a .0)) ∙ q .0, ap oldPlace (p .0) ∙ old-place (now (a .0)) ∙ q .1)
+    (ap oldNumber (p .0) ∙ answer-told Old (now (a .0)) .0 ∙ q .0, ap oldPlace (p .0) ∙ answer-told Old (now (a .0)) .1 ∙ q .1)
 
 pub read-rises : (κs : _) (a : _) (r : _) (s : _) → read.Post κs a r s → (t : MessageType) (fs : List (List ℕ)) (i : ℕ) → RightUpTo New (now (a .0)) t fs i → LevelAt fs t i
     → level.Level (fieldAt fs i) → linePlace r ≡ suc i → ⊥
 read-rises κs a r s p t fs i u l v e =
-    right-there New (now (a .0)) t fs i u (level-right New t fs i (u .count) (u .inside) l v) (sym (new-place (now (a .0))) ∙ sym (ap linePlace (p .0)) ∙ e)
+    right-there New (now (a .0)) t fs i u (level-right New t fs i (u .count) (u .inside) l v) (sym (answer-told New (now (a .0)) .1) ∙ sym (ap linePlace (p .0)) ∙ e)

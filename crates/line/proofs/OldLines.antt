@@ -41,10 +41,10 @@ use Rattle.line.specs.Read.{readBy, oldNumber, oldPlace, freeOf}
 use Rattle.line.specs.declared.LineRead.the-variants as new
 use Rattle.line.specs.declared.OldRead.the-variants as old
 use Rattle.line.specs.declared.RuleRead.the-variants.{Read}
-use Rattle.line.proofs.Cases.{old-case-only, wrong-there}
+use Rattle.line.proofs.Cases.{answer-only, wrong-there}
 use Rattle.line.proofs.Placed.{Stands, reads-stand}
 use Rattle.line.proofs.Steps.{allowed-allows}
-use Rattle.line.proofs.Theorems.{old-reads-allowed, new-read, old-read, old-number, old-place}
+use Rattle.line.proofs.Theorems.{reads-allowed, message-reading, answer-told}
 use Rattle.line.proofs.read.Reads as read
 use Rattle.line.proofs.read_old.Reads as read-old
 
@@ -75,7 +75,7 @@ seven = (refl, refl, refl, refl, refl, refl, refl, refl, refl, refl)
 
 -- letters that are those of another type, or of none, are no type's of the old feed
 pub read-old-no-type : (κs : _) (a : _) (r : _) (s : _) → read-old.Post κs a r s → (t : MessageType) → hasType Old t ≡ false → Stamped Old (now (a .0)) → part 7 2 (now (a .0)) ≡ typeText t → oldNumber r ≡ 7
-read-old-no-type κs a r s p t n f e = ap oldNumber (p .0) ∙ old-case-only (now (a .0)) 7 0 (NoType f other) .0
+read-old-no-type κs a r s p t n f e = ap oldNumber (p .0) ∙ answer-only Old (now (a .0)) 7 0 (NoType f other) .0
   where
     other : (u : MessageType) → hasType Old u ≡ true → typePart Old (now (a .0)) ≡ typeText u → ⊥
     other u g q =
@@ -88,7 +88,7 @@ read-old-no-type κs a r s p t n f e = ap oldNumber (p .0) ∙ old-case-only (no
 -- what is read has neither
 pub read-old-lacks : (κs : _) (a : _) (r : _) (s : _) (m : OldMessage) → read-old.Post κs a r s → r ≡ old.Read m → Lacks (m .body)
 read-old-lacks κs a r s m p e =
-    let x = old-reads-allowed (now (a .0)) m (sym (p .0) ∙ e) .0 in
+    let x = reads-allowed Old (now (a .0)) m (sym (p .0) ∙ e) .0 in
     old-lacks (m .body) _ (m .trailing) (allowed-allows Old (oldReadingOf m) (freeOf Old (now (a .0))) x .body)
 
 -- and a line that is right up to such a field answers 9 with its place
@@ -96,13 +96,13 @@ pub read-old-letter : (κs : _) (a : _) (r : _) (s : _) → read-old.Post κs a 
     → (x y l : List ℕ) → CutInto (fieldAt fs i) x y l → isOneLetter l ≡ true → (oldNumber r ≡ 9) × (oldPlace r ≡ suc i)
 read-old-letter κs a r s p t fs i u c x y l k e =
     let q = wrong-there Old (now (a .0)) t fs i u (letter-wrong t fs i (u .count) (u .inside) c x y l k e) in
-    (ap oldNumber (p .0) ∙ old-number (now (a .0)) ∙ q .0, ap oldPlace (p .0) ∙ old-place (now (a .0)) ∙ q .1)
+    (ap oldNumber (p .0) ∙ answer-told Old (now (a .0)) .0 ∙ q .0, ap oldPlace (p .0) ∙ answer-told Old (now (a .0)) .1 ∙ q .1)
 
 pub read-old-prefix : (κs : _) (a : _) (r : _) (s : _) → read-old.Post κs a r s → (fs : List (List ℕ)) → RightUpTo Old (now (a .0)) Az fs 3
     → isClock (fieldAt fs 3) ≡ false → (oldNumber r ≡ 9) × (oldPlace r ≡ 4)
 read-old-prefix κs a r s p fs u e =
     let q = wrong-there Old (now (a .0)) Az fs 3 u (clock-wrong fs (u .inside) e) in
-    (ap oldNumber (p .0) ∙ old-number (now (a .0)) ∙ q .0, ap oldPlace (p .0) ∙ old-place (now (a .0)) ∙ q .1)
+    (ap oldNumber (p .0) ∙ answer-told Old (now (a .0)) .0 ∙ q .0, ap oldPlace (p .0) ∙ answer-told Old (now (a .0)) .1 ∙ q .1)
 
 -- ---- no line reads under both rules: its seventh byte is a digit of DDHHMMSS in the one, and a capital in the other
 
@@ -137,4 +137,4 @@ never-both s x y e f =
 pub read-one-rule : (κs : _) (a : _) (r : _) (s : _) (m : Message) → read.Post κs a r s → r ≡ new.Read m
     → (κs′ : _) (a′ : _) (r′ : _) (s′ : _) (m′ : OldMessage) → read-old.Post κs′ a′ r′ s′ → r′ ≡ old.Read m′ → now (a .0) ≡ now (a′ .0) → ⊥
 read-one-rule κs a r s m p e κs′ a′ r′ s′ m′ p′ e′ same =
-    never-both (now (a .0)) (readingOf m) (oldReadingOf m′) (new-read (now (a .0)) m (sym (p .0) ∙ e)) (ap (readBy Old) same ∙ old-read (now (a′ .0)) m′ (sym (p′ .0) ∙ e′))
+    never-both (now (a .0)) (readingOf m) (oldReadingOf m′) (message-reading New (now (a .0)) m (sym (p .0) ∙ e)) (ap (readBy Old) same ∙ message-reading Old (now (a′ .0)) m′ (sym (p′ .0) ∙ e′))

@@ -33,7 +33,7 @@ use Rattle.line.specs.declared.OldRead.the-variants as old
 use Rattle.line.specs.declared.RuleRead.the-variants.{Read}
 use Rattle.line.proofs.Heads.{printable-left}
 use Rattle.line.proofs.Steps.{Passes, reads-passes, passes-head, passes-free}
-use Rattle.line.proofs.Theorems.{new-read, old-read}
+use Rattle.line.proofs.Theorems.{message-reading}
 use Rattle.line.proofs.read.Reads as read
 use Rattle.line.proofs.read_old.Reads as read-old
 
@@ -79,7 +79,7 @@ module _ (ρ : Rule) (s : List ℕ) (x : Reading) (e : readBy ρ s ≡ Read x) w
 
 pub reads-placed : (s : List ℕ) (m : Message) → readOf s ≡ new.Read m → Placed s m
 reads-placed s m e =
-    let q = new-read s m e in
+    let q = message-reading New s m e in
     let a = reads-stand New s (readingOf m) q in
     record {
       sequence = a .sequence;
@@ -92,11 +92,11 @@ reads-placed s m e =
 
 pub reads-key : (s : List ℕ) (m : Message) → readOf s ≡ new.Read m → hasFields (typeIn (m .body)) ≡ true
     → (isWord KEY (keyIn (m .body)) ≡ true) × (textOf (keyIn (m .body)) ≡ before slash (fieldAt 1 (drop 18 s)))
-reads-key s m e = stands-key New s (readingOf m) (new-read s m e)
+reads-key s m e = stands-key New s (readingOf m) (message-reading New s m e)
 
 pub old-reads-placed : (s : List ℕ) (m : OldMessage) → oldReadOf s ≡ old.Read m → OldPlaced s m
 old-reads-placed s m e =
-    let a = reads-stand Old s (oldReadingOf m) (old-read s m e) in
+    let a = reads-stand Old s (oldReadingOf m) (message-reading Old s m e) in
     record { stamp = a .stamp; center = a .facility; type = a .type; seven = a .given; fields = a .fields (a .given) }
 
 -- so of what `line::read` and `line::read_old` answer: `Post` is the `ensures` as it stands in the source

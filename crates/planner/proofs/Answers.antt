@@ -14,7 +14,7 @@ use Rattle.line.specs.Read.{readOf, refusalNumber, refusalPlace, lineNumber, li
 use Rattle.line.specs.declared.LineRead.{LineRead}
 use Rattle.line.specs.declared.LineRead.the-variants as read
 use Rattle.line.specs.declared.Refusal.{Refusal}
-use Rattle.line.proofs.Cases.{new-case, new-case-only}
+use Rattle.line.proofs.Cases.{answer-case, answer-only}
 use Rattle.planner.specs.Asked.{askedIn, askedBy, askedFrom, askedOf, askedNumber, askedPlace}
 use Rattle.planner.specs.declared.asks.Asked.{Asked}
 use Rattle.planner.specs.declared.asks.Asked.the-variants.{Dz, Az, Tz, Other, Refused}
@@ -84,11 +84,11 @@ module _ (s : List ℕ) where
 
   -- THE CASE of a refusal: the line is in the case of its number and place
   pub refused-case : (x : Refusal) → askedOf s ≡ Refused x → Case New s (refusalNumber x) (refusalPlace x)
-  refused-case x e = subst (λ (r : LineRead). Case New s (lineNumber r) (linePlace r)) (sym (asks-read (Refused x) e)) (new-case s)
+  refused-case x e = subst (λ (r : LineRead). Case New s (lineNumber r) (linePlace r)) (sym (asks-read (Refused x) e)) (answer-case New s)
 
   -- and in no other
   pub refused-only : (x : Refusal) → askedOf s ≡ Refused x → (n i : ℕ) → Case New s n i → (refusalNumber x ≡ n) × (refusalPlace x ≡ i)
   refused-only x e n i c =
       let p = asks-number x e in
-      let q = new-case-only s n i c in
+      let q = answer-only New s n i c in
       (p .0 ∙ q .0, p .1 ∙ q .1)

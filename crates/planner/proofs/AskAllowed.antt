@@ -54,7 +54,7 @@ in-body s body.Hb r t p e = tt
 in-message : (s : List ℕ) (m : Message) → readOf s ≡ read.Read m → May (askedBy m)
 unfolding askedBy
 in-message s m e =
-    let a = allowed-allows New (readingOf m) (freeOf New s) (reads-allowed s m e .0) in
+    let a = allowed-allows New (readingOf m) (freeOf New s) (reads-allowed New s m e .0) in
     in-body (m .stamp) (m .body) (freeOf New s) (m .trailing) (a .stamp-held) (a .body)
 
 in-line : (s : List ℕ) → May (askedOf s)

@@ -95,7 +95,7 @@ module _ (s : List ℕ) (m : Message) (e : readOf s ≡ read.Read m) where
   p = reads-placed s m e
 
   abbrev a : Allows New (readingOf m) (freeOf New s)
-  a = allowed-allows New (readingOf m) (freeOf New s) (reads-allowed s m e .0)
+  a = allowed-allows New (readingOf m) (freeOf New s) (reads-allowed New s m e .0)
 
   reads-zero : lineNumber (readOf s) ≡ 0
   reads-zero = ap lineNumber e

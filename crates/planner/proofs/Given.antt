@@ -89,7 +89,7 @@ made-reads t b w e l p =
     let x = readingOf m in
     let z : length (lineOf m []) ≡ headLength New + length (bodyText New b [] false) = headed-parts New (headIn x (typeIn b)) (bodyText New b [] false) sequence-made w facility-made .size in
     let a : Allows New x [] = record { sequence-held = sequence-made; stamp-held = w; facility-held = facility-made; type-given = refl; body = e; short = omega arith; plan = p } in
-    allowed-reads m [] (allows-allowed New x [] a) .0
+    allowed-reads New m [] (allows-allowed New x [] a) .0
 
 word-short : (k t : ℕ) → isWord k t ≡ true → length (textOf t) ≤ 12
 word-short k t e = text-short t (word-packed k t e)

@@ -1,7 +1,6 @@
--- THE THEOREMS of demand 2 about the calls that programs make, of the feed and of the old feed: of each call, `Post` is its function's `ensures` as it
--- stands in the source, for any arguments, answer and state at exit. The arguments of `writer::write` and `writer::write_old` are the message aw .0, its
--- free text aw .1 .0, the buffer aw .1 .1 .0 and the place aw .1 .1 .1 .0; those of `line::free` the rule af .0 and the line af .1 .0. Each theorem is
--- that under its rule (`Round`, and line/proofs/Lines). Assumes nothing.
+-- THE THEOREMS of demand 2 about the calls that programs make, once over the rule. A call is its function's `ensures` as it stands in the source, `Post`,
+-- for any arguments, answer and state at exit; what a theorem says of a call under the rule New it says of `line::read`, `line::free` and `writer::write`,
+-- and under Old of `line::read_old`, `line::free` and `writer::write_old`. Assumes nothing.
 use mathlib.Core.Path.{_≡_, sym, ap, _∙_}
 use mathlib.Core.Bool.{true, false}
 use mathlib.Core.List.{List, List·Memᴰ}
@@ -10,6 +9,7 @@ use lib.ListN.{length}
 use borrow.Author.Tests.{le-leb}
 use denote.Ref.{now}
 use Rattle.text.specs.Text.{textOf, spliced, hasRoom, writtenNext, writtenBytes}
+use Rattle.text.specs.declared.Written.{Written}
 use Rattle.text.specs.declared.Written.the-variants.{Next}
 use Rattle.text.proofs.Logic.{not-holds}
 use Rattle.shapes.specs.Picture.{part}
@@ -20,118 +20,82 @@ use Rattle.rules.proofs.Levels.{never-falls}
 use Rattle.fields.specs.Answer.{writeAnswer}
 use Rattle.fields.specs.declared.plan.Level.{Level}
 use Rattle.messages.specs.Levels.{levelsIn}
-use Rattle.messages.specs.Reading.{readingOf, oldReadingOf}
-use Rattle.messages.specs.declared.Message.{Message}
-use Rattle.messages.specs.declared.OldMessage.{OldMessage}
-use Rattle.messages.specs.declared.Reading.{Reading}
-use Rattle.line.specs.Line.{lineBy, isAllowedBy, lineOf, isAllowed, oldLineOf, isOldAllowed}
-use Rattle.line.specs.Read.{readBy, readOf, oldReadOf, freeOf}
-use Rattle.line.specs.declared.LineRead.the-variants as new
-use Rattle.line.specs.declared.OldRead.the-variants as old
-use Rattle.line.specs.declared.RuleRead.the-variants.{Read}
+use Rattle.line.specs.Line.{lineBy, isAllowedBy}
+use Rattle.line.specs.Messages.{MessageOf, readingIn, AnswerOf, answerTo, Took}
+use Rattle.line.specs.Read.{freeOf}
 use Rattle.line.proofs.Levels.{allowed-levels}
-use Rattle.line.proofs.Theorems.{new-read, read-new, old-read, read-old, refused-exactly, old-refused-exactly}
-use Rattle.line.proofs.read.Reads as reading
-use Rattle.line.proofs.read_old.Reads as old-reading
+use Rattle.line.proofs.Theorems.{message-reading, reading-message, refused-exactly}
+use Rattle.line.proofs.read.Reads as read
+use Rattle.line.proofs.read_old.Reads as read-old
 use Rattle.line.proofs.free.Reads as free
 use Rattle.writer.proofs.Round.{written-same, read-same}
 use Rattle.writer.proofs.write.Reads as write
 use Rattle.writer.proofs.write_old.Reads as write-old
 
--- ---- under either rule
+-- ---- the calls
 
--- what the free text of a line is, of a rule and a line that are known
-free-of : {ρ σ : Rule} {s t : List ℕ} → ρ ≡ σ → s ≡ t → freeOf ρ s ≡ freeOf σ t
-free-of e f = rw (e, f)
+-- of a line what its reader answered
+pub data ReadCall : (ρ : Rule) → List ℕ → AnswerOf ρ → Type 0 where
+  Read : (κs : _) (a : _) (r : _) (s : _) → read.Post κs a r s → ReadCall New (now (a .0)) r
+  ReadOld : (κs : _) (a : _) (r : _) (s : _) → read-old.Post κs a r s → ReadCall Old (now (a .0)) r
 
--- what the writer's promise says of a line that was read, r being its free text
-back : (ρ : Rule) (s r out : List ℕ) (at : ℕ) (x : Reading) → readBy ρ s ≡ Read x → r ≡ freeOf ρ s → at + length s ≤ length out
-    → (writtenNext (isAllowedBy ρ x r) (lineBy ρ x r) out at ≡ Next (at + length s)) × (writtenBytes (isAllowedBy ρ x r) (lineBy ρ x r) out at ≡ spliced out at s)
-unfolding hasRoom
-back ρ s r out at x e g fits = rw g (written-same ρ s out at x e (le-leb (at + length s) (length out) fits))
+-- and its free text
+pub data FreeCall : Rule → List ℕ → List ℕ → Type 0 where
+  Free : (κs : _) (a : _) (r : _) (s : _) → free.Post κs a r s → FreeCall (a .0) (now (a .1 .0)) (now r)
 
--- and of a reading one of whose levels falls
-unwritten : (ρ : Rule) (x : Reading) (r out : List ℕ) (at : ℕ) (l : Level) → List·Memᴰ l (levelsIn (x .body)) → Falls (textOf (l .0))
-    → (writeAnswer (writtenNext (isAllowedBy ρ x r) (lineBy ρ x r) out at) ≡ 16) × (writtenBytes (isAllowedBy ρ x r) (lineBy ρ x r) out at ≡ out)
-unfolding writtenNext writtenBytes
-unwritten ρ x r out at l i f =
-    let n : isAllowedBy ρ x r ≡ false = not-holds (isAllowedBy ρ x r) (λ e. never-falls (textOf (l .0)) (allowed-levels ρ x r e l i) f) in
-    (rw n, rw n)
+-- a message with its free text, written into a buffer at a place: the answer, and the buffer that is left
+pub data WriteCall : (ρ : Rule) → MessageOf ρ → List ℕ → List ℕ → ℕ → Written → List ℕ → Type 0 where
+  Write : (κs : _) (a : _) (w : _) (s : _) → write.Post κs a w s → WriteCall New (a .0) (now (a .1 .0)) (now (a .1 .1 .0)) (a .1 .1 .1 .0) w (now (s .1 .1 .0))
+  WriteOld : (κs : _) (a : _) (w : _) (s : _) → write-old.Post κs a w s → WriteCall Old (a .0) (now (a .1 .0)) (now (a .1 .1 .0)) (a .1 .1 .1 .0) w (now (s .1 .1 .0))
 
--- ---- the feed
+-- what they promise, by the rule
+read-told : {ρ : Rule} {line : List ℕ} {r : AnswerOf ρ} → ReadCall ρ line r → r ≡ answerTo ρ line
+read-told (Read κs a r s p) = p .0
+read-told (ReadOld κs a r s p) = p .0
 
--- what was read from a line, message and free text, and is written at a place where the line fits: the answer is taken,
--- with the place after the line, and the buffer is as it was with exactly the line's bytes at that place
-pub write-after-read : (κr : _) (ar : _) (r : _) (sr : _) → reading.Post κr ar r sr
-    → (κf : _) (af : _) (f : _) (sf : _) → free.Post κf af f sf
-    → (κw : _) (aw : _) (w : _) (sw : _) → write.Post κw aw w sw
-    → let line = now (ar .0) in let out = now (aw .1 .1 .0) in let at = aw .1 .1 .1 .0 in
-    af .0 ≡ New → now (af .1 .0) ≡ line → r ≡ new.Read (aw .0) → now f ≡ now (aw .1 .0) → at + length line ≤ length out
-    → (w ≡ Next (at + length line)) × (now (sw .1 .1 .0) ≡ spliced out at line)
-write-after-read κr ar r sr p κf af f sf q κw aw w sw v by same is given fits =
-    let line = now (ar .0) in
-    let t = back New line (now (aw .1 .0)) (now (aw .1 .1 .0)) (aw .1 .1 .1 .0) (readingOf (aw .0)) (new-read line (aw .0) (sym (p .0) ∙ is)) (sym given ∙ q .0 ∙ free-of by same) fits in
-    (v .0 ∙ t .0, v .1 .0 ∙ t .1)
+free-told : {ρ : Rule} {line f : List ℕ} → FreeCall ρ line f → f ≡ freeOf ρ line
+free-told (Free κs a r s p) = p .0
 
--- what was written, into any buffer and at any place, is read from the bytes that were written: the answer is exactly
--- that message, and its free text is handed back
-pub read-after-write : (κw : _) (aw : _) (w : _) (sw : _) → write.Post κw aw w sw
-    → (κr : _) (ar : _) (r : _) (sr : _) → reading.Post κr ar r sr
-    → (κf : _) (af : _) (f : _) (sf : _) → free.Post κf af f sf
-    → (n : ℕ) → let at = aw .1 .1 .1 .0 in let bytes = part at (n - at) (now (sw .1 .1 .0)) in
-    w ≡ Next n → now (ar .0) ≡ bytes → af .0 ≡ New → now (af .1 .0) ≡ bytes
-    → (r ≡ new.Read (aw .0)) × (now f ≡ now (aw .1 .0))
-read-after-write κw aw w sw v κr ar r sr p κf af f sf q n took these by those =
-    let at = aw .1 .1 .1 .0 in
-    let t = read-same New (readingOf (aw .0)) (now (aw .1 .0)) (now (aw .1 .1 .0)) at n (sym (v .0) ∙ took) in
-    let e = ap (part at (n - at)) (v .1 .0) in
-    (p .0 ∙ ap readOf (these ∙ e) ∙ read-new _ (aw .0) (t .0), q .0 ∙ free-of by (those ∙ e) ∙ t .1)
+write-told : {ρ : Rule} {m : MessageOf ρ} {f out : List ℕ} {at : ℕ} {w : Written} {out′ : List ℕ} → WriteCall ρ m f out at w out′
+    → (w ≡ writtenNext (isAllowedBy ρ (readingIn ρ m) f) (lineBy ρ (readingIn ρ m) f) out at) × (out′ ≡ writtenBytes (isAllowedBy ρ (readingIn ρ m) f) (lineBy ρ (readingIn ρ m) f) out at)
+write-told (Write κs a w s v) = (v .0, v .1 .0)
+write-told (WriteOld κs a w s v) = (v .0, v .1 .0)
 
--- a line is refused exactly if no allowed message has it as its text
-pub refused-call : (κs : _) (a : _) (r : _) (s : _) → reading.Post κs a r s → let line = now (a .0) in
-    (((m : Message) → r ≡ new.Read m → ⊥) → (m : Message) (f : List ℕ) → isAllowed m f ≡ true → lineOf m f ≡ line → ⊥)
-    × (((m : Message) (f : List ℕ) → isAllowed m f ≡ true → lineOf m f ≡ line → ⊥) → (m : Message) → r ≡ new.Read m → ⊥)
-refused-call κs a r s p = rw (p .0) (refused-exactly (now (a .0)))
+-- ---- THE THEOREMS
 
--- "16 when writing it": a message one of whose levels falls, an FZ's, a UZ's or that of an 08 or 09, is not written, and the buffer stays
-pub falls-unwritten : (κw : _) (aw : _) (w : _) (sw : _) → write.Post κw aw w sw
-    → (l : Level) → List·Memᴰ l (levelsIn (aw .0 .body)) → Falls (textOf (l .0)) → (writeAnswer w ≡ 16) × (now (sw .1 .1 .0) ≡ now (aw .1 .1 .0))
-falls-unwritten κw aw w sw v l i f =
-    let t = unwritten New (readingOf (aw .0)) (now (aw .1 .0)) (now (aw .1 .1 .0)) (aw .1 .1 .1 .0) l i f in
-    (ap writeAnswer (v .0) ∙ t .0, v .1 .0 ∙ t .1)
+module _ (ρ : Rule) where
+  -- what was read from a line, message and free text, and is written at a place where the line fits: the answer is taken,
+  -- with the place after the line, and the buffer is as it was with exactly the line's bytes at that place
+  pub write-after-read : {line f out out′ : List ℕ} {at : ℕ} {m : MessageOf ρ} {w : Written}
+      → ReadCall ρ line (Took ρ m) → FreeCall ρ line f → WriteCall ρ m f out at w out′ → at + length line ≤ length out
+      → (w ≡ Next (at + length line)) × (out′ ≡ spliced out at line)
+  unfolding hasRoom
+  write-after-read {line} {f} {out} {out′} {at} {m} c d k fits =
+      let v = write-told k in
+      let t = rw (← (free-told d)) at (written-same ρ line out at (readingIn ρ m) (message-reading ρ line m (sym (read-told c))) (le-leb (at + length line) (length out) fits)) in
+      (v .0 ∙ t .0, v .1 ∙ t .1)
 
--- ---- the same of the old feed
+  -- what was written, into any buffer and at any place, is read from the bytes that were written: the answer is exactly
+  -- that message, and its free text is handed back
+  pub read-after-write : {f g out out′ : List ℕ} {at n : ℕ} {m : MessageOf ρ} {r : AnswerOf ρ} → let bytes = part at (n - at) out′ in
+      WriteCall ρ m f out at (Next n) out′ → ReadCall ρ bytes r → FreeCall ρ bytes g → (r ≡ Took ρ m) × (g ≡ f)
+  read-after-write {f} {g} {out} {out′} {at} {n} {m} k c d =
+      let v = write-told k in
+      let t = rw (← (v .1)) at (read-same ρ (readingIn ρ m) f out at n (sym (v .0))) in
+      (read-told c ∙ reading-message ρ (part at (n - at) out′) m (t .0), free-told d ∙ t .1)
 
-pub old-write-after-read : (κr : _) (ar : _) (r : _) (sr : _) → old-reading.Post κr ar r sr
-    → (κf : _) (af : _) (f : _) (sf : _) → free.Post κf af f sf
-    → (κw : _) (aw : _) (w : _) (sw : _) → write-old.Post κw aw w sw
-    → let line = now (ar .0) in let out = now (aw .1 .1 .0) in let at = aw .1 .1 .1 .0 in
-    af .0 ≡ Old → now (af .1 .0) ≡ line → r ≡ old.Read (aw .0) → now f ≡ now (aw .1 .0) → at + length line ≤ length out
-    → (w ≡ Next (at + length line)) × (now (sw .1 .1 .0) ≡ spliced out at line)
-old-write-after-read κr ar r sr p κf af f sf q κw aw w sw v by same is given fits =
-    let line = now (ar .0) in
-    let t = back Old line (now (aw .1 .0)) (now (aw .1 .1 .0)) (aw .1 .1 .1 .0) (oldReadingOf (aw .0)) (old-read line (aw .0) (sym (p .0) ∙ is)) (sym given ∙ q .0 ∙ free-of by same) fits in
-    (v .0 ∙ t .0, v .1 .0 ∙ t .1)
+  -- a line is refused exactly if no allowed message has it as its text
+  pub refused-call : {line : List ℕ} {r : AnswerOf ρ} → ReadCall ρ line r
+      → (((m : MessageOf ρ) → r ≡ Took ρ m → ⊥) → (m : MessageOf ρ) (f : List ℕ) → isAllowedBy ρ (readingIn ρ m) f ≡ true → lineBy ρ (readingIn ρ m) f ≡ line → ⊥)
+      × (((m : MessageOf ρ) (f : List ℕ) → isAllowedBy ρ (readingIn ρ m) f ≡ true → lineBy ρ (readingIn ρ m) f ≡ line → ⊥) → (m : MessageOf ρ) → r ≡ Took ρ m → ⊥)
+  refused-call {line} c = rw (read-told c) (refused-exactly ρ line)
 
-pub old-read-after-write : (κw : _) (aw : _) (w : _) (sw : _) → write-old.Post κw aw w sw
-    → (κr : _) (ar : _) (r : _) (sr : _) → old-reading.Post κr ar r sr
-    → (κf : _) (af : _) (f : _) (sf : _) → free.Post κf af f sf
-    → (n : ℕ) → let at = aw .1 .1 .1 .0 in let bytes = part at (n - at) (now (sw .1 .1 .0)) in
-    w ≡ Next n → now (ar .0) ≡ bytes → af .0 ≡ Old → now (af .1 .0) ≡ bytes
-    → (r ≡ old.Read (aw .0)) × (now f ≡ now (aw .1 .0))
-old-read-after-write κw aw w sw v κr ar r sr p κf af f sf q n took these by those =
-    let at = aw .1 .1 .1 .0 in
-    let t = read-same Old (oldReadingOf (aw .0)) (now (aw .1 .0)) (now (aw .1 .1 .0)) at n (sym (v .0) ∙ took) in
-    let e = ap (part at (n - at)) (v .1 .0) in
-    (p .0 ∙ ap oldReadOf (these ∙ e) ∙ read-old _ (aw .0) (t .0), q .0 ∙ free-of by (those ∙ e) ∙ t .1)
-
-pub old-refused-call : (κs : _) (a : _) (r : _) (s : _) → old-reading.Post κs a r s → let line = now (a .0) in
-    (((m : OldMessage) → r ≡ old.Read m → ⊥) → (m : OldMessage) (f : List ℕ) → isOldAllowed m f ≡ true → oldLineOf m f ≡ line → ⊥)
-    × (((m : OldMessage) (f : List ℕ) → isOldAllowed m f ≡ true → oldLineOf m f ≡ line → ⊥) → (m : OldMessage) → r ≡ old.Read m → ⊥)
-old-refused-call κs a r s p = rw (p .0) (old-refused-exactly (now (a .0)))
-
-pub old-falls-unwritten : (κw : _) (aw : _) (w : _) (sw : _) → write-old.Post κw aw w sw
-    → (l : Level) → List·Memᴰ l (levelsIn (aw .0 .body)) → Falls (textOf (l .0)) → (writeAnswer w ≡ 16) × (now (sw .1 .1 .0) ≡ now (aw .1 .1 .0))
-old-falls-unwritten κw aw w sw v l i f =
-    let t = unwritten Old (oldReadingOf (aw .0)) (now (aw .1 .0)) (now (aw .1 .1 .0)) (aw .1 .1 .1 .0) l i f in
-    (ap writeAnswer (v .0) ∙ t .0, v .1 .0 ∙ t .1)
+  -- "16 when writing it": a message one of whose levels falls, an FZ's, a UZ's or that of an 08 or 09, is not written, and the buffer stays
+  pub falls-unwritten : {f out out′ : List ℕ} {at : ℕ} {m : MessageOf ρ} {w : Written} → WriteCall ρ m f out at w out′
+      → (l : Level) → List·Memᴰ l (levelsIn (readingIn ρ m .body)) → Falls (textOf (l .0)) → (writeAnswer w ≡ 16) × (out′ ≡ out)
+  unfolding writtenNext writtenBytes
+  falls-unwritten {f} {out} {out′} {at} {m} k l i q =
+      let v = write-told k in
+      let x = readingIn ρ m in
+      let n : isAllowedBy ρ x f ≡ false = not-holds (isAllowedBy ρ x f) (λ e. never-falls (textOf (l .0)) (allowed-levels ρ x f e l i) q) in
+      (ap writeAnswer (v .0) ∙ rw n, v .1 ∙ rw n)
