@@ -6,6 +6,7 @@ pub mod Theorems
 pub mod Placed
 pub mod CasesBodies
 pub mod Cases
+pub mod Calls
 pub mod OldLines
 pub mod Levels
 pub mod Starred

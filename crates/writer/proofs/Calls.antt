@@ -1,6 +1,6 @@
 -- THE THEOREMS of demand 2 about the calls that programs make, once over the rule. A call is its function's `ensures` as it stands in the source, `Post`,
--- for any arguments, answer and state at exit; what a theorem says of a call under the rule New it says of `line::read`, `line::free` and `writer::write`,
--- and under Old of `line::read_old`, `line::free` and `writer::write_old`. Assumes nothing.
+-- for any arguments, answer and state at exit (those of the readers are line/proofs/Calls'); what a theorem says of a call under the rule New it says of
+-- `line::read`, `line::free` and `writer::write`, and under Old of `line::read_old`, `line::free` and `writer::write_old`. Assumes nothing.
 use mathlib.Core.Path.{_≡_, sym, ap, _∙_}
 use mathlib.Core.Bool.{true, false}
 use mathlib.Core.List.{List, List·Memᴰ}
@@ -21,41 +21,20 @@ use Rattle.fields.specs.Answer.{writeAnswer}
 use Rattle.fields.specs.declared.plan.Level.{Level}
 use Rattle.messages.specs.Levels.{levelsIn}
 use Rattle.line.specs.Line.{lineBy, isAllowedBy}
-use Rattle.line.specs.Messages.{MessageOf, readingIn, AnswerOf, answerTo, Took}
-use Rattle.line.specs.Read.{freeOf}
+use Rattle.line.specs.Messages.{MessageOf, readingIn, AnswerOf, Took}
+use Rattle.line.proofs.Calls.{ReadCall, FreeCall, read-told, free-told}
 use Rattle.line.proofs.Levels.{allowed-levels}
 use Rattle.line.proofs.Theorems.{message-reading, reading-message, refused-exactly}
-use Rattle.line.proofs.read.Reads as read
-use Rattle.line.proofs.read_old.Reads as read-old
-use Rattle.line.proofs.free.Reads as free
 use Rattle.writer.proofs.Round.{written-same, read-same}
 use Rattle.writer.proofs.write.Reads as write
 use Rattle.writer.proofs.write_old.Reads as write-old
-
--- ---- the calls
-
--- of a line what its reader answered
-pub data ReadCall : (ρ : Rule) → List ℕ → AnswerOf ρ → Type 0 where
-  Read : (κs : _) (a : _) (r : _) (s : _) → read.Post κs a r s → ReadCall New (now (a .0)) r
-  ReadOld : (κs : _) (a : _) (r : _) (s : _) → read-old.Post κs a r s → ReadCall Old (now (a .0)) r
-
--- and its free text
-pub data FreeCall : Rule → List ℕ → List ℕ → Type 0 where
-  Free : (κs : _) (a : _) (r : _) (s : _) → free.Post κs a r s → FreeCall (a .0) (now (a .1 .0)) (now r)
 
 -- a message with its free text, written into a buffer at a place: the answer, and the buffer that is left
 pub data WriteCall : (ρ : Rule) → MessageOf ρ → List ℕ → List ℕ → ℕ → Written → List ℕ → Type 0 where
   Write : (κs : _) (a : _) (w : _) (s : _) → write.Post κs a w s → WriteCall New (a .0) (now (a .1 .0)) (now (a .1 .1 .0)) (a .1 .1 .1 .0) w (now (s .1 .1 .0))
   WriteOld : (κs : _) (a : _) (w : _) (s : _) → write-old.Post κs a w s → WriteCall Old (a .0) (now (a .1 .0)) (now (a .1 .1 .0)) (a .1 .1 .1 .0) w (now (s .1 .1 .0))
 
--- what they promise, by the rule
-read-told : {ρ : Rule} {line : List ℕ} {r : AnswerOf ρ} → ReadCall ρ line r → r ≡ answerTo ρ line
-read-told (Read κs a r s p) = p .0
-read-told (ReadOld κs a r s p) = p .0
-
-free-told : {ρ : Rule} {line f : List ℕ} → FreeCall ρ line f → f ≡ freeOf ρ line
-free-told (Free κs a r s p) = p .0
-
+-- what it promises
 write-told : {ρ : Rule} {m : MessageOf ρ} {f out : List ℕ} {at : ℕ} {w : Written} {out′ : List ℕ} → WriteCall ρ m f out at w out′
     → (w ≡ writtenNext (isAllowedBy ρ (readingIn ρ m) f) (lineBy ρ (readingIn ρ m) f) out at) × (out′ ≡ writtenBytes (isAllowedBy ρ (readingIn ρ m) f) (lineBy ρ (readingIn ρ m) f) out at)
 write-told (Write κs a w s v) = (v .0, v .1 .0)
