@@ -37,7 +37,7 @@ use Rattle.messages.specs.Read.{typedOf, bodyRead, bodyNumber}
 use Rattle.messages.specs.declared.typed.BodyRead.{BodyRead}
 use Rattle.messages.specs.declared.typed.BodyRead.the-variants as body
 use Rattle.messages.proofs.ReadWays.{by-table, kept-whole}
-use Rattle.line.specs.Cases.{fewest, untyped, Framed, Stamped, Headed, Faulty, RightUpTo, Case, Taken, Short, Long, Unprintable, NoSequence, NoStamp, NoFacility, NoType, Spacing, Field, Number, LongPlan}
+use Rattle.line.specs.Cases.{fewest, untyped, Framed, Headed, Faulty, RightUpTo, Case, Taken, Short, Long, Unprintable, NoSequence, NoStamp, NoFacility, NoType, Spacing, Field, Number, LongPlan}
 use Rattle.line.specs.Messages.{AnswerOf, answerTo, numberOf, placeOf}
 use Rattle.line.specs.Read.{typeBy, headOf, withBody, restOf, byHead, readBy, headNumber, refusalNumber, refusalPlace, numberBy, placeBy, freeOf}
 use Rattle.line.specs.declared.front.Head.{Head}

@@ -1,13 +1,13 @@
 -- THE THEOREMS of the old feed's lines (document 02, l), of the call where a call is meant: 4 is not given; RT, TO and HB answer 7; no message has an
 -- aircraft's last letter or an AZ clock with a prefix, and a line that has one answers 9 with its place; no line reads under both rules. Assumes nothing.
-use mathlib.Core.Path.{_≡_, refl, sym, ap, _∙_, subst}
-use mathlib.Core.Bool.{Bool, true, false, _&&_}
+use mathlib.Core.Path.{_≡_, refl, sym, ap, _∙_}
+use mathlib.Core.Bool.{true, false, _&&_}
 use mathlib.Core.List.{List, [], _∷_}
-use Prim.Native.Nat.{ℕ, suc, _+_, _≤_}
+use Prim.Native.Nat.{ℕ, suc, _≤_}
 use native.Mathlib.Omega.{arith}
 use denote.Ref.{now}
 use lib.Dec.{leb, lit≤}
-use lib.ListN.{length, drop}
+use lib.ListN.{drop}
 use borrow.Author.Tests.{leb-true}
 use Rattle.text.specs.Bytes.{bytes}
 use Rattle.text.specs.Class.{isDigit, isLetter}
@@ -19,7 +19,7 @@ use Rattle.rules.specs.Form.{isStamp, isOneLetter, isClock}
 use Rattle.rules.specs.Kind.{STAMP, LETTER, isForm}
 use Rattle.rules.specs.declared.Rule.the-variants.{New, Old}
 use Rattle.fields.specs.Aircraft.{CutInto}
-use Rattle.fields.specs.Head.{stampIn, facilityIn, stampPart, facilityPart, typePart}
+use Rattle.fields.specs.Head.{stampIn, facilityIn, typePart}
 use Rattle.fields.specs.MessageType.{typeText, typeOf}
 use Rattle.fields.specs.declared.heads.MessageType.{MessageType}
 use Rattle.fields.specs.declared.heads.MessageType.the-variants.{Af, Az, Dz, Fz, Rz, Tz, Uz, Rt, To, Hb}
@@ -42,7 +42,7 @@ use Rattle.line.specs.declared.LineRead.the-variants as new
 use Rattle.line.specs.declared.OldRead.the-variants as old
 use Rattle.line.specs.declared.RuleRead.the-variants.{Read}
 use Rattle.line.proofs.Cases.{answer-only, wrong-there}
-use Rattle.line.proofs.Placed.{Stands, reads-stand}
+use Rattle.line.proofs.Placed.{reads-stand}
 use Rattle.line.proofs.Steps.{allowed-allows}
 use Rattle.line.proofs.Theorems.{reads-allowed, message-reading, answer-told}
 use Rattle.line.proofs.read.Reads as read

@@ -5,12 +5,11 @@ use mathlib.Core.Bool.{Bool, true, false}
 use mathlib.Core.List.{List, [], _∷_, _++_, List·Memᴰ, List·Memᴰ·cases-cons, List·Memᴰ·not-nil}
 use mathlib.Core.Logic.{_⊎_, inl, inr}
 use Prim.Native.Nat.{ℕ, zero, suc}
-use native.Mathlib.Omega.{arith}
 use lib.Count.{ones}
 use lib.ListN.{take}
 use borrow.Author.Tests.{eqb-true}
 use Rattle.text.specs.Text.{textOf}
-use Rattle.text.proofs.Logic.{and-left, and-right, true-false}
+use Rattle.text.proofs.Logic.{and-right, true-false}
 use Rattle.rules.specs.Form.{isClock}
 use Rattle.rules.specs.Kind.{CLOCK, isForm}
 use Rattle.rules.specs.declared.Rule.the-variants.{Old}
@@ -18,7 +17,7 @@ use Rattle.fields.specs.Aircraft.{isAircraftValue, isLetterBy}
 use Rattle.fields.specs.declared.aircraft.Aircraft.{Aircraft}
 use Rattle.fields.proofs.WordLaws.{word-form}
 use Rattle.table.specs.Amends.{isMark, contentOf}
-use Rattle.table.specs.Field.{IDENT, OLD-AIRCRAFT, kindBy, aircraftIn, isOne, plain, isKindValue, isValue}
+use Rattle.table.specs.Field.{IDENT, OLD-AIRCRAFT, kindBy, aircraftIn, plain, isKindValue, isValue}
 use Rattle.table.specs.declared.kinds.Value.{Value}
 use Rattle.table.specs.Show.{allowedFrom}
 use Rattle.table.specs.Table.{countWith, tableBy, kindsOf}

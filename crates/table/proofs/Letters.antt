@@ -1,14 +1,12 @@
 -- THE LAWS of what the old feed lacked (document 02, l): a field is answered by the rule's own readings of an aircraft wherever one stands, so one with a
 -- last letter has none in the old feed; and the clock of an AZ there is right exactly if it is a clock. Assumes nothing.
-use mathlib.Core.Path.{_≡_, refl, sym, _∙_}
+use mathlib.Core.Path.{_≡_, refl}
 use mathlib.Core.Bool.{true, false}
 use mathlib.Core.List.{List, List·Memᴰ·head, List·Memᴰ·tail}
-use Prim.Native.Nat.{ℕ, suc, _<_}
+use Prim.Native.Nat.{ℕ, _<_}
 use native.Mathlib.Omega.{arith}
 use lib.ListN.{length}
-use borrow.Author.Tests.{eqb-true}
 use Rattle.text.specs.Bytes.{bytes}
-use Rattle.text.specs.Text.{textOf}
 use Rattle.rules.specs.Form.{isClock, isOneLetter}
 use Rattle.rules.specs.Kind.{CLOCK, isForm}
 use Rattle.rules.specs.declared.Rule.{Rule}

@@ -1,22 +1,20 @@
 -- THE LAWS of the rule's kinds beside the table's: a field is shown alike, leaves the same for the next one, and what the old rule allows is allowed. So
 -- what is proved of the values of a body by the table holds under either rule. Assumes nothing.
 use Prim.Native.Nat.{ℕ}
-use mathlib.Core.Path.{_≡_, refl, sym, ap, _∙_}
-use mathlib.Core.Bool.{Bool, true, false, cond, _&&_, _||_}
+use mathlib.Core.Path.{_≡_, refl, ap}
+use mathlib.Core.Bool.{true, _&&_}
 use mathlib.Core.List.{List, [], _∷_, map}
-use lib.Dec.{eqb}
 use lib.ListN.{take}
-use borrow.Author.Tests.{eqb-true}
 use Rattle.text.specs.Text.{textOf, isPacked}
-use Rattle.text.proofs.Logic.{and-left, and-right, true-false}
+use Rattle.text.proofs.Logic.{and-left, and-right}
 use Rattle.rules.specs.Form.{isClock, isArrival}
 use Rattle.rules.specs.Kind.{CLOCK, ARRIVAL, isForm}
 use Rattle.rules.specs.declared.Rule.{Rule}
-use Rattle.rules.specs.declared.Rule.the-variants.{New, Old}
+use Rattle.rules.specs.declared.Rule.the-variants.{Old}
 use Rattle.fields.specs.Aircraft.{isAircraftValue, isLetterBy}
 use Rattle.fields.specs.Word.{isWord}
 use Rattle.fields.specs.declared.heads.MessageType.{MessageType}
-use Rattle.table.specs.Field.{AIRCRAFT, AMENDMENT, PLAN-TIME, CONTENT, OLD-AIRCRAFT, OLD-CONTENT, kindBy, plain, traceOf, marksOf, follows, aircraftIn, isOne, isKindValue, shownKind, isValue, shown}
+use Rattle.table.specs.Field.{AIRCRAFT, kindBy, plain, traceOf, marksOf, follows, aircraftIn, isOne, isKindValue, shownKind, isValue, shown}
 use Rattle.table.specs.Show.{textsFrom, allowedFrom}
 use Rattle.table.specs.Table.{tableOf, kindsOf}
 use Rattle.table.specs.declared.kinds.Value.{Value}

@@ -28,7 +28,7 @@ ghost use Rattle.rules.specs.Form.{isRoute};
 ghost use Rattle.rules.specs.declared.Rule.the-variants.{New, Old};
 ghost use Rattle.fields.specs.Word.{wordOf, isWord};
 ghost use Rattle.fields.specs.Ident.{identOf, tzIdentOf, isIdentValue, identText};
-ghost use Rattle.fields.specs.Aircraft.{aircraftBy, isAircraftValue, isLetterBy, aircraftText};
+ghost use Rattle.fields.specs.Aircraft.{aircraftBy, isAircraftValue, aircraftText};
 ghost use Rattle.table.specs.Field.{AMENDMENT, PLAN-TIME, ofIdent, ofAircraft, ofRoute, ofWord, readKind, readIn, identIn, aircraftIn, isOne, isTwo, isMark, markText, isKindValue, shownKind, isValue, shown};
 ghost use mathlib.Core.Bool.{cond, _&&_};
 ghost use mathlib.Core.List.{[], _∷_};

@@ -7,7 +7,6 @@ use lib.ListN.{length}
 use Rattle.text.proofs.Logic.{so, not-so}
 use Rattle.shapes.proofs.Laws.{rest-all, at-front}
 use Rattle.fields.specs.Head.{headLength, typePart}
-use Rattle.fields.specs.declared.heads.TypeRead.the-variants as type
 use Rattle.table.specs.Table.{routeBy, routeAtBy}
 use Rattle.shapes.specs.Picture.{startsAt}
 use Rattle.line.specs.Read.{typeBy}
