@@ -2,8 +2,10 @@
 use check::same;
 use checks::Asked;
 use intake::say;
+use intake::words::OptionRead;
 use intake::words::is_help;
 use intake::words::is_option;
+use intake::words::option;
 use libc::STDIN_FILENO;
 use libc::STDOUT_FILENO;
 use rules::Rule;
@@ -40,53 +42,10 @@ fn print_lines_help() {
     io::write_all(STDOUT_FILENO, &text);
 }
 
-// What is asked for: the old feed's lines or the feed's, and the refused ones alone or all.
-fn asked_for(old: bool, refused: bool) -> Asked {
-    if old {
-        return Asked {
-            rule: Rule::Old,
-            only: refused,
-        };
-    }
-    Asked {
-        rule: Rule::New,
-        only: refused,
-    }
-}
-
-// More words than one feed needs.
-fn too_many() {
-    say(
-        b"desk check",
-        b"it reads one feed; 'desk check --help' says how",
-    );
-}
-
-// A word that has no place where it stands: an option that there is not, or else a word too many. So is an option that was given already.
-fn refuse(word: &[u8]) {
-    if !is_option(word) {
-        return too_many();
-    }
-    if same(word, b"--old") {
-        return too_many();
-    }
-    if same(word, b"--refused") {
-        return too_many();
-    }
-    say(
-        word,
-        b"no such option; 'desk check --help' names what there is",
-    );
-}
-
 // The checks of the feed in the file that is named; of standard input where that is a hyphen.
-fn check_named(name: &[u8], old: bool, refused: bool) {
-    let asked = asked_for(old, refused);
+fn check_named(name: &[u8], asked: Asked) {
     if same(name, b"-") {
         return intake::checking::run(STDIN_FILENO, b"standard input", asked);
-    }
-    if is_option(name) {
-        return refuse(name);
     }
     let fd = os::open_read(name);
     if fd < 0 {
@@ -97,83 +56,61 @@ fn check_named(name: &[u8], old: bool, refused: bool) {
     libc::close(fd);
 }
 
-// The last word, after the option that was given, if one was: an option more, or the feed.
-fn check_last(word: &[u8], old: bool, refused: bool) {
-    if !old && same(word, b"--old") {
-        return check_named(b"-", true, refused);
-    }
-    if !refused && same(word, b"--refused") {
-        return check_named(b"-", old, true);
-    }
-    check_named(word, old, refused);
-}
-
-// One word after 'check'.
-fn check_word(word: &[u8]) {
+// The first word after 'check' that asks for nothing more: help, or the feed, which is the last word.
+fn check_word(word: &[u8], last: bool, asked: Asked) {
     if is_help(word) {
         return print_check_help();
     }
-    check_last(word, false, false);
+    if is_option(word) && !same(word, b"-") {
+        return say(
+            word,
+            b"no such option, or given twice; 'desk check --help' names what there is",
+        );
+    }
+    if !last {
+        return say(
+            b"desk check",
+            b"it reads one feed; 'desk check --help' says how",
+        );
+    }
+    check_named(word, asked);
 }
 
-// Two words after 'check': the first is an option.
-fn check_two(option: &[u8], last: &[u8]) {
-    if same(option, b"--old") {
-        return check_last(last, true, false);
+// The word at a place after 'check': what is asked for with it, or nothing where it was the last to be looked at.
+fn take_word(asked: Asked, place: usize, last: bool) -> OptionRead {
+    let mut word = io::buffer();
+    let n = os::arg(place, &mut word);
+    if os::errno() != 0 {
+        os::fail(b"a word after check");
+        return OptionRead::Nothing;
     }
-    if same(option, b"--refused") {
-        return check_last(last, false, true);
-    }
-    refuse(option);
-}
-
-// Three words after 'check': both options, and the feed.
-fn check_three(first: &[u8], second: &[u8], name: &[u8]) {
-    if same(first, b"--old") {
-        if same(second, b"--refused") {
-            return check_named(name, true, true);
+    let read = option(asked, &word[..n]);
+    match read {
+        OptionRead::Asks(more) => OptionRead::Asks(more),
+        OptionRead::Nothing => {
+            check_word(&word[..n], last, asked);
+            OptionRead::Nothing
         }
-        return refuse(second);
     }
-    if same(first, b"--refused") {
-        if same(second, b"--old") {
-            return check_named(name, true, true);
-        }
-        return refuse(second);
-    }
-    refuse(first);
 }
 
+// The words after 'check': its options, then the feed.
 fn check() {
     let words = os::arg_count();
-    if words < 3 {
-        return check_named(b"-", false, false);
+    let mut asked = Asked {
+        rule: Rule::New,
+        only: false,
+    };
+    let mut place: usize = 2;
+    while place < words {
+        let read = take_word(asked, place, place == words - 1);
+        let OptionRead::Asks(more) = read else {
+            return;
+        };
+        asked = more;
+        place += 1;
     }
-    if words > 5 {
-        return too_many();
-    }
-    let mut first = io::buffer();
-    let n = os::arg(2, &mut first);
-    if os::errno() != 0 {
-        return os::fail(b"the word after check");
-    }
-    if words < 4 {
-        return check_word(&first[..n]);
-    }
-    let mut second = io::buffer();
-    let m = os::arg(3, &mut second);
-    if os::errno() != 0 {
-        return os::fail(b"the second word after check");
-    }
-    if words < 5 {
-        return check_two(&first[..n], &second[..m]);
-    }
-    let mut name = io::buffer();
-    let k = os::arg(4, &mut name);
-    if os::errno() != 0 {
-        return os::fail(b"the name of the file");
-    }
-    check_three(&first[..n], &second[..m], &name[..k]);
+    check_named(b"-", asked);
 }
 
 // The word after 'keep'.

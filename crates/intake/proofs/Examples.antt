@@ -21,12 +21,16 @@ use Rattle.shapes.specs.Cut.{upTo, has}
 use Rattle.cutter.specs.State.{isAllowed}
 use Rattle.cutter.specs.Calls.{atStart, endOf, endNumber}
 use Rattle.cutter.specs.declared.Begun.the-variants.{Held}
+use Rattle.rules.specs.declared.Rule.the-variants.{New, Old}
 use Rattle.printer.specs.RowText.{lineText, rowsText}
 use Rattle.printer.specs.Text.{boardText, countsText}
 use Rattle.feeding.specs.Tally.{rowsBy, takenBy, lineFeeds}
 use Rattle.reports.specs.Report.{mostLines, reportOf}
 use Rattle.reports.proofs.Joins.{read-empty}
 use Rattle.intake.specs.Day.{isTorn}
+use Rattle.intake.specs.Options.{AsksOld, AsksRefused, AsksNothing}
+use Rattle.intake.specs.declared.words.OptionRead.the-variants.{Asks, Nothing}
+use Rattle.intake.proofs.Options.{asks-one}
 use Rattle.intake.proofs.input.is_barren.Reads as is-barren
 use Rattle.intake.proofs.input.is_live.Reads as is-live
 use Rattle.intake.proofs.input.next.Reads as next
@@ -36,6 +40,7 @@ use Rattle.intake.proofs.is_torn.Reads as is-torn
 use Rattle.intake.proofs.report.Reads as report
 use Rattle.intake.proofs.words.is_help.Reads as is-help
 use Rattle.intake.proofs.words.is_option.Reads as is-option
+use Rattle.intake.proofs.words.option.Reads as option
 
 no-bytes : (s : List ℕ) → length s ≡ 0 → s ≡ []
 no-bytes [] e = refl
@@ -74,6 +79,16 @@ empty-is-an-option κs a r s p e = p ∙ rw e
 
 pub hyphen-inside-is-an-option : (κs : _) (a : _) (r : _) (s : _) → is-option.Post κs a r s → now (a .0) ≡ bytes "a-h" → r ≡ false
 hyphen-inside-is-an-option κs a r s p e = p ∙ rw e
+
+-- --old asks for the old feed, after --refused too, and no other word does
+pub old-reads-the-feed : (κs : _) (a : _) (r : _) (s : _) → option.Post κs a r s → a .0 ≡ record { rule = New; only = true } → now (a .1 .0) ≡ bytes "--old" → r ≡ Asks (record { rule = Old; only = true })
+old-reads-the-feed κs a r s p e f = asks-one (a .0) (now (a .1 .0)) p (rw (e, f) (AsksOld refl refl))
+
+pub refused-reads-the-old-feed : (κs : _) (a : _) (r : _) (s : _) → option.Post κs a r s → a .0 ≡ record { rule = New; only = false } → now (a .1 .0) ≡ bytes "--refused" → r ≡ Asks (record { rule = New; only = true })
+refused-reads-the-old-feed κs a r s p e f = asks-one (a .0) (now (a .1 .0)) p (rw (e, f) (AsksRefused refl refl))
+
+pub old-twice : (κs : _) (a : _) (r : _) (s : _) → option.Post κs a r s → a .0 ≡ record { rule = Old; only = false } → now (a .1 .0) ≡ bytes "--old" → r ≡ Nothing
+old-twice κs a r s p e f = asks-one (a .0) (now (a .1 .0)) p (rw (e, f) (AsksNothing (λ _. refl) (λ z. absurd (omega (arith, ap length z)))))
 
 -- a read that is live brought something, and no more than its block holds
 pub live-and-nothing-came : (κs : _) (a : _) (r : _) (s : _) → next.Post κs a r s → r .live ≡ true → r .total ≡ a .0 .total → ⊥

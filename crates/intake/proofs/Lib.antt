@@ -6,5 +6,6 @@ pub mod Whole
 pub mod Desks
 pub mod DeskCase
 pub mod DeskTheorems
+pub mod Options
 pub mod Unique
 pub mod Examples

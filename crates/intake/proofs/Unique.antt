@@ -8,6 +8,7 @@ use denote.Ref.{now}
 use Rattle.text.specs.Text.{spliced}
 use Rattle.text.proofs.Logic.{same-test, not-fails}
 use Rattle.intake.specs.declared.input.Input.{Input}
+use Rattle.intake.proofs.Options.{asks-one}
 use Rattle.intake.proofs.input.is_barren.Reads as is-barren
 use Rattle.intake.proofs.input.is_live.Reads as is-live
 use Rattle.intake.proofs.input.next.Reads as next
@@ -17,6 +18,7 @@ use Rattle.intake.proofs.is_torn.Reads as is-torn
 use Rattle.intake.proofs.report.Reads as report
 use Rattle.intake.proofs.words.is_help.Reads as is-help
 use Rattle.intake.proofs.words.is_option.Reads as is-option
+use Rattle.intake.proofs.words.option.Reads as option
 
 pub report-one : (κs : _) (a : _) (r r′ : _) (s s′ : _) (p : report.Post κs a r s) (q : report.Post κs a r′ s′) → p .1 .0 .feed ≡ q .1 .0 .feed
     → (now (s .1 .1 .0) ≡ now (s′ .1 .1 .0)) × (r .size ≡ r′ .size) × (r .torn ≡ r′ .torn)
@@ -31,6 +33,9 @@ is-help-one κs a r r′ s s′ p q = same-test r r′ (λ e. q .1 (p .0 e)) (λ
 
 pub is-option-one : (κs : _) (a : _) (r r′ : _) (s s′ : _) → is-option.Post κs a r s → is-option.Post κs a r′ s′ → r ≡ r′
 is-option-one κs a r r′ s s′ p q = p ∙ sym q
+
+pub option-one : (κs : _) (a : _) (r r′ : _) (s s′ : _) → option.Post κs a r s → option.Post κs a r′ s′ → r ≡ r′
+option-one κs a r r′ s s′ p q = asks-one (a .0) (now (a .1 .0)) p q
 
 same-input : (i j : Input) → i .total ≡ j .total → i .live ≡ j .live → i .failed ≡ j .failed → i .fd ≡ j .fd → i ≡ j
 same-input i j e f g h = let z : record { fd = i .fd; total = i .total; live = i .live; failed = i .failed } ≡ j = rw (e, f, g, h) in z

@@ -1,3 +1,4 @@
 pub mod Edge
 pub mod Day
 pub mod Desk
+pub mod Options
