@@ -37,15 +37,16 @@ use Rattle.messages.specs.declared.OldMessage.{OldMessage}
 use Rattle.messages.specs.declared.Reading.{Reading}
 use Rattle.messages.proofs.OldBodies.{old-lacks}
 use Rattle.line.specs.Cases.{Stamped, RightUpTo, Case, Taken, Short, Long, Unprintable, NoSequence, NoStamp, NoFacility, NoType, Spacing, Field, Number, LongPlan}
-use Rattle.line.specs.Read.{readBy, oldNumber, oldPlace, freeOf}
+use Rattle.line.specs.Messages.{Took}
+use Rattle.line.specs.Read.{readBy, readOf, oldReadOf, oldNumber, oldPlace, freeOf}
 use Rattle.line.specs.declared.LineRead.the-variants as new
 use Rattle.line.specs.declared.OldRead.the-variants as old
 use Rattle.line.specs.declared.RuleRead.the-variants.{Read}
+use Rattle.line.proofs.Calls.{ReadCall, read-told}
 use Rattle.line.proofs.Cases.{answer-only, wrong-there}
 use Rattle.line.proofs.Placed.{reads-stand}
 use Rattle.line.proofs.Steps.{allowed-allows}
 use Rattle.line.proofs.Theorems.{reads-allowed, message-reading, answer-told}
-use Rattle.line.proofs.read.Reads as read
 use Rattle.line.proofs.read_old.Reads as read-old
 
 -- ---- "with 1 under nine bytes and 4 not given"
@@ -134,7 +135,8 @@ never-both s x y e f =
     (seventh-digit s (ap (stampIn New .form) (sym (a .stamp)) ∙ stamp-lawful New .forth (x .stamp) (a .stamp-held) .0))
     (seventh-letter s (ap (facilityIn Old .form) (sym (b .facility)) ∙ facility-lawful Old .forth (y .facility) (b .facility-held) .0))
 
-pub read-one-rule : (κs : _) (a : _) (r : _) (s : _) (m : Message) → read.Post κs a r s → r ≡ new.Read m
-    → (κs′ : _) (a′ : _) (r′ : _) (s′ : _) (m′ : OldMessage) → read-old.Post κs′ a′ r′ s′ → r′ ≡ old.Read m′ → now (a .0) ≡ now (a′ .0) → ⊥
-read-one-rule κs a r s m p e κs′ a′ r′ s′ m′ p′ e′ same =
-    never-both (now (a .0)) (readingOf m) (oldReadingOf m′) (message-reading New (now (a .0)) m (sym (p .0) ∙ e)) (ap (readBy Old) same ∙ message-reading Old (now (a′ .0)) m′ (sym (p′ .0) ∙ e′))
+pub one-rule : (s : List ℕ) (m : Message) (o : OldMessage) → readOf s ≡ new.Read m → oldReadOf s ≡ old.Read o → ⊥
+one-rule s m o e f = never-both s (readingOf m) (oldReadingOf o) (message-reading New s m e) (message-reading Old s o f)
+
+pub read-one-rule : {line : List ℕ} {m : Message} {o : OldMessage} → ReadCall New line (Took New m) → ReadCall Old line (Took Old o) → ⊥
+read-one-rule {line} {m} {o} c d = one-rule line m o (sym (read-told c)) (sym (read-told d))

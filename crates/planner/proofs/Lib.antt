@@ -6,6 +6,7 @@ pub mod Answers
 pub mod AskAllowed
 pub mod Fields
 pub mod ByBytes
+pub mod OldLines
 pub mod Given
 pub mod Unique
 pub mod Examples
