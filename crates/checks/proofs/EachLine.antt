@@ -8,7 +8,6 @@ use Prim.Native.Nat.{ℕ, zero, suc, _+_, _≤_, _<_}
 use native.Mathlib.Nat.{le-of-suc-le-suc}
 use native.Mathlib.Omega.{arith}
 use borrow.Author.Tests.{ne-eqb, leb-false}
-use denote.Ref.{now}
 use lib.Dec.{eqb, leb}
 use lib.ListN.{length, getD, length-append}
 use Rattle.text.specs.Code.{byteOf}
@@ -26,17 +25,17 @@ use Rattle.fields.specs.Head.{headLength}
 use Rattle.cutter.specs.Feed.{Line, Whole, TooLong, feedOf, textsOf, restOf, lineOf, linesOf}
 use Rattle.cutter.proofs.Feeds.{feed-only}
 use Rattle.line.specs.Cases.{Case}
-use Rattle.line.specs.Read.{readBy, newly, oldly, readOf, oldReadOf, numberBy, lineNumber, linePlace, oldNumber, oldPlace}
-use Rattle.line.specs.declared.RuleRead.{RuleRead}
-use Rattle.line.specs.declared.RuleRead.the-variants.{Read, Refused}
+use Rattle.line.specs.Messages.{AnswerOf, numberOf, placeOf, readAs}
+use Rattle.line.specs.Read.{readBy, numberBy}
+use Rattle.line.specs.declared.RuleRead.the-variants.{Refused}
 use Rattle.line.specs.declared.Refusal.the-variants.{Long}
+use Rattle.line.proofs.Calls.{ReadCall, read-told, read-case}
 use Rattle.line.proofs.Cases.{case-only}
+use Rattle.line.proofs.Theorems.{answer-reading, told-as}
 use Rattle.line.proofs.Ways.{line-long}
-use Rattle.line.proofs.read.Reads as read
-use Rattle.line.proofs.read_old.Reads as read-old
 use Rattle.printer.specs.RowText.{space, hyphen, lineText}
 use Rattle.printer.specs.Parts.{partText}
-use Rattle.checks.specs.Check.{everyLine, refusedLines, saying, typeSaid, keySaid, readSaid, checkOf, isTaken, saidOf, ofNew, ofOld}
+use Rattle.checks.specs.Check.{everyLine, refusedLines, saying, typeSaid, keySaid, readSaid, checkOf, isTaken, saidOf}
 use Rattle.checks.specs.Feed.{checksFrom, checksOf}
 use Rattle.checks.specs.Part.{verdictOf, verdictText}
 use Rattle.checks.specs.declared.Asked.{Asked}
@@ -172,26 +171,16 @@ pub taken-left-out : (ρ : Rule) (n : ℕ) (l : Line) → isTaken ρ l ≡ true 
 unfolding saidOf
 taken-left-out ρ n l e = rw e
 
--- ---- THE ANSWER IS THAT OF `line::read`, and under the old rule that of `line::read_old`, whose `ensures` as they stand in the source are `Post`: with its number and
--- place, and the case of document 01's table that they are of
+-- ---- THE ANSWER IS THAT OF `line::read`, and under the old rule that of `line::read_old`: with its number and place, and the case of document 01's table that
+-- they are of
 
-new-said : (n : ℕ) (r : RuleRead) → readSaid n r ≡ saying n (lineNumber (newly r)) (linePlace (newly r)) (typeSaid (ofNew (newly r))) (keySaid (ofNew (newly r)))
-new-said n (Read x) = refl
-new-said n (Refused y) = refl
-
-pub answer-read : (κs : _) (a : _) (r : _) (s : _) → read.Post κs a r s → (n : ℕ)
-    → (checkOf New n (Whole (now (a .0))) ≡ saying n (lineNumber r) (linePlace r) (typeSaid (ofNew r)) (keySaid (ofNew r))) × Case New (now (a .0)) (lineNumber r) (linePlace r)
-unfolding checkOf readOf
-answer-read κs a r s p n = (rw (p .0) (new-said n (readBy New (now (a .0)))), p .1)
-
-old-said : (n : ℕ) (r : RuleRead) → readSaid n r ≡ saying n (oldNumber (oldly r)) (oldPlace (oldly r)) (typeSaid (ofOld (oldly r))) (keySaid (ofOld (oldly r)))
-old-said n (Read x) = refl
-old-said n (Refused y) = refl
-
-pub answer-read-old : (κs : _) (a : _) (r : _) (s : _) → read-old.Post κs a r s → (n : ℕ)
-    → (checkOf Old n (Whole (now (a .0))) ≡ saying n (oldNumber r) (oldPlace r) (typeSaid (ofOld r)) (keySaid (ofOld r))) × Case Old (now (a .0)) (oldNumber r) (oldPlace r)
-unfolding checkOf oldReadOf
-answer-read-old κs a r s p n = (rw (p .0) (old-said n (readBy Old (now (a .0)))), p .1)
+pub answer-read : {ρ : Rule} {line : List ℕ} {r : AnswerOf ρ} → ReadCall ρ line r → (n : ℕ)
+    → (checkOf ρ n (Whole line) ≡ saying n (numberOf ρ r) (placeOf ρ r) (typeSaid (readAs ρ r)) (keySaid (readAs ρ r))) × Case ρ line (numberOf ρ r) (placeOf ρ r)
+unfolding checkOf
+answer-read {ρ} {line} {r} c n =
+    let e : readBy ρ line ≡ readAs ρ r = sym (ap (readAs ρ) (read-told c) ∙ answer-reading ρ line) in
+    let t = told-as ρ r in
+    (rw (e, t .0, t .1), read-case c)
 
 -- ---- AND SO OF EVERY LINE, ALSO AN OVERLONG ONE: what is said is the number and the place of its case in document 01's table
 

@@ -11,7 +11,6 @@ use types.Run.{OneOf, miss}
 use Rattle.text.specs.Text.{packed, spliced}
 use Rattle.text.proofs.Splice.{spliced-none}
 use Rattle.rules.specs.declared.Rule.{Rule}
-use Rattle.rules.specs.declared.Rule.the-variants.{New, Old}
 use Rattle.fields.specs.MessageType.{typeText}
 use Rattle.fields.specs.declared.heads.MessageType.{MessageType}
 use Rattle.cutter.specs.Calls.{lineIn}
@@ -21,13 +20,10 @@ use Rattle.cutter.specs.declared.CutAnswer.the-variants as cut
 use Rattle.cutter.proofs.CutAnswer.{the-type}
 use Rattle.messages.specs.Body.{typeIn, keyIn}
 use Rattle.messages.specs.declared.Body.{Body}
-use Rattle.line.specs.Read.{readBy, newly, oldly, readOf, oldReadOf, refusalNumber, refusalPlace}
-use Rattle.line.specs.declared.LineRead.{LineRead}
-use Rattle.line.specs.declared.OldRead.{OldRead}
+use Rattle.line.specs.Messages.{AnswerOf, answerTo, readAs}
+use Rattle.line.specs.Read.{readBy, refusalNumber, refusalPlace}
 use Rattle.line.specs.declared.Refusal.{Refusal}
-use Rattle.line.specs.declared.RuleRead.{RuleRead}
-use Rattle.line.specs.declared.RuleRead.the-variants.{Read, Refused}
-use Rattle.checks.specs.Check.{ofNew, ofOld}
+use Rattle.line.proofs.Theorems.{answer-reading}
 use Rattle.checks.specs.Part.{bodyVerdict, refusedVerdict, verdictBy, overlong, verdictOf, judgedOf, verdictText, verdictSaid, counted}
 use Rattle.checks.specs.declared.Sums.{Sums}
 use Rattle.checks.specs.declared.Verdict.{Verdict}
@@ -41,23 +37,8 @@ body-as b e f g = rw (f, e, g)
 pub refused-as : (y : Refusal) {n p : ℕ} → n ≡ refusalNumber y → p ≡ refusalPlace y → record { answer = n; place = p; kind = 0; key = 0 } ≡ refusedVerdict y
 refused-as y e f = rw (e, f)
 
--- nothing is said of a message's head, so that its type and its key are those which its rule reads
-new-by : (r : RuleRead) → verdictBy (ofNew (newly r)) ≡ verdictBy r
-new-by (Read x) = refl
-new-by (Refused y) = refl
-
-old-by : (r : RuleRead) → verdictBy (ofOld (oldly r)) ≡ verdictBy r
-old-by (Read x) = refl
-old-by (Refused y) = refl
-
-module _ (s : List ℕ) (v : Verdict) where
-  pub new-judged : {r : LineRead} → r ≡ readOf s → (x : LineRead) → r ≡ x → v ≡ verdictBy (ofNew x) → v ≡ verdictBy (readBy New s)
-  unfolding readOf
-  new-judged e x g f = f ∙ ap (λ (l : LineRead). verdictBy (ofNew l)) (sym g ∙ e) ∙ new-by (readBy New s)
-
-  pub old-judged : {r : OldRead} → r ≡ oldReadOf s → (x : OldRead) → r ≡ x → v ≡ verdictBy (ofOld x) → v ≡ verdictBy (readBy Old s)
-  unfolding oldReadOf
-  old-judged e x g f = f ∙ ap (λ (l : OldRead). verdictBy (ofOld l)) (sym g ∙ e) ∙ old-by (readBy Old s)
+pub answer-judged : (ρ : Rule) (s : List ℕ) (v : Verdict) {r : AnswerOf ρ} → r ≡ answerTo ρ s → (x : AnswerOf ρ) → r ≡ x → v ≡ verdictBy (readAs ρ x) → v ≡ verdictBy (readBy ρ s)
+answer-judged ρ s v e x g f = f ∙ ap (λ (y : AnswerOf ρ). verdictBy (readAs ρ y)) (sym g ∙ e) ∙ ap verdictBy (answer-reading ρ s)
 
 -- ---- `judge`
 

@@ -10,12 +10,7 @@ use Rattle.rules.specs.declared.Rule.{Rule}
 use Rattle.fields.specs.MessageType.{typeText}
 use Rattle.cutter.specs.Feed.{Line, Whole, TooLong}
 use Rattle.messages.specs.Body.{typeIn, keyIn}
-use Rattle.messages.specs.Reading.{readingOf, oldReadingOf}
 use Rattle.line.specs.Read.{readBy, numberBy, placeBy}
-use Rattle.line.specs.declared.LineRead.{LineRead}
-use Rattle.line.specs.declared.LineRead.the-variants as new
-use Rattle.line.specs.declared.OldRead.{OldRead}
-use Rattle.line.specs.declared.OldRead.the-variants as old
 use Rattle.line.specs.declared.RuleRead.{RuleRead}
 use Rattle.line.specs.declared.RuleRead.the-variants.{Read, Refused}
 use Rattle.printer.specs.RowText.{hyphen, lineText}
@@ -65,13 +60,3 @@ saidOf asked n l = cond (asked .only && isTaken (asked .rule) l) [] (checkOf (as
 unfoldable pub tornOf : ℕ → List ℕ → List ℕ
 tornOf n [] = []
 tornOf n (x ∷ s) = saying n 17 0 hyphen hyphen
-
--- ---- the answers of `line::read` and `line::read_old` as what is read under their rules
-
-abbrev pub ofNew : LineRead → RuleRead
-ofNew (new.Read m) = Read (readingOf m)
-ofNew (new.Refused y) = Refused y
-
-abbrev pub ofOld : OldRead → RuleRead
-ofOld (old.Read m) = Read (oldReadingOf m)
-ofOld (old.Refused y) = Refused y

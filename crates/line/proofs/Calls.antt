@@ -7,7 +7,8 @@ use Prim.Native.Nat.{ℕ}
 use denote.Ref.{now}
 use Rattle.rules.specs.declared.Rule.{Rule}
 use Rattle.rules.specs.declared.Rule.the-variants.{New, Old}
-use Rattle.line.specs.Messages.{AnswerOf, answerTo}
+use Rattle.line.specs.Cases.{Case}
+use Rattle.line.specs.Messages.{AnswerOf, answerTo, numberOf, placeOf}
 use Rattle.line.specs.Read.{freeOf}
 use Rattle.line.proofs.read.Reads as read
 use Rattle.line.proofs.read_old.Reads as read-old
@@ -26,6 +27,10 @@ pub data FreeCall : Rule → List ℕ → List ℕ → Type 0 where
 pub read-told : {ρ : Rule} {line : List ℕ} {r : AnswerOf ρ} → ReadCall ρ line r → r ≡ answerTo ρ line
 read-told (Read κs a r s p) = p .0
 read-told (ReadOld κs a r s p) = p .0
+
+pub read-case : {ρ : Rule} {line : List ℕ} {r : AnswerOf ρ} → ReadCall ρ line r → Case ρ line (numberOf ρ r) (placeOf ρ r)
+read-case (Read κs a r s p) = p .1
+read-case (ReadOld κs a r s p) = p .1
 
 pub free-told : {ρ : Rule} {line f : List ℕ} → FreeCall ρ line f → f ≡ freeOf ρ line
 free-told (Free κs a r s p) = p .0

@@ -13,7 +13,7 @@ use Rattle.messages.specs.declared.Message.{Message}
 use Rattle.messages.specs.declared.OldMessage.{OldMessage}
 use Rattle.messages.specs.declared.Reading.{Reading}
 use Rattle.line.specs.Line.{lineBy, isAllowedBy}
-use Rattle.line.specs.Messages.{MessageOf, readingIn, AnswerOf, answerTo, Took, numberOf, placeOf}
+use Rattle.line.specs.Messages.{MessageOf, readingIn, AnswerOf, answerTo, Took, numberOf, placeOf, readAs}
 use Rattle.line.specs.Read.{readBy, newly, oldly, readOf, oldReadOf, numberBy, placeBy, lineNumber, linePlace, oldNumber, oldPlace, freeOf}
 use Rattle.line.specs.declared.LineRead.the-variants as new
 use Rattle.line.specs.declared.OldRead.the-variants as old
@@ -31,20 +31,25 @@ old-whole s x e =
     let n = eqb-true (x .sequence) 0 (allowed-allows Old x (freeOf Old s) (lines.reads-allowed Old s x e .0) .sequence-held) in
     λ i. record { sequence = sym n i; stamp = x .stamp; facility = x .facility; body = x .body; trailing = x .trailing }
 
-pub message-reading : (ρ : Rule) (s : List ℕ) (m : MessageOf ρ) → answerTo ρ s ≡ Took ρ m → readBy ρ s ≡ Read (readingIn ρ m)
+pub answer-reading : (ρ : Rule) (s : List ℕ) → readAs ρ (answerTo ρ s) ≡ readBy ρ s
 unfolding readOf oldReadOf
-message-reading New s m e = go (readBy New s) refl e
+answer-reading New s = go (readBy New s)
   where
-    go : (x : RuleRead) → readBy New s ≡ x → newly x ≡ new.Read m → readBy New s ≡ Read (readingOf m)
-    go (Read x) q d = let z : messageOf x ≡ m = cc in q ∙ ap (λ (n : Message). Read (readingOf n)) z
-    go (Refused y) q d = absurd (let z : _≡_ {A = ℕ} 0 1 = cc in omega arith)
-message-reading Old s m e = go (readBy Old s) refl e
+    go : (x : RuleRead) → readAs New (newly x) ≡ x
+    go (Read x) = refl
+    go (Refused y) = refl
+answer-reading Old s = go (readBy Old s) refl
   where
-    go : (x : RuleRead) → readBy Old s ≡ x → oldly x ≡ old.Read m → readBy Old s ≡ Read (oldReadingOf m)
-    go (Read x) q d =
-        let z : oldMessageOf x ≡ m = cc in
-        q ∙ ap Read (sym (old-whole s x q)) ∙ ap (λ (n : OldMessage). Read (oldReadingOf n)) z
-    go (Refused y) q d = absurd (let z : _≡_ {A = ℕ} 0 1 = cc in omega arith)
+    go : (x : RuleRead) → readBy Old s ≡ x → readAs Old (oldly x) ≡ x
+    go (Read x) e = ap Read (old-whole s x e)
+    go (Refused y) e = refl
+
+took-reading : (ρ : Rule) (m : MessageOf ρ) → readAs ρ (Took ρ m) ≡ Read (readingIn ρ m)
+took-reading New m = refl
+took-reading Old m = refl
+
+pub message-reading : (ρ : Rule) (s : List ℕ) (m : MessageOf ρ) → answerTo ρ s ≡ Took ρ m → readBy ρ s ≡ Read (readingIn ρ m)
+message-reading ρ s m e = sym (answer-reading ρ s) ∙ ap (readAs ρ) e ∙ took-reading ρ m
 
 pub reading-message : (ρ : Rule) (s : List ℕ) (m : MessageOf ρ) → readBy ρ s ≡ Read (readingIn ρ m) → answerTo ρ s ≡ Took ρ m
 unfolding readOf oldReadOf
@@ -84,18 +89,14 @@ module _ (ρ : Rule) where
 
 -- ---- the number and the place of a line are those of its reading
 
-new-told : (x : RuleRead) → (lineNumber (newly x) ≡ numberBy x) × (linePlace (newly x) ≡ placeBy x)
-new-told (Read x) = (refl, refl)
-new-told (Refused y) = (refl, refl)
-
-old-told : (x : RuleRead) → (oldNumber (oldly x) ≡ numberBy x) × (oldPlace (oldly x) ≡ placeBy x)
-old-told (Read x) = (refl, refl)
-old-told (Refused y) = (refl, refl)
+pub told-as : (ρ : Rule) (r : AnswerOf ρ) → (numberOf ρ r ≡ numberBy (readAs ρ r)) × (placeOf ρ r ≡ placeBy (readAs ρ r))
+told-as New (new.Read m) = (refl, refl)
+told-as New (new.Refused y) = (refl, refl)
+told-as Old (old.Read m) = (refl, refl)
+told-as Old (old.Refused y) = (refl, refl)
 
 pub answer-told : (ρ : Rule) (s : List ℕ) → (numberOf ρ (answerTo ρ s) ≡ numberBy (readBy ρ s)) × (placeOf ρ (answerTo ρ s) ≡ placeBy (readBy ρ s))
-unfolding readOf oldReadOf
-answer-told New s = new-told (readBy New s)
-answer-told Old s = old-told (readBy Old s)
+answer-told ρ s = rw (answer-reading ρ s) at (told-as ρ (answerTo ρ s))
 
 -- a line is answered 0 to 11
 pub line-numbers : (ρ : Rule) (r : AnswerOf ρ) → numberOf ρ r ≤ 11

@@ -12,6 +12,8 @@ use Rattle.line.specs.declared.LineRead.{LineRead}
 use Rattle.line.specs.declared.LineRead.the-variants as new
 use Rattle.line.specs.declared.OldRead.{OldRead}
 use Rattle.line.specs.declared.OldRead.the-variants as old
+use Rattle.line.specs.declared.RuleRead.{RuleRead}
+use Rattle.line.specs.declared.RuleRead.the-variants.{Read, Refused}
 
 -- a message, and what is read of its line
 abbrev pub MessageOf : Rule → Type 0
@@ -42,3 +44,10 @@ numberOf Old r = oldNumber r
 abbrev pub placeOf : (ρ : Rule) → AnswerOf ρ → ℕ
 placeOf New r = linePlace r
 placeOf Old r = oldPlace r
+
+-- the answer as what is read under the rule
+abbrev pub readAs : (ρ : Rule) → AnswerOf ρ → RuleRead
+readAs New (new.Read m) = Read (readingOf m)
+readAs New (new.Refused y) = Refused y
+readAs Old (old.Read m) = Read (oldReadingOf m)
+readAs Old (old.Refused y) = Refused y

@@ -1,7 +1,8 @@
 -- `checks::judge_new` meets its contract. Assumes nothing.
 use borrow.Author.Needs.{needs}
+use Rattle.rules.specs.declared.Rule.the-variants.{New}
 use Rattle.line.specs.declared.LineRead.the-variants.{Read, Refused}
-use Rattle.checks.proofs.Ways.{new-judged}
+use Rattle.checks.proofs.Ways.{answer-judged}
 use Rattle.checks.proofs.judge_new.Statement.{statement}
 use Rattle.checks.proofs.judge_new.Tie as tie
 
@@ -10,5 +11,5 @@ judge-new-spec =
     tie.close
     (tie.spec
     (λ c κs. search needs) (λ c. search needs) (λ c κs. search needs) (λ c. search needs) (λ c κs. search needs)
-    (λ c. let r = c .before .before in new-judged _ _ (r .before .before .read .ensures .0) (Read _) (r .read2 .given .1) (c .of-body .ensures))
-    (λ c. let r = c .before .before in new-judged _ _ (r .before .before .read .ensures .0) (Refused _) (r .read3 .given .1) (c .of-refusal .ensures)))
+    (λ c. let r = c .before .before in answer-judged New _ _ (r .before .before .read .ensures .0) (Read _) (r .read2 .given .1) (c .of-body .ensures))
+    (λ c. let r = c .before .before in answer-judged New _ _ (r .before .before .read .ensures .0) (Refused _) (r .read3 .given .1) (c .of-refusal .ensures)))
