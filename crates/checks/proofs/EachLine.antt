@@ -161,7 +161,7 @@ each-line ρ feed =
 
 pub refused-stays : (asked : Asked) (n : ℕ) (l : Line) → isTaken (asked .rule) l ≡ false → saidOf asked n l ≡ checkOf (asked .rule) n l
 unfolding saidOf
-refused-stays asked n l e = rw e (go (asked .only))
+refused-stays asked n l e = rw e (go (asked .refused))
   where
     go : (b : Bool) → cond (b && false) [] (checkOf (asked .rule) n l) ≡ checkOf (asked .rule) n l
     go true = refl

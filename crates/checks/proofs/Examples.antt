@@ -192,7 +192,7 @@ old-line-with-a-letter-read κs a r s p o b n e = said κs a r s p b (bytes lett
 -- "line over 2,048 bytes" is 2 under both rules, whether all are asked for or the refused only
 over : (asked : Asked) (text : List ℕ) → length text ≡ 2049 → saidOf asked 2 (lineOf text) ≡ ended "2 2 0 - -"
 unfolding saidOf isTaken checkOf lineOf lineText decimal widthBy padded places byteOf
-over asked text e = rw e (go (asked .only))
+over asked text e = rw e (go (asked .refused))
   where
     go : (b : Bool) → cond (b && false) [] (saying 2 2 0 hyphen hyphen) ≡ ended "2 2 0 - -"
     go true = refl

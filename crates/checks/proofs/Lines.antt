@@ -123,7 +123,7 @@ unfolding verdictOf isTaken
 verdict-taken ρ (Whole s) = taken-by (readBy ρ s)
 verdict-taken ρ TooLong = refl
 
-pub verdict-said : (asked : Asked) (n : ℕ) (l : Line) → verdictSaid (asked .only) n (verdictOf (asked .rule) l) ≡ saidOf asked n l
+pub verdict-said : (asked : Asked) (n : ℕ) (l : Line) → verdictSaid (asked .refused) n (verdictOf (asked .rule) l) ≡ saidOf asked n l
 unfolding verdictSaid saidOf
 verdict-said asked n l = rw (verdict-taken (asked .rule) l, verdict-text (asked .rule) n l)
 
@@ -163,7 +163,7 @@ verdict-few only n v e = go (only && eqb (v .answer) 0)
     go false = text-few n v e
 
 pub said-few : (asked : Asked) (n : ℕ) (l : Line) → length (saidOf asked n l) ≤ longestSaying
-said-few asked n l = rw (← (verdict-said asked n l)) (verdict-few (asked .only) n (verdictOf (asked .rule) l) (verdict-is (asked .rule) l))
+said-few asked n l = rw (← (verdict-said asked n l)) (verdict-few (asked .refused) n (verdictOf (asked .rule) l) (verdict-is (asked .rule) l))
 
 pub checks-few : (asked : Asked) (n : ℕ) (ls : List Line) → length (checksFrom asked n ls) ≤ longestSaying * length ls
 unfolding checksFrom

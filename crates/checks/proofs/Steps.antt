@@ -155,17 +155,17 @@ module _ (asked : Asked) (held : List ℕ) (s : Sums) (rest out : List ℕ) (at 
     unfolding readsIn
     reads-one l = rw (verdict-taken (asked .rule) l)
 
-    says-one : (l : Line) → verdictSaid (asked .only) (s .lines + 1) (verdictOf (asked .rule) l) ≡ checksFrom asked (suc (s .lines)) (l ∷ [])
+    says-one : (l : Line) → verdictSaid (asked .refused) (s .lines + 1) (verdictOf (asked .rule) l) ≡ checksFrom asked (suc (s .lines)) (l ∷ [])
     unfolding checksFrom
     says-one l = rw (verdict-said asked (s .lines + 1) l, add-one (s .lines)) (sym (append-nil (saidOf asked (suc (s .lines)) l)))
 
-    pub step-line : (0 < length rest) → (next : ℕ) (out′ : List ℕ) → (next ≡ at + length (verdictSaid (asked .only) (s .lines + 1) v)) × (out′ ≡ spliced out at (verdictSaid (asked .only) (s .lines + 1) v))
+    pub step-line : (0 < length rest) → (next : ℕ) (out′ : List ℕ) → (next ≡ at + length (verdictSaid (asked .refused) (s .lines + 1) v)) × (out′ ≡ spliced out at (verdictSaid (asked .refused) (s .lines + 1) v))
         → (s′ : Sums) → s′ ≡ counted moved v → Steps asked held s rest out at held′ (record { sums = s′; used = done .used; next = next }) out′
     step-line h next out′ w s′ c =
         let l = the-told .line in
         let k = lines-are (l ∷ []) (the-told .is) in
         let x : cond (eqb (v .answer) 0) 1 0 ≡ readsIn (asked .rule) (l ∷ []) = ap (λ (w : Verdict). cond (eqb (w .answer) 0) 1 0) (the-told .verdict) ∙ reads-one l in
-        let y : verdictSaid (asked .only) (s .lines + 1) v ≡ checksFrom asked (suc (s .lines)) (l ∷ []) = ap (verdictSaid (asked .only) (s .lines + 1)) (the-told .verdict) ∙ says-one l in
+        let y : verdictSaid (asked .refused) (s .lines + 1) v ≡ checksFrom asked (suc (s .lines)) (l ∷ []) = ap (verdictSaid (asked .refused) (s .lines + 1)) (the-told .verdict) ∙ says-one l in
         rw c (record {
           adds = record {
             allowed = still;

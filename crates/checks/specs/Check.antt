@@ -19,10 +19,10 @@ use Rattle.checks.specs.declared.Asked.{Asked}
 
 -- what may be asked for under a rule: every line of the feed, or those alone that have no reading
 abbrev pub everyLine : Rule → Asked
-everyLine ρ = record { rule = ρ; only = false }
+everyLine ρ = record { rule = ρ; refused = false }
 
 abbrev pub refusedLines : Rule → Asked
-refusedLines ρ = record { rule = ρ; only = true }
+refusedLines ρ = record { rule = ρ; refused = true }
 
 -- NUMBER ANSWER PLACE TYPE KEY, with single spaces between them, and a line feed
 abbrev pub saying : ℕ → ℕ → ℕ → List ℕ → List ℕ → List ℕ
@@ -54,7 +54,7 @@ isTaken ρ TooLong = false
 
 -- where only the refused lines are asked for, the others are left out
 unfoldable pub saidOf : Asked → ℕ → Line → List ℕ
-saidOf asked n l = cond (asked .only && isTaken (asked .rule) l) [] (checkOf (asked .rule) n l)
+saidOf asked n l = cond (asked .refused && isTaken (asked .rule) l) [] (checkOf (asked .rule) n l)
 
 -- what is said of an unended rest, which is no line: "17: end of feed inside a line"; at a line's start nothing
 unfoldable pub tornOf : ℕ → List ℕ → List ℕ

@@ -35,7 +35,7 @@ pub const LONGEST_SAYING: usize = 90;
 // The rule by which lines are read, and whether the refused ones alone are told.
 pub struct Asked {
     pub rule: Rule,
-    pub only: bool,
+    pub refused: bool,
 }
 
 // What is kept from part to part: the cutter's state, how many lines ended, and how many of these read.
@@ -229,7 +229,7 @@ fn step(held: &mut [u8], asked: Asked, sums: Sums, rest: &[u8], out: &mut [u8], 
     let judged = judge(rule, answer, &held[..], rest);
     match judged {
         Judged::Line(verdict) => {
-            let next = say(asked.only, (sums.lines + 1) as u64, verdict, out, at);
+            let next = say(asked.refused, (sums.lines + 1) as u64, verdict, out, at);
             let sums = count(sums, verdict);
             Turn {
                 sums,

@@ -99,7 +99,7 @@ fn check() {
     let words = os::arg_count();
     let mut asked = Asked {
         rule: Rule::New,
-        only: false,
+        refused: false,
     };
     let mut place: usize = 2;
     while place < words {

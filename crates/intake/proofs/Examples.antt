@@ -81,13 +81,13 @@ pub hyphen-inside-is-an-option : (κs : _) (a : _) (r : _) (s : _) → is-option
 hyphen-inside-is-an-option κs a r s p e = p ∙ rw e
 
 -- --old asks for the old feed, after --refused too, and no other word does
-pub old-reads-the-feed : (κs : _) (a : _) (r : _) (s : _) → option.Post κs a r s → a .0 ≡ record { rule = New; only = true } → now (a .1 .0) ≡ bytes "--old" → r ≡ Asks (record { rule = Old; only = true })
+pub old-reads-the-feed : (κs : _) (a : _) (r : _) (s : _) → option.Post κs a r s → a .0 ≡ record { rule = New; refused = true } → now (a .1 .0) ≡ bytes "--old" → r ≡ Asks (record { rule = Old; refused = true })
 old-reads-the-feed κs a r s p e f = asks-one (a .0) (now (a .1 .0)) p (rw (e, f) (AsksOld refl refl))
 
-pub refused-reads-the-old-feed : (κs : _) (a : _) (r : _) (s : _) → option.Post κs a r s → a .0 ≡ record { rule = New; only = false } → now (a .1 .0) ≡ bytes "--refused" → r ≡ Asks (record { rule = New; only = true })
+pub refused-reads-the-old-feed : (κs : _) (a : _) (r : _) (s : _) → option.Post κs a r s → a .0 ≡ record { rule = New; refused = false } → now (a .1 .0) ≡ bytes "--refused" → r ≡ Asks (record { rule = New; refused = true })
 refused-reads-the-old-feed κs a r s p e f = asks-one (a .0) (now (a .1 .0)) p (rw (e, f) (AsksRefused refl refl))
 
-pub old-twice : (κs : _) (a : _) (r : _) (s : _) → option.Post κs a r s → a .0 ≡ record { rule = Old; only = false } → now (a .1 .0) ≡ bytes "--old" → r ≡ Nothing
+pub old-twice : (κs : _) (a : _) (r : _) (s : _) → option.Post κs a r s → a .0 ≡ record { rule = Old; refused = false } → now (a .1 .0) ≡ bytes "--old" → r ≡ Nothing
 old-twice κs a r s p e f = asks-one (a .0) (now (a .1 .0)) p (rw (e, f) (AsksNothing (λ _. refl) (λ z. absurd (omega (arith, ap length z)))))
 
 -- a read that is live brought something, and no more than its block holds

@@ -11,8 +11,8 @@ use Rattle.intake.specs.declared.words.OptionRead.the-variants.{Asks, No
 
 pub data OptionIs (a : Asked) (w : List ℕ) : OptionRead → Type 0 where
   -- lines of the old feed
-  AsksOld : w ≡ bytes "--old" → a .rule ≡ New → OptionIs a w (Asks (record { rule = Old; only = a .only }))
+  AsksOld : w ≡ bytes "--old" → a .rule ≡ New → OptionIs a w (Asks (record { rule = Old; refused = a .refused }))
   -- the refused lines alone
-  AsksRefused : w ≡ bytes "--refused" → a .only ≡ false → OptionIs a w (Asks (record { rule = a .rule; only = true }))
+  AsksRefused : w ≡ bytes "--refused" → a .refused ≡ false → OptionIs a w (Asks (record { rule = a .rule; refused = true }))
   -- neither, or one that was given
-  AsksNothing : (w ≡ bytes "--old" → a .rule ≡ Old) → (w ≡ bytes "--refused" → a .only ≡ true) → OptionIs a w Nothing
+  AsksNothing : (w ≡ bytes "--old" → a .rule ≡ Old) → (w ≡ bytes "--refused" → a .refused ≡ true) → OptionIs a w Nothing

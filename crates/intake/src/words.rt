@@ -42,10 +42,13 @@ pub fn option(asked: Asked, word: &[u8]) -> OptionRead
 {
     let rule = asked.rule;
     if same(word, b"--refused") {
-        if asked.only {
+        if asked.refused {
             return OptionRead::Nothing;
         }
-        return OptionRead::Asks(Asked { rule, only: true });
+        return OptionRead::Asks(Asked {
+            rule,
+            refused: true,
+        });
     }
     if !same(word, b"--old") {
         return OptionRead::Nothing;
@@ -53,7 +56,7 @@ pub fn option(asked: Asked, word: &[u8]) -> OptionRead
     match rule {
         Rule::New => OptionRead::Asks(Asked {
             rule: Rule::Old,
-            only: asked.only,
+            refused: asked.refused,
         }),
         Rule::Old => OptionRead::Nothing,
     }
