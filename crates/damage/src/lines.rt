@@ -214,7 +214,7 @@ pub(crate) fn write(w: &[u64], free: &[u8], out: &mut [u8], at: usize) {
     }
     let sequence = Sequence(w[0]);
     let stamp = Stamp(w[1]);
-    let facility = Facility(w[2] % 4294967296);
+    let facility = Facility(w[2]);
     let written = send(w, sequence, stamp, facility, w[4] == 1, free, out, at);
     say_written(written);
     say_bytes(&out[..]);

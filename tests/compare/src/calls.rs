@@ -208,7 +208,7 @@ impl Case {
                 out,
                 at,
             } => {
-                let front = [values.sequence, values.stamp, u64::from(values.facility)];
+                let front = [values.sequence, values.stamp, values.facility];
                 let words = message(front, &values.body);
                 self.framed(&words, free, out, [*at as u64, 0, 0])
             }

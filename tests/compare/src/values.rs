@@ -41,7 +41,7 @@ pub fn values(chance: &mut Chance) -> (Values, Vec<u8>) {
             for number in numbers(&mut values) {
                 *number = any_word(chance);
             }
-            values.facility = chance.draw() as u32;
+            values.facility = chance.draw();
         }
         1..=11 => {
             for _ in 0..chance.one_of(&[1, 1, 1, 1, 2]) {
@@ -160,9 +160,9 @@ fn damage(values: &mut Values, free: &mut Vec<u8>, chance: &mut Chance) {
         0..=5 => damage_number(numbers(values), chance),
         6 => {
             let byte = chance.one_of(b" \n0AZa@[/:\0\xff");
-            let shift = 8 * chance.below(4);
+            let shift = 8 * chance.below(5);
             values.facility &= !(0xff << shift);
-            values.facility |= u32::from(byte) << shift;
+            values.facility |= u64::from(byte) << shift;
         }
         7 => values.stamp = stamp(chance, true),
         8 | 9 => {

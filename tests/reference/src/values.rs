@@ -31,7 +31,7 @@ pub struct Amended {
 pub struct Values {
     pub sequence: u64,
     pub stamp: u64,
-    pub facility: u32,
+    pub facility: u64,
     pub body: BodyValues,
 }
 
@@ -65,16 +65,16 @@ impl Values {
             facility: message
                 .facility
                 .iter()
-                .fold(0, |value, &byte| value * 256 + u32::from(byte)),
+                .fold(0, |value, &byte| value * 256 + u64::from(byte)),
             body: BodyValues::of(&message.body),
         }
     }
 
     /// The line that these values and a free text would make, whatever they hold; nothing where a
-    /// number is that of no text.
+    /// number is that of no text or of no four bytes.
     fn line(&self, free: &[u8]) -> Option<Vec<u8>> {
         let mut line = [text(self.sequence)?, text(self.stamp)?].concat();
-        line.extend_from_slice(&self.facility.to_be_bytes());
+        line.extend_from_slice(&u32::try_from(self.facility).ok()?.to_be_bytes());
         line.extend(self.body.text(free)?);
         Some(line)
     }
@@ -348,6 +348,7 @@ mod tests {
             no_line_has(line, |values, _| values.stamp = 0);
             no_line_has(line, |values, _| values.facility += 0x20);
             no_line_has(line, |values, _| values.facility = 0);
+            no_line_has(line, |values, _| values.facility += 1 << 32);
         }
         for line in &LINES[3..8] {
             no_line_has(line, |values, _| values.body.fields[0] = Value::Ident(1, 0));
