@@ -33,7 +33,7 @@ allowed_with_line_feed κs a r s rest p e b h = p ∙ rw (e, b, h)
 
 -- 13 uses no byte
 pub uses_a_byte_at_13 : (κs : _) (a : _) (r : _) (s : _) → cut.Post κs a r s
-    → now a.0 ≡ [] → r ≡ record { answer = answer.NotAllowed; used = 0; begun = a.1.0 }
+    → a.0.now ≡ [] → r ≡ record { answer = answer.NotAllowed; used = 0; begun = a.1.0 }
 unfolding cut_of is_allowed
 uses_a_byte_at_13 κs a r s p e = p.0 ∙ rw e
 

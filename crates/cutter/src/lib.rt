@@ -1,5 +1,7 @@
 // Lines out of the bytes of a feed that comes in parts cut anywhere (document 01, "Cutting"). The bytes of a begun line
 // stand at the start of a buffer that the caller lends.
+#![tactic(auto)]
+
 ghost use Rattle.std.specs.Prelude.{◌≡◌, take};
 ghost use Rattle.cutter.specs.State.{is_allowed, more_in, held_more};
 ghost use Rattle.cutter.specs.Calls.{at_start, close_of, held_closed, cut_of, held_cut, end_of, line_in};
@@ -12,14 +14,14 @@ use text::Written;
 use text::writing::put_bytes;
 
 // How much of the buffer is the begun line; or the mark that it is overlong, which stands in place of its bytes.
-#[derive(Drop)]
+#[derive(Clone, Copy)]
 pub enum Begun {
     Held(usize),
     Overlong,
 }
 
 // What `cut` answers: 0 and no line ended; 0 and the line that ended, so many bytes of the buffer or of the part; 2; 13.
-#[derive(Drop)]
+#[derive(Clone, Copy)]
 pub enum CutAnswer {
     Taken,
     InBuffer(usize),
@@ -28,7 +30,7 @@ pub enum CutAnswer {
     NotAllowed,
 }
 
-#[derive(Drop)]
+#[derive(Clone, Copy)]
 pub struct AfterCut {
     pub answer: CutAnswer,
     pub used: usize,
@@ -36,14 +38,14 @@ pub struct AfterCut {
 }
 
 // What `end` answers: 0, 17, 13.
-#[derive(Drop)]
+#[derive(Clone, Copy)]
 pub enum EndAnswer {
     AtStart,
     InsideLine,
     NotAllowed,
 }
 
-#[derive(Drop)]
+#[derive(Clone, Copy)]
 pub struct AfterEnd {
     pub answer: EndAnswer,
     pub begun: Begun,

@@ -61,7 +61,7 @@ sequence_with_a_g κs a r s p e = p ∙ rw (e, read.0)
 
 -- letters to F are characters of one, and both zeros are kept
 pub sequence_f_refused : (κs : _) (a : _) (r : _) (s : _) → sequence-read.Post κs a r s
-    → now a.0 ≡ bytes "00FF" → r ≡ sequence.Read (record { 0 = packed (bytes "00FF") })
+    → a.0.now ≡ bytes "00FF" → r ≡ sequence.Read (record { 0 = packed (bytes "00FF") })
 sequence_f_refused κs a r s p e = p ∙ rw (e, read.1)
 
 -- no month has a day 00
@@ -70,7 +70,7 @@ stamp_day_00 κs a r s p e = p ∙ rw (e, read.2)
 
 -- the last second of a 31st is a stamp
 pub stamp_day_31_refused : (κs : _) (a : _) (r : _) (s : _) → stamp-read.Post κs a r s
-    → now a.0 ≡ bytes "31235959" → r ≡ stamp.Read (record { 0 = packed (bytes "31235959") })
+    → a.0.now ≡ bytes "31235959" → r ≡ stamp.Read (record { 0 = packed (bytes "31235959") })
 stamp_day_31_refused κs a r s p e = p ∙ rw (e, read.3)
 
 -- a computer number is no key
@@ -79,7 +79,7 @@ key_by_the_number_rule κs a r s p e = p ∙ rw (e, read.4)
 
 -- a letter and one more are a key
 pub key_of_two_refused : (κs : _) (a : _) (r : _) (s : _) → key-read.Post κs a r s
-    → now a.0 ≡ bytes "N5" → r ≡ key.Read (record { 0 = packed (bytes "N5") })
+    → a.0.now ≡ bytes "N5" → r ≡ key.Read (record { 0 = packed (bytes "N5") })
 key_of_two_refused κs a r s p e = p ∙ rw (e, read.5)
 
 -- an arrival clock is no time
@@ -88,7 +88,7 @@ time_as_arrival κs a r s p e = p ∙ rw (e, read.6)
 
 -- P and the last minute of a day are a time
 pub time_2359_refused : (κs : _) (a : _) (r : _) (s : _) → time-read.Post κs a r s
-    → now a.0 ≡ bytes "P2359" → r ≡ time.Read (record { 0 = packed (bytes "P2359") })
+    → a.0.now ≡ bytes "P2359" → r ≡ time.Read (record { 0 = packed (bytes "P2359") })
 time_2359_refused κs a r s p e = p ∙ rw (e, read.7)
 
 -- ---- tests: the word of a text passes exactly where the text has the form

@@ -10,14 +10,14 @@ use crate::{pairs, words};
 use text::{Packed, Written, writing};
 
 // The model is document 01's type. A prefix or a letter of 0 is none.
-#[derive(Drop)]
+#[derive(Clone, Copy)]
 pub struct Aircraft {
     pub prefix: u64,
     pub model: u64,
     pub letter: u64,
 }
 
-#[derive(Drop)]
+#[derive(Clone, Copy)]
 pub enum AircraftRead {
     Read(Aircraft),
     Nothing,

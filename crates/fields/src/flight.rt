@@ -8,10 +8,10 @@ use crate::words;
 use text::Packed;
 
 // A flight's key, the part of its ident before the slash: a letter and one to six alnum.
-#[derive(Drop)]
+#[derive(Clone, Copy)]
 pub struct Key(pub u64);
 
-#[derive(Drop)]
+#[derive(Clone, Copy)]
 pub enum KeyRead {
     Read(Key),
     Nothing,
@@ -35,5 +35,5 @@ impl Key {
 }
 
 // A computer number: digit, digit, alnum.
-#[derive(Drop)]
+#[derive(Clone, Copy)]
 pub struct ComputerNumber(pub u64);

@@ -21,10 +21,10 @@ pub fn body_at(rule: Rule) -> usize
 }
 
 // A sequence number: four characters 0-9 or A-F.
-#[derive(Drop)]
+#[derive(Clone, Copy)]
 pub struct Sequence(pub u64);
 
-#[derive(Drop)]
+#[derive(Clone, Copy)]
 pub enum SequenceRead {
     Read(Sequence),
     Nothing,
@@ -55,18 +55,18 @@ impl Sequence {
 }
 
 // The stamp of an old line: six digits HHMMSS. It has no day, so how old it is cannot be asked.
-#[derive(Drop)]
+#[derive(Clone, Copy)]
 pub struct OldStamp(pub u64);
 
 // The center of an old line: one capital.
-#[derive(Drop)]
+#[derive(Clone, Copy)]
 pub struct Center(pub u64);
 
 // A stamp: eight digits DDHHMMSS, each pair in its range.
-#[derive(Drop)]
+#[derive(Clone, Copy)]
 pub struct Stamp(pub u64);
 
-#[derive(Drop)]
+#[derive(Clone, Copy)]
 pub enum StampRead {
     Read(Stamp),
     Nothing,

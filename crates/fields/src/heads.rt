@@ -18,10 +18,10 @@ fn joined(a: u8, b: u8, c: u8, d: u8) -> u32
 const LAST_FACILITY: u64 = 0xFFFFFFFF;
 
 // A facility: four bytes, right justified, held as one number to the base 256.
-#[derive(Drop)]
+#[derive(Clone, Copy)]
 pub struct Facility(pub u64);
 
-#[derive(Drop)]
+#[derive(Clone, Copy)]
 pub enum FacilityRead {
     Read(Facility),
     Nothing,
@@ -74,7 +74,7 @@ impl Facility {
 }
 
 // A message type: two letters.
-#[derive(Drop)]
+#[derive(Clone, Copy)]
 pub enum MessageType {
     Af,
     Az,
@@ -88,7 +88,7 @@ pub enum MessageType {
     Hb,
 }
 
-#[derive(Drop)]
+#[derive(Clone, Copy)]
 pub enum TypeRead {
     Read(MessageType),
     Nothing,

@@ -9,13 +9,13 @@ use crate::words::Pair;
 use text::Written;
 
 // A number of 0 is none.
-#[derive(Drop)]
+#[derive(Clone, Copy)]
 pub struct Ident {
     pub key: Key,
     pub number: ComputerNumber,
 }
 
-#[derive(Drop)]
+#[derive(Clone, Copy)]
 pub enum IdentRead {
     Read(Ident),
     Nothing,

@@ -8,11 +8,11 @@ use crate::words;
 use text::Packed;
 
 // A filed speed: 2 to 4 digits, or a letter and 3 digits (Mach), or SC.
-#[derive(Drop)]
+#[derive(Clone, Copy)]
 pub struct FiledSpeed(pub u64);
 
 // A point: 2 to 12 alnum.
-#[derive(Drop)]
+#[derive(Clone, Copy)]
 pub struct Point(pub u64);
 
 impl Point {
@@ -24,14 +24,14 @@ impl Point {
 }
 
 // A fix: 2 to 11 alnum, or 2 to 5, a slash, 1 to 6.
-#[derive(Drop)]
+#[derive(Clone, Copy)]
 pub struct Fix(pub u64);
 
 // A time: D, E or P and a clock.
-#[derive(Drop)]
+#[derive(Clone, Copy)]
 pub struct Time(pub u64);
 
-#[derive(Drop)]
+#[derive(Clone, Copy)]
 pub enum TimeRead {
     Read(Time),
     Nothing,
@@ -49,9 +49,9 @@ impl Time {
 }
 
 // A level: 2 or 3 digits, or two such with B between, the second no smaller than the first.
-#[derive(Drop)]
+#[derive(Clone, Copy)]
 pub struct Level(pub u64);
 
 // The number of an amendment: 02, 03, 05, 06, 07, 08, 09 or 10.
-#[derive(Drop)]
+#[derive(Clone, Copy)]
 pub struct Amendment(pub u64);

@@ -6,7 +6,7 @@ ghost use Rattle.fields.specs.Word.{is_word};
 use crate::words;
 
 // A ground speed: 3 digits.
-#[derive(Drop)]
+#[derive(Clone, Copy)]
 pub struct GroundSpeed(pub u64);
 
 impl GroundSpeed {
@@ -18,7 +18,7 @@ impl GroundSpeed {
 }
 
 // A track level: 3 digits and optionally a letter.
-#[derive(Drop)]
+#[derive(Clone, Copy)]
 pub struct TrackLevel(pub u64);
 
 impl TrackLevel {
@@ -30,7 +30,7 @@ impl TrackLevel {
 }
 
 // A position: ddmm, N or S, slash, dddmm, E or W, in range.
-#[derive(Drop)]
+#[derive(Clone, Copy)]
 pub struct Position(pub u64);
 
 impl Position {
@@ -42,11 +42,11 @@ impl Position {
 }
 
 // A clock: four digits, 0000 to 2359, minutes to 59.
-#[derive(Drop)]
+#[derive(Clone, Copy)]
 pub struct Clock(pub u64);
 
 // An arrival clock: a clock, and in AZ optionally A or E before it.
-#[derive(Drop)]
+#[derive(Clone, Copy)]
 pub struct ArrivalClock(pub u64);
 
 impl ArrivalClock {

@@ -43,7 +43,7 @@ pub fn put(kind: u8, t: u64, out: &mut [u8], at: usize) -> Written
 }
 
 // What is read of two words in one field; the second is 0 where there is none.
-#[derive(Drop)]
+#[derive(Clone, Copy)]
 pub enum Pair {
     Both(u64, u64),
     Nothing,

@@ -55,7 +55,7 @@ module _ (last : ℕ) (n s : Moment) where
 
 pub in_range_lem : {now last stamp : ℕ} {n s : Moment} → InRange now last stamp n s → age_of last n s ≡ age_in now last stamp
 unfolding age_in is_last_day
-in_range_lem {now} {last} {stamp} r = rw (r.now_at, r.stamp_at_lem, le-leb 28 last r.last_least, le-leb last 31 r.last_most)
+in_range_lem {now} {last} {stamp} r = rw (r.now_at, r.stamp_at, le-leb 28 last r.last_least, le-leb last 31 r.last_most)
 
 module _ (last : ℕ) (h : is_last_day last ≡ false) where
   wrong_last : (n s : When) → aged.OutOfRange ≡ aged_from n last s

@@ -65,7 +65,7 @@ module _ (now last stamp : ℕ) where
       go (when.At n) e when.NotOne f b p c q = told (Refused (StampOut f))
       go (when.At n) e (when.At s) f false p c q = told (Refused (LastUnder (leb-false 28 last p)))
       go (when.At n) e (when.At s) f true p false q = told (Refused (LastOver (leb-false last 31 q)))
-      go (when.At n) e (when.At s) f true p true q = told_in n s (record { now_at = e; stamp_at_lem = f; last_least = leb-true 28 last p; last_most = leb-true last 31 q })
+      go (when.At n) e (when.At s) f true p true q = told_in n s (record { now_at = e; stamp_at = f; last_least = leb-true 28 last p; last_most = leb-true last 31 q })
 
 -- what a way out of `age` shows, as its promise asks it
 pub in_age_case : {now last stamp : ℕ} {r : Aged} → r ≡ age_in now last stamp → (r ≡ age_in now last stamp) × AgeIs now last stamp r

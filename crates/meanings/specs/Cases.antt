@@ -11,7 +11,7 @@ use Rattle.meanings.specs.declared.ages.Aged.TheVariants as aged
 -- now and the stamp are stamps, of the moments n and s, and the last day is 28 to 31
 pub record InRange (now last stamp : ℕ) (n s : Moment) : Type 0 where
   pub now_at : moment_in now ≡ when.At n
-  pub stamp_at_lem : moment_in stamp ≡ when.At s
+  pub stamp_at : moment_in stamp ≡ when.At s
   pub last_least : 28 ≤ last
   pub last_most : last ≤ 31
 

@@ -9,7 +9,7 @@ use fields::frame::Stamp;
 const DAY: u64 = 86400;
 
 // What `age` answers: 0 with the age in seconds, 0 with one of two words, 19.
-#[derive(Drop)]
+#[derive(Clone, Copy)]
 pub enum Aged {
     Seconds(u64),
     Ahead,

@@ -1,6 +1,8 @@
 // What fields mean, for whoever asks: a stamp's moment, a position's minutes, a level's numbers. What is held of a field is
 // its text; nothing here changes it.
 
+#![tactic(auto)]
+
 pub mod ages;
 
 ghost use Rattle.std.specs.Prelude.{◌≡◌, ◌≤◌, length, take};
@@ -13,7 +15,7 @@ use rules::clocks;
 use text::{Numeral, Written, writing};
 
 // Day, hour, minute, second, and the seconds since the day began.
-#[derive(Drop)]
+#[derive(Clone, Copy)]
 pub struct Moment {
     pub day: u64,
     pub hour: u64,
@@ -22,20 +24,20 @@ pub struct Moment {
     pub seconds: u64,
 }
 
-#[derive(Drop)]
+#[derive(Clone, Copy)]
 pub enum When {
     At(Moment),
     NotOne,
 }
 
 // Latitude and longitude in minutes; north and east are positive.
-#[derive(Drop)]
+#[derive(Clone, Copy)]
 pub enum Minutes {
     At(i64, i64),
     NotOne,
 }
 
-#[derive(Drop)]
+#[derive(Clone, Copy)]
 pub enum Levels {
     One(u64),
     Block(u64, u64),

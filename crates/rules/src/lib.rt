@@ -1,6 +1,8 @@
 // Document 01's field rules as tests on bytes, single rules first and then the rule of each kind by its letter; those of stamps, clocks
 // and times stand in `clocks`. And the frame of a line: where its parts stand, and how long it may be.
 
+#![tactic(auto)]
+
 pub mod clocks;
 
 ghost use Rattle.std.specs.Prelude.{◌≡◌, ◌&&◌, cond, ◌%◌, leb};
@@ -16,7 +18,7 @@ use shapes::{find, is_of, one_of, run};
 use text::Numeral;
 
 // The two rules for lines: that of the feed, and that of the old feed, which ended in 1999. The caller names the one meant.
-#[derive(Drop)]
+#[derive(Clone, Copy)]
 pub enum Rule {
     New,
     Old,

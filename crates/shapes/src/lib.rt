@@ -1,6 +1,8 @@
 // What the rules of fields are made of, as tests on bytes: a picture, a run of one class, and the place of a byte. Nothing here knows
 // which fields there are.
 
+#![tactic(auto)]
+
 pub mod sweeps;
 
 ghost use Rattle.std.specs.Prelude.{◌≡◌, ◌&&◌, leb};

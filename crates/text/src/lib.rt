@@ -1,6 +1,8 @@
 // Short texts of capitals, digits and '/', at most 12 bytes, each held as one u64: 12 places of base 38, left-justified,
 // 0 for no byte, '0'..'9' 1 to 10, 'A'..'Z' 11 to 36, '/' 37. Digits to any base. Nothing here knows of lines or fields.
 
+#![tactic(auto)]
+
 pub mod decimals;
 pub mod writing;
 
@@ -10,27 +12,27 @@ ghost use Rattle.text.specs.Code.{code_of};
 ghost use Rattle.text.specs.Number.{read_number};
 ghost use Rattle.text.specs.Text.{is_text, packed, pack_of};
 
-#[derive(Drop)]
+#[derive(Clone, Copy)]
 pub enum Packed {
     Text(u64),
     Nothing,
 }
 
-#[derive(Drop)]
+#[derive(Clone, Copy)]
 pub enum Sized {
     Bytes(usize),
     NotOne,
 }
 
 // What a writer answers: the place after what it wrote; no room from the given place; or nothing that can be written.
-#[derive(Drop)]
+#[derive(Clone, Copy)]
 pub enum Written {
     Next(usize),
     NoRoom,
     NoText,
 }
 
-#[derive(Drop)]
+#[derive(Clone, Copy)]
 pub enum Numeral {
     Value(u64),
     Nothing,

@@ -1,0 +1,19 @@
+-- `fields::aircraft::word` meets its contract. Assumes nothing.
+use mathlib.Core.Path.{sym, ap, ◌∙◌}
+use borrow.Author.Tests.{eq-eqb, ne_eqb}
+use Rattle.fields.specs.Aircraft.{after_prefix, aircraft_word}
+use Rattle.fields.proofs.aircraft.word.Goals as goal
+
+pub returns-in_default : goal.returns-in_default
+unfolding aircraft_word
+returns-in_default c = ap (after_prefix _) (sym c.in_default.is ∙ c.pair_word.ensures)
+
+pub returns-then-a-eq0 : goal.returns-then-a-eq0
+unfolding aircraft_word
+returns-then-a-eq0 c =
+    (rw (eq-eqb _ _ c.if-a-eq0.true)) ∙ ap (after_prefix _) (sym c.in-Text.is ∙ c.pair_word.ensures)
+
+pub returns : goal.returns
+unfolding aircraft_word
+returns c =
+    c.join.ensures ∙ (rw (ne_eqb _ _ c.if-a-eq0.false)) ∙ ap (after_prefix _) (sym c.in-Text.is ∙ c.pair_word.ensures)

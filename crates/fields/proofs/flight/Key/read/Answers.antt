@@ -1,0 +1,10 @@
+-- `fields::flight::Key::read` meets its contract: it hands on what was read. Assumes nothing.
+use mathlib.Core.Path.{sym, ap, ◌∙◌}
+use Rattle.fields.specs.Typed.{as_key}
+use Rattle.fields.proofs.flight.Key.read.Goals as goal
+
+pub returns-in_default : goal.returns-in_default
+returns-in_default c = ap as_key (sym c.in_default.is ∙ c.read.ensures)
+
+pub returns : goal.returns
+returns c = ap as_key (sym c.in-Text.is ∙ c.read.ensures)

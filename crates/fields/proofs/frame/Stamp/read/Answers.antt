@@ -1,0 +1,10 @@
+-- `fields::frame::Stamp::read` meets its contract: it hands on what was read. Assumes nothing.
+use mathlib.Core.Path.{sym, ap, ◌∙◌}
+use Rattle.fields.specs.Typed.{as_stamp}
+use Rattle.fields.proofs.frame.Stamp.read.Goals as goal
+
+pub returns-in_default : goal.returns-in_default
+returns-in_default c = ap as_stamp (sym c.in_default.is ∙ c.read.ensures)
+
+pub returns : goal.returns
+returns c = ap as_stamp (sym c.in-Text.is ∙ c.read.ensures)

@@ -1,0 +1,10 @@
+-- `fields::plan::Time::read` meets its contract: it hands on what was read. Assumes nothing.
+use mathlib.Core.Path.{sym, ap, ◌∙◌}
+use Rattle.fields.specs.Typed.{as_time}
+use Rattle.fields.proofs.plan.Time.read.Goals as goal
+
+pub returns-in_default : goal.returns-in_default
+returns-in_default c = ap as_time (sym c.in_default.is ∙ c.read.ensures)
+
+pub returns : goal.returns
+returns c = ap as_time (sym c.in-Text.is ∙ c.read.ensures)

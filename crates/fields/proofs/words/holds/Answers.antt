@@ -1,0 +1,33 @@
+-- `fields::words::holds` meets its contract: the text stands at the start of twelve bytes, and is tested there. Assumes nothing.
+use mathlib.Core.Path.{refl, sym, ◌∙◌}
+use native.Mathlib.Omega.{arith}
+use lib.Seq.{length-take-le}
+use Rattle.text.proofs.Laws.{shown_packed, shown_size, shown_text, text_short, twelve_room, no_text_known}
+use Rattle.fields.specs.Word.{is_word}
+use Rattle.fields.proofs.words.holds.Goals as goal
+
+pub slice_bounds-room-end : goal.slice_bounds-room-end
+slice_bounds-room-end c =
+    let p = c.put-written in
+    let told = sym p.ensures.value ∙ c.in-Next.is in
+    omega (arith, shown_size _ _ _ _ refl told p.ensures.out_after, text_short _ (shown_packed _ _ _ _ refl told p.ensures.out_after), p.auto.out)
+
+pub slice_bounds-is_form-end : goal.slice_bounds-is_form-end
+slice_bounds-is_form-end c =
+    let p = c.put-written in
+    let told = sym p.ensures.value ∙ c.in-Next.is in
+    sym (length-take-le _ _ (omega (arith, shown_size _ _ _ _ refl told p.ensures.out_after, text_short _ (shown_packed _ _ _ _ refl told p.ensures.out_after), p.auto.out)))
+
+pub returns-in-Next : goal.returns-in-Next
+unfolding is_word
+returns-in-Next c =
+    let p = c.put-written in
+    let told = sym p.ensures.value ∙ c.in-Next.is in
+    c.is_form.ensures ∙ rw (shown_text _ _ _ _ refl told p.ensures.out_after, shown_packed _ _ _ _ refl told p.ensures.out_after)
+
+pub returns-in-NoRoom : goal.returns-in-NoRoom
+returns-in-NoRoom c = absurd (twelve_room _ _ refl (sym c.put-written.ensures.value ∙ c.in-NoRoom.is))
+
+pub returns-in-NoText : goal.returns-in-NoText
+unfolding is_word
+returns-in-NoText c = rw (no_text_known _ _ _ (sym c.put-written.ensures.value ∙ c.in-NoText.is))
