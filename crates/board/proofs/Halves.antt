@@ -1,6 +1,6 @@
 -- The laws of the search by halves: what a look at one row tells of the rows before it and after it, and what is left. Assumes nothing.
 use Prim.Native.Nat.{ℕ, zero, suc, ◌+◌, ◌-◌, ◌/◌, ◌≤◌, ◌<◌}
-use native.Mathlib.Nat.{zero-add, le_of_suc-le-suc, not-suc-le-zero}
+use native.Mathlib.Nat.{le_of_suc-le-suc, not-suc-le-zero}
 use native.Mathlib.Omega.{arith}
 use mathlib.Core.Path.{◌≡◌, refl, sym, ap, ◌∙◌}
 use mathlib.Core.Bool.{Bool, true, false, cond}
@@ -10,41 +10,23 @@ use lib.Dec.{ltb, leb, eqb}
 use lib.ListN.{length, get_or, take, drop, length-drop}
 use lib.Seq.{drop-drop, get_or-drop, take_all}
 use Rattle.board.specs.Row.{row_of}
-use Rattle.board.specs.Rows.{key_of, Above, Rising, Place, At, Gap, further, find_in}
+use Rattle.board.specs.Rows.{key_of, Rising, Place, At, Gap, further, find_in}
 use Rattle.board.specs.Board.{rows_of, is_allowed, found_of}
 use Rattle.board.specs.Halving.{shift, place_among, key_at, half, half_from, Left}
 use Rattle.board.specs.declared.rows.Row.{Row}
 use Rattle.board.proofs.Allowed.{parts}
 use Rattle.board.proofs.Lookup.{above_rising}
 use Rattle.board.proofs.Order.{rising_test}
-use Rattle.board.proofs.Words.{row_next, get_d_read, key_at_lem, length-rows}
+use Rattle.board.proofs.Places.{shift_zero, shift_more, above_each, past_first}
+use Rattle.board.proofs.Words.{row_next, get_or_read, key_at_lem, length-rows}
 
 -- ---- places further on
-
-pub shift_zero : (f : Place) → f ≡ shift 0 f
-shift_zero (At i) = ap At (sym (zero-add i))
-shift_zero (Gap i) = ap Gap (sym (zero-add i))
-
-shift_more : (n : ℕ) (f : Place) → further (shift n f) ≡ shift (suc n) f
-shift_more n (At i) = ap At (omega arith)
-shift_more n (Gap i) = ap Gap (omega arith)
 
 shift_shift : (n m : ℕ) (f : Place) → shift n (shift m f) ≡ shift (n + m) f
 shift_shift n m (At i) = ap At (omega arith)
 shift_shift n m (Gap i) = ap Gap (omega arith)
 
 -- ---- a look at one row
-
-above_each : (j : ℕ) (rs : List Row) (i : ℕ) (d : Row) → Above j rs → i < length rs → j < key_of (get_or rs i d)
-above_each j [] i d a h = absurd (not-suc-le-zero h)
-above_each j (x ∷ xs) zero d a h = a.0
-above_each j (x ∷ xs) (suc i) d a h =
-    let lt : j < key_of x = a.0 in
-    omega (arith, above_each (key_of x) xs i d a.1 (le_of_suc-le-suc h))
-
-past_first : (x : Row) (xs : List Row) (k : ℕ) → key_of x < k → find_in (x ∷ xs) k ≡ further (find_in xs k)
-past_first x xs k h =
-    ap (λ (b : Bool). cond b (further (find_in xs k)) (cond (eqb (key_of x) k) (At 0) (Gap 0))) (lt-ltb (key_of x) k h)
 
 -- a key that is not before that of row i stands, or would go, from row i on
 found_from : (rs : List Row) (k i m : ℕ) (d : Row) → Rising rs → i < length rs → i ≤ m → key_of (get_or rs i d) ≤ k
@@ -98,7 +80,7 @@ module _ (rs : List Row) (k first width i : ℕ) (d : Row) (h : i < width) (in_r
 module _ (l : List ℕ) (k : ℕ) where
   key_there : (i : ℕ) (d : Row) → i < get_or l 0 0 → key_of (get_or (rows_of l) i d) ≡ key_at l i
   unfolding rows_of
-  key_there i d h = ap key_of (get_d_read (get_or l 0 0) i (drop 1 l) d h) ∙ key_at_lem l i
+  key_there i d h = ap key_of (get_or_read (get_or l 0 0) i (drop 1 l) d h) ∙ key_at_lem l i
 
   -- after a look at the middle row
   module _ (first width : ℕ) (h : 1 < width) (in_rows : first + width ≤ get_or l 0 0) where

@@ -1,19 +1,12 @@
 -- How many looks a search takes, over the width: half of the rows is left after each, so 2 ^ m rows take one more than m. Assumes nothing.
-use Prim.Native.Nat.{ℕ, zero, suc, ◌^◌, ◌≤◌, ◌<◌}
+use Prim.Native.Nat.{ℕ, zero, suc, ◌≤◌, ◌<◌}
 use native.Mathlib.Nat.{not-suc-le-zero}
 use native.Mathlib.Omega.{arith}
 use mathlib.Core.Path.{◌≡◌, refl, sym, ap, ◌∙◌}
 use mathlib.Core.Bool.{Bool, true, false, cond}
-use mathlib.Core.List.{List}
-use mathlib.Core.Logic.{◌⊎◌, inl, inr}
-use borrow.Author.Tests.{leb-true, leb-false, le-leb, lt-leb}
+use borrow.Author.Tests.{leb-false, le-leb, lt-leb}
 use lib.Dec.{leb}
-use lib.ListN.{length}
-use Rattle.board.specs.Rows.{CAP}
-use Rattle.board.specs.Board.{rows_of, is_allowed}
 use Rattle.board.specs.Halving.{half, looks_in, looks}
-use Rattle.board.proofs.Allowed.{cap_is, parts}
-use Rattle.board.proofs.Words.{length-rows}
 
 -- as many halvings counted as there are rows are enough
 enough : (n m width : ℕ) → width ≤ n → width ≤ m → looks_in n width ≡ looks_in m width

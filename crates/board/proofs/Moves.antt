@@ -43,8 +43,8 @@ module _ (l : List ℕ) (e w : ℕ) (fits : e + w ≤ length l) where
       (sym (ap (λ (k : ℕ). take k (drop j l)) e₂ ∙ ap (take (suc (e - suc j))) (drop-cons l j 0 j-in)))
 
 -- past what was pasted a list is what it was
-pub get_d_paste_past : (d : List ℕ) (at : ℕ) (s : List ℕ) (n k : ℕ) → at ≤ length d → n ≤ length s → get_or (paste d at s n) (at + n + k) 0 ≡ get_or d (at + n + k) 0
-get_d_paste_past d at s n k hd hs =
+pub get_or_paste_past : (d : List ℕ) (at : ℕ) (s : List ℕ) (n k : ℕ) → at ≤ length d → n ≤ length s → get_or (paste d at s n) (at + n + k) 0 ≡ get_or d (at + n + k) 0
+get_or_paste_past d at s n k hd hs =
     ap (λ (m : ℕ). get_or (paste d at s n) (m + k) 0) (sym (length_paste_head d at s n hd hs))
     ∙ get_or-append-add (take at d ++ take n s) (drop (at + n) d) k 0
     ∙ get_or-drop (at + n) d k 0
@@ -61,7 +61,7 @@ module _ (l : List ℕ) (p w n : ℕ) (fits : p + w + n ≤ length l) where
   -- a word past what moved is where it was
   pub slid_left_at : (k : ℕ) → get_or (slid_left l p n w) (p + n + k) 0 ≡ get_or l (p + n + k) 0
   unfolding slid_left
-  slid_left_at k = get_d_paste_past l p (drop (p + w) l) n k (omega arith) (simp length-drop (omega arith))
+  slid_left_at k = get_or_paste_past l p (drop (p + w) l) n k (omega arith) (simp length-drop (omega arith))
 
 pub slid_left_more : (l : List ℕ) (p w n : ℕ) → p + w + n < length l → set (slid_left l p n w) (p + n) (get_or l (p + w + n) 0) ≡ slid_left l p (suc n) w
 unfolding slid_left

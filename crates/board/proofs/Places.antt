@@ -1,5 +1,5 @@
 -- Where a key stands and what it shows; how many rows there are, and when one more has room. Assumes nothing.
-use Prim.Native.Nat.{ℕ, zero, suc, ◌+◌, ◌≤◌, ◌<◌}
+use Prim.Native.Nat.{ℕ, zero, suc, ◌≤◌, ◌<◌}
 use native.Mathlib.Nat.{zero-add, le_of_suc-le-suc, not-suc-le-zero}
 use native.Mathlib.Omega.{arith}
 use mathlib.Core.Path.{◌≡◌, refl, sym, ap, ◌∙◌}
@@ -10,6 +10,7 @@ use borrow.Author.Tests.{ltb-true, ltb-false, eqb-true, lt-ltb, le-ltb}
 use lib.ListN.{length, get_or, take, drop, length-set, length-append, length-take, length-drop}
 use lib.Dec.{ltb, eqb}
 use Rattle.board.specs.Rows.{CAP, key_of, Above, Rising, lookup, Place, At, Gap, further, find_in, written_at, fits_at, written, fits, struck_at, is_at, struck, is_listed}
+use Rattle.board.specs.Halving.{shift}
 use Rattle.board.specs.declared.rows.Row.{Row}
 use Rattle.board.proofs.Lookup.{none_below, above_rising}
 
@@ -93,3 +94,35 @@ length_new r rs h e room = go (find_in rs (key_of r)) (at_shown (key_of r) rs h 
     go : (p : Place) → is_at p ≡ false → length (written_at p r rs) ≡ suc (length rs)
     go (At i) s = absurd (false≢true (sym s))
     go (Gap i) s = ap (λ (b : Bool). length (cond b (take i rs ++ r ∷ drop i rs) rs)) (lt-ltb (length rs) CAP room) ∙ by i
+
+-- ---- where keys rise, a look at one row tells of all before it
+
+pub shift_zero : (f : Place) → f ≡ shift 0 f
+shift_zero (At i) = ap At (sym (zero-add i))
+shift_zero (Gap i) = ap Gap (sym (zero-add i))
+
+pub shift_more : (n : ℕ) (f : Place) → further (shift n f) ≡ shift (suc n) f
+shift_more n (At i) = ap At (omega arith)
+shift_more n (Gap i) = ap Gap (omega arith)
+
+pub above_each : (j : ℕ) (rs : List Row) (i : ℕ) (d : Row) → Above j rs → i < length rs → j < key_of (get_or rs i d)
+above_each j [] i d a h = absurd (not-suc-le-zero h)
+above_each j (x ∷ xs) zero d a h = a.0
+above_each j (x ∷ xs) (suc i) d a h =
+    let lt : j < key_of x = a.0 in
+    omega (arith, above_each (key_of x) xs i d a.1 (le_of_suc-le-suc h))
+
+pub past_first : (x : Row) (xs : List Row) (k : ℕ) → key_of x < k → find_in (x ∷ xs) k ≡ further (find_in xs k)
+past_first x xs k h =
+    ap (λ (b : Bool). cond b (further (find_in xs k)) (cond (eqb (key_of x) k) (At 0) (Gap 0))) (lt-ltb (key_of x) k h)
+
+-- a key above that of row i stands, or would go, among the rows after it
+pub find_after : (rs : List Row) (k i : ℕ) (d : Row) → Rising rs → i < length rs → key_of (get_or rs i d) < k
+    → find_in rs k ≡ shift (suc i) (find_in (drop (suc i) rs) k)
+find_after [] k i d up h q = absurd (not-suc-le-zero h)
+find_after (x ∷ xs) k zero d up h q = past_first x xs k q ∙ ap further (shift_zero (find_in xs k)) ∙ shift_more 0 (find_in xs k)
+find_after (x ∷ xs) k (suc i) d up h q =
+    let lt : key_of x < k = omega (arith, above_each (key_of x) xs i d up (le_of_suc-le-suc h)) in
+    past_first x xs k lt
+    ∙ ap further (find_after xs k i d (above_rising (key_of x) xs up) (le_of_suc-le-suc h) q)
+    ∙ shift_more (suc i) (find_in (drop (suc i) xs) k)

@@ -80,13 +80,13 @@ hold_flat (r ∷ rs) z t =
 
 -- ---- row i
 
-pub get_d_read : (n i : ℕ) (ws : List ℕ) (d : Row) → i < n → get_or (read_rows n ws) i d ≡ row_of (drop (W * i) ws)
+pub get_or_read : (n i : ℕ) (ws : List ℕ) (d : Row) → i < n → get_or (read_rows n ws) i d ≡ row_of (drop (W * i) ws)
 unfolding read_rows
-get_d_read zero i ws d h = absurd (not-suc-le-zero h)
-get_d_read (suc n) zero ws d h = refl
-get_d_read (suc n) (suc i) ws d h =
+get_or_read zero i ws d h = absurd (not-suc-le-zero h)
+get_or_read (suc n) zero ws d h = refl
+get_or_read (suc n) (suc i) ws d h =
     let e : W + W * i ≡ W * suc i = omega arith in
-    get_d_read n i (drop W ws) d (le_of_suc-le-suc h) ∙ ap row_of (drop-drop (W * i) W ws ∙ ap (λ (k : ℕ). drop k ws) e)
+    get_or_read n i (drop W ws) d (le_of_suc-le-suc h) ∙ ap row_of (drop-drop (W * i) W ws ∙ ap (λ (k : ℕ). drop k ws) e)
 
 -- a key, where it stands among the words
 pub key_at_lem : (l : List ℕ) (i : ℕ) → key_of (row_of (drop (W * i) (drop 1 l))) ≡ get_or l (1 + W * i) 0
@@ -102,13 +102,13 @@ row_next l n i h =
     let rs : List Row = read_rows n (drop 1 l) in
     let r : Row = row_of (drop (W * i) (drop 1 l)) in
     drop-cons rs i r (rw length-read h)
-    ∙ ap (λ (x : Row). x ∷ drop (suc i) rs) (get_d_read n i (drop 1 l) r h)
+    ∙ ap (λ (x : Row). x ∷ drop (suc i) rs) (get_or_read n i (drop 1 l) r h)
     ∙ ap (λ (k : ℕ). r ∷ drop k rs) (sym (add-one i))
 
 -- the row that the words from row i on show
 pub row_there : (l : List ℕ) (i : ℕ) (d : Row) → i < get_or l 0 0 → row_of (drop (1 + W * i) l) ≡ get_or (rows_of l) i d
 unfolding rows_of
-row_there l i d h = ap row_of (sym (drop-drop (W * i) 1 l)) ∙ sym (get_d_read (get_or l 0 0) i (drop 1 l) d h)
+row_there l i d h = ap row_of (sym (drop-drop (W * i) 1 l)) ∙ sym (get_or_read (get_or l 0 0) i (drop 1 l) d h)
 
 -- what is left of the test from row i on: row i, and what is left from row i + 1 on
 pub hold_next : (n i : ℕ) (ws : List ℕ) → i < n

@@ -4,7 +4,7 @@ ghost use Rattle.board.specs.Board.{W, is_allowed};
 ghost use Rattle.board.specs.Halving.{half_from, Left};
 
 // One look: the first row of the half that is left. Either half has width - width / 2 rows.
-pub fn half_left(board: &[u64], key: u64, first: usize, width: usize) -> usize
+pub(crate) fn half_left(board: &[u64], key: u64, first: usize, width: usize) -> usize
     requires { (0 < width) × (1 + W * (first + width) ≤ length board.now) }
     ensures { result ≡ half_from board.now key first width }
 {
@@ -17,7 +17,7 @@ pub fn half_left(board: &[u64], key: u64, first: usize, width: usize) -> usize
 
 // Of `width` rows from row `first` on, the one that is left when they are halved until one is. The board is lent on as
 // &board[..], since a slice that is handed on as it came is copied at each call.
-pub fn one_left(board: &[u64], key: u64, first: usize, width: usize) -> usize
+pub(crate) fn one_left(board: &[u64], key: u64, first: usize, width: usize) -> usize
     requires { (is_allowed board.now ≡ true) × (0 < width) × (first + width ≤ get_or board.now 0 0) }
     ensures { Left board.now key first width result }
 {

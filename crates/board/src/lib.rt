@@ -1,6 +1,8 @@
 // The board, in words that the caller lends: word 0 the count of rows, then 256 rows of eleven words, unused words 0. Which words
 // are allowed, and the board without rows; `listing` finds, writes and strikes.
 
+#![tactic(auto)]
+
 pub mod halving;
 pub mod keeping;
 pub mod listing;
@@ -15,21 +17,21 @@ use crate::rows::is_row;
 use crate::slides::clear;
 
 // Where a key stands, or the place where it would go.
-#[derive(Drop)]
+#[derive(Clone, Copy)]
 pub enum Found {
     At(usize),
     Gap(usize),
 }
 
 // What `listing::write` answers: 0, 12.
-#[derive(Drop)]
+#[derive(Clone, Copy)]
 pub enum Done {
     Written,
     Full,
 }
 
 // What `listing::strike` answers: 0, 14.
-#[derive(Drop)]
+#[derive(Clone, Copy)]
 pub enum Struck {
     Gone,
     Missing,

@@ -8,7 +8,7 @@ use fields::plan::Point;
 use fields::track::{ArrivalClock, GroundSpeed, Position, TrackLevel};
 
 // What a DZ or an AZ writes; the stamp is that of its line.
-#[derive(Drop)]
+#[derive(Clone, Copy)]
 pub struct Arrival {
     pub departure: Point,
     pub destination: Point,
@@ -17,7 +17,7 @@ pub struct Arrival {
 }
 
 // What a TZ writes; the stamp is that of its line.
-#[derive(Drop)]
+#[derive(Clone, Copy)]
 pub struct Track {
     pub speed: GroundSpeed,
     pub level: TrackLevel,
@@ -25,19 +25,19 @@ pub struct Track {
     pub stamp: Stamp,
 }
 
-#[derive(Drop)]
+#[derive(Clone, Copy)]
 pub enum ArrivalSlot {
     Empty,
     Entry(Arrival),
 }
 
-#[derive(Drop)]
+#[derive(Clone, Copy)]
 pub enum TrackSlot {
     Empty,
     Entry(Track),
 }
 
-#[derive(Drop)]
+#[derive(Clone, Copy)]
 pub struct Row {
     pub key: Key,
     pub arrival: ArrivalSlot,

@@ -167,9 +167,9 @@ line_3 κs a r s p e n = p.0 ∙ rw (e, lines_of_two, n)
 -- ---- a line kept
 
 -- its bytes and a line feed, and where it begins in the run
-pub keeps_without_line_feed : (κs : _) (a : _) (r : _) (s : _) → keep-line.Post κs a r s → now a.0 ≡ bytes "AB" → now a.1.0 ≡ 10 ∷ 0 ∷ 0 ∷ 0 ∷ 7 ∷ []
-    → now a.1.1.0 ≡ 0 ∷ 9 ∷ [] → a.1.1.1.0 ≡ record { at = 1; count = 1 }
-    → (r ≡ kept.Next (record { at = 4; count = 2 })) × (now s.1.0 ≡ 10 ∷ 65 ∷ 66 ∷ 10 ∷ 7 ∷ []) × (now s.1.1.0 ≡ 0 ∷ 1 ∷ [])
+pub keeps_without_line_feed : (κs : _) (a : _) (r : _) (s : _) → keep-line.Post κs a r s → a.0.now ≡ bytes "AB" → a.1.0.now ≡ 10 ∷ 0 ∷ 0 ∷ 0 ∷ 7 ∷ []
+    → a.1.1.0.now ≡ 0 ∷ 9 ∷ [] → a.1.1.1.0 ≡ record { at = 1; count = 1 }
+    → (r ≡ kept.Next (record { at = 4; count = 2 })) × (s.1.0.now ≡ 10 ∷ 65 ∷ 66 ∷ 10 ∷ 7 ∷ []) × (s.1.1.0.now ≡ 0 ∷ 1 ∷ [])
 unfolding kept_of is_full has_place has_room has up_to out_after run_after spliced
 keeps_without_line_feed κs a r s p l o f q =
     let e : r ≡ kept.Next (record { at = 4; count = 2 }) = p.0 ∙ rw (l, o, f, q) in

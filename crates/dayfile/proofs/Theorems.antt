@@ -62,7 +62,7 @@ opens_each_file κs a r s p ls run e = p ∙ rw e (opens_file version1 sound_1 l
 -- ---- AND THEN THE LINES HANDED BACK, ONE BY ONE, ARE THESE: the line with the number k + 1 is the k-th, and lies in the file after those before it
 
 pub hands_back : (κs : _) (a : _) (r : _) (s : _) → line.Post κs a r s → (ls : List (List ℕ)) → is_run version1 ls ≡ true → a.0.now ≡ file_of version1 ls
-    → (k : ℕ) → k < length ls → a.1.0 ≡ k + 1 → (r.now ≡ get_or ls k []) × (r.ref_ptr ≡ starts_at a.0.ptr (length (lines_text (take k ls))))
+    → (k : ℕ) → k < length ls → a.1.0 ≡ k + 1 → (r.now ≡ get_or ls k []) × (r.ref_ptr ≡ starts_at a.0.ref_ptr (length (lines_text (take k ls))))
 hands_back κs a r s p ls run e k h n =
     let l : lines_in version1 a.0.now ≡ ls = rw e (lines_file version1 sound_1 ls run) in
     let m = numbered_at ls k a.1.0 h n in
@@ -70,7 +70,7 @@ hands_back κs a r s p ls run e k h n =
 
 -- of a number that no line has, an empty part at the start
 pub hands_nothing : (κs : _) (a : _) (r : _) (s : _) → line.Post κs a r s → (ls : List (List ℕ)) → is_run version1 ls ≡ true → a.0.now ≡ file_of version1 ls
-    → (a.1.0 ≡ 0) ⊎ (length ls < a.1.0) → (r.now ≡ []) × (r.ref_ptr ≡ starts_at a.0.ptr 0)
+    → (a.1.0 ≡ 0) ⊎ (length ls < a.1.0) → (r.now ≡ []) × (r.ref_ptr ≡ starts_at a.0.ref_ptr 0)
 hands_nothing κs a r s p ls run e n =
     let l : lines_in version1 a.0.now ≡ ls = rw e (lines_file version1 sound_1 ls run) in
     let m = numbered_none ls a.1.0 n in

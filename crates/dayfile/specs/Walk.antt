@@ -1,5 +1,5 @@
 -- Lines walked beside their offsets, from a place of the file on. Assumes nothing.
-use Rattle.std.specs.Prelude.{ℕ, ◌+◌, ◌≤◌, ◌≡◌, true, cond, ◌&&◌, List, [], ◌⊎◌, leb, length, take, drop, get_or}
+use Rattle.std.specs.Prelude.{ℕ, ◌+◌, ◌≤◌, ◌≡◌, true, cond, ◌&&◌, List, ◌⊎◌, leb, length, take, drop, get_or}
 use Rattle.shapes.specs.Cut.{up_to, has}
 use Rattle.rules.specs.Frame.{line_feed, longest_line}
 use Rattle.dayfile.specs.DayFile.{lines_text, starts_from, each_may_keep}

@@ -1,6 +1,8 @@
 // The day file (document 02, a): the lines of a day, each with its line feed, then an index of their offsets, then a trailer. A file is opened whatever its bytes
 // are, a line is handed back as a part of it; lines are kept one by one in a buffer and a run of offsets that the caller lends, and then the file is ended (`ending`).
 
+#![tactic(auto)]
+
 pub mod ending;
 pub mod numbers;
 pub mod walking;
@@ -25,7 +27,7 @@ pub const MOST_LINES: usize = 65535;
 const TOO_FAR: usize = 4294967296;
 
 // What a trailer has beside the start of the index: how many bytes its number of lines takes, its version, and how many lines there may be.
-#[derive(Drop)]
+#[derive(Clone, Copy)]
 pub struct Trailer {
     pub wide: usize,
     pub version: usize,
@@ -33,14 +35,14 @@ pub struct Trailer {
 }
 
 // How many lines a file has, and where its index starts.
-#[derive(Drop)]
+#[derive(Clone, Copy)]
 pub struct Contents {
     pub lines: usize,
     pub start: usize,
 }
 
 // What `open` answers: 0, 20, 21, 22, 23.
-#[derive(Drop)]
+#[derive(Clone, Copy)]
 pub enum Opened {
     Day(Contents),
     TooShort,
@@ -50,14 +52,14 @@ pub enum Opened {
 }
 
 // How far a file has been kept: the place after its last line, and how many lines there are.
-#[derive(Drop)]
+#[derive(Clone, Copy)]
 pub struct Place {
     pub at: usize,
     pub count: usize,
 }
 
 // What `keep_line` answers: 0 with the place after the line, 2, 25, 24, 15.
-#[derive(Drop)]
+#[derive(Clone, Copy)]
 pub enum Kept {
     Next(Place),
     TooLong,
@@ -67,7 +69,7 @@ pub enum Kept {
 }
 
 // What `end_file` answers: 0 with the file's length, 13, 24, 15.
-#[derive(Drop)]
+#[derive(Clone, Copy)]
 pub enum Ended {
     Whole(usize),
     Disagree,

@@ -10,7 +10,7 @@ use rules::{LINE_FEED, LONGEST_LINE};
 use shapes::sweeps::find_far;
 
 // How many lines were walked, and how many bytes they have.
-#[derive(Drop)]
+#[derive(Clone, Copy)]
 pub struct Walked {
     pub lines: usize,
     pub used: usize,
@@ -79,7 +79,7 @@ pub(crate) fn walk_run(s: &[u8], offsets: &[u32]) -> Walked
 }
 
 // How far a file has been judged by its windows: the place after so many lines.
-#[derive(Drop)]
+#[derive(Clone, Copy)]
 pub struct Sweep {
     pub at: usize,
     pub lines: usize,

@@ -66,7 +66,7 @@ route_with_its_space κs a r s p n e = p.0 ∙ ap (λ ρ. free_of ρ a.1.0.now) 
 
 -- of two equal fields the route is the one after the number 10: the part that is handed back lies 36 bytes after the line's first
 pub an_equal_field_for_the_route : (κs : _) (a : _) (r : _) (s : _) → free.Post κs a r s → a.0 ≡ New → a.1.0.now ≡ bytes "000106081500KZAAAF QQX12 ABC ABC 10 ABC"
-    → (r.now ≡ bytes "ABC") × (r.ref_ptr ≡ starts_at a.1.0.ptr 36)
+    → (r.now ≡ bytes "ABC") × (r.ref_ptr ≡ starts_at a.1.0.ref_ptr 36)
 unfolding free_of free_at type_by type_of fits is_of route_by route_at_by table_by route_of route_at route_in route_from fields_of ended pieces plain trace_of content_of mark_of
 an_equal_field_for_the_route κs a r s p n e = (
   p.0 ∙ ap (λ ρ. free_of ρ a.1.0.now) n ∙ ap (free_of New) e,

@@ -8,13 +8,11 @@ use native.Mathlib.Omega.{arith}
 use borrow.Author.Tests.{eqb-true}
 use Rattle.rules.specs.declared.Rule.{Rule}
 use Rattle.rules.specs.declared.Rule.TheVariants.{New, Old}
-use Rattle.messages.specs.Reading.{reading_of, message_of, old_reading_of, old_message_of}
-use Rattle.messages.specs.declared.Message.{Message}
-use Rattle.messages.specs.declared.OldMessage.{OldMessage}
+use Rattle.messages.specs.Reading.{message_of, old_reading_of, old_message_of}
 use Rattle.messages.specs.declared.Reading.{Reading}
 use Rattle.line.specs.Line.{line_by, is_allowed_by}
 use Rattle.line.specs.Messages.{MessageOf, reading_in, AnswerOf, answer_to, Took, number_of, place_of, read_as}
-use Rattle.line.specs.Read.{read_by, newly, oldly, read_of, old_read_of, number_by, place_by, line_number, line_place, old_number, old_place, free_of}
+use Rattle.line.specs.Read.{read_by, newly, oldly, read_of, old_read_of, number_by, place_by, free_of}
 use Rattle.line.specs.declared.LineRead.TheVariants as new
 use Rattle.line.specs.declared.OldRead.TheVariants as old
 use Rattle.line.specs.declared.RuleRead.{RuleRead}

@@ -14,7 +14,7 @@ use rules::{
 use text::Packed;
 
 // What stands before the body, as numbers; the sequence number of an old line, which has none, is 0.
-#[derive(Drop)]
+#[derive(Clone, Copy)]
 pub struct Head {
     pub sequence: u64,
     pub stamp: u64,
@@ -22,7 +22,7 @@ pub struct Head {
     pub kind: MessageType,
 }
 
-#[derive(Drop)]
+#[derive(Clone, Copy)]
 pub enum HeadRead {
     Read(Head),
     Refused(Refusal),

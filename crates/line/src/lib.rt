@@ -1,5 +1,7 @@
 // One line of the feed, or of the old feed: read as a message, and its free text handed back as a part of it.
 
+#![tactic(auto)]
+
 mod front;
 
 ghost use Rattle.std.specs.Prelude.{◌≡◌, ◌≤◌, length};
@@ -20,7 +22,7 @@ use shapes::sweeps;
 use table::walk::Fault;
 
 // Document 01's answers 1 to 7 and 11; and 8, 9 and 10 as the body's fault.
-#[derive(Drop)]
+#[derive(Clone, Copy)]
 pub enum Refusal {
     Short,
     Long,
@@ -91,20 +93,20 @@ impl Refusal {
     }
 }
 
-#[derive(Drop)]
+#[derive(Clone, Copy)]
 pub enum LineRead {
     Read(Message),
     Refused(Refusal),
 }
 
-#[derive(Drop)]
+#[derive(Clone, Copy)]
 pub enum OldRead {
     Read(OldMessage),
     Refused(Refusal),
 }
 
 // Under either rule.
-#[derive(Drop)]
+#[derive(Clone, Copy)]
 pub enum RuleRead {
     Read(Reading),
     Refused(Refusal),

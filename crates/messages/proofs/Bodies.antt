@@ -33,7 +33,6 @@ use Rattle.table.proofs.OldKinds.{kinds_allowed}
 use Rattle.table.proofs.Tables.{marks_kept}
 use Rattle.messages.specs.Body.{at, af_from, body_from, type_in, value_of_word, slots, field_count, values_in, spare, marks_in}
 use Rattle.messages.specs.Allowed.{all_none}
-use Rattle.messages.specs.declared.Af.{Af}
 use Rattle.messages.specs.declared.Body.{Body}
 use Rattle.messages.specs.declared.Body.TheVariants as body
 

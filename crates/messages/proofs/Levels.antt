@@ -23,7 +23,6 @@ use Rattle.messages.specs.Body.{amended_in, held_from, value_of_word, value_of_i
 use Rattle.messages.specs.Allowed.{is_whole, kinds_in, is_body}
 use Rattle.messages.specs.Levels.{level_in, amended_levels, levels_in}
 use Rattle.messages.specs.declared.Amendment.{Amendment}
-use Rattle.messages.specs.declared.Af.{Af}
 use Rattle.messages.specs.declared.Plan.{Plan}
 use Rattle.messages.specs.declared.Body.{Body}
 use Rattle.messages.specs.declared.Body.TheVariants as body

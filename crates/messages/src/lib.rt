@@ -1,6 +1,8 @@
 // A message: its head, its body by type, and whether a space stood at its end. A route and the body of RT, TO and HB
 // are not held: they stay a part of the line.
 
+#![tactic(auto)]
+
 pub mod typed;
 pub mod values;
 
@@ -17,7 +19,7 @@ use fields::track::{ArrivalClock, Clock, GroundSpeed, Position, TrackLevel};
 use table::kinds;
 use table::kinds::Value;
 
-#[derive(Drop)]
+#[derive(Clone, Copy)]
 pub struct Az {
     pub ident: Ident,
     pub from: Point,
@@ -25,7 +27,7 @@ pub struct Az {
     pub clock: ArrivalClock,
 }
 
-#[derive(Drop)]
+#[derive(Clone, Copy)]
 pub struct Dz {
     pub ident: Ident,
     pub aircraft: Aircraft,
@@ -35,14 +37,14 @@ pub struct Dz {
     pub clock: Clock,
 }
 
-#[derive(Drop)]
+#[derive(Clone, Copy)]
 pub struct Rz {
     pub ident: Ident,
     pub from: Point,
     pub to: Point,
 }
 
-#[derive(Drop)]
+#[derive(Clone, Copy)]
 pub struct Tz {
     pub ident: Ident,
     pub speed: GroundSpeed,
@@ -51,7 +53,7 @@ pub struct Tz {
 }
 
 // A flight plan: FZ and UZ.
-#[derive(Drop)]
+#[derive(Clone, Copy)]
 pub struct Plan {
     pub ident: Ident,
     pub aircraft: Aircraft,
@@ -61,14 +63,14 @@ pub struct Plan {
     pub level: Level,
 }
 
-#[derive(Drop)]
+#[derive(Clone, Copy)]
 pub enum PlanLevel {
     Requested(Level),
     Assigned(Level),
 }
 
 // The content of an amendment, by its number: 02, 03, 05, 06, 07, 08, 09, 10; or none.
-#[derive(Drop)]
+#[derive(Clone, Copy)]
 pub enum Amended {
     Ident(Ident),
     Aircraft(Aircraft),
@@ -82,14 +84,14 @@ pub enum Amended {
 }
 
 // An amendment as a message holds it: its number's mark and the words of its content; `amended` gives these their type.
-#[derive(Drop)]
+#[derive(Clone, Copy)]
 pub struct Amendment {
     pub mark: u64,
     pub content: Value,
 }
 
 // The amendments in their order, none after the last, and a mark for each number that came.
-#[derive(Drop)]
+#[derive(Clone, Copy)]
 pub struct Af {
     pub ident: Ident,
     pub from: Point,
@@ -105,7 +107,7 @@ pub struct Af {
     pub eighth: Amendment,
 }
 
-#[derive(Drop)]
+#[derive(Clone, Copy)]
 pub enum Body {
     Af(Af),
     Az(Az),
@@ -119,7 +121,7 @@ pub enum Body {
     Hb,
 }
 
-#[derive(Drop)]
+#[derive(Clone, Copy)]
 pub struct Message {
     pub sequence: Sequence,
     pub stamp: Stamp,
@@ -129,7 +131,7 @@ pub struct Message {
 }
 
 // A message of the old feed keeps what its line has: no sequence number, no day, no facility.
-#[derive(Drop)]
+#[derive(Clone, Copy)]
 pub struct OldMessage {
     pub stamp: OldStamp,
     pub center: Center,
@@ -138,7 +140,7 @@ pub struct OldMessage {
 }
 
 // What is read under either rule: the parts of the head as numbers, 0 for what the rule has not. Outside this reader and writer a message has its own type.
-#[derive(Drop)]
+#[derive(Clone, Copy)]
 pub struct Reading {
     pub sequence: u64,
     pub stamp: u64,

@@ -15,7 +15,7 @@ use table::kinds::Value;
 use table::walk::{Answer, Fault, TableRead};
 
 // What a body is read as, and whether a space stands at its end; or its fault.
-#[derive(Drop)]
+#[derive(Clone, Copy)]
 pub enum BodyRead {
     Read(Body, bool),
     Refused(Fault),

@@ -196,7 +196,7 @@ module _ (ks : List ℕ) (fs : List (List ℕ)) where
       go true q false e d p = rw (q, e) (ByForm (Time k) (right q) (λ z n. eqb-false (get_or s 0 0) (code "E") e n.has_E))
       go true q true e true p = rw (q, e, p) (ByForm (Time k) (right q) (λ z n. true_false p (ap (λ i. is_position (field_at fs i)) (suc_inj n.before) ∙ n.no_position)))
       go true q true e false p =
-          rw (q, e, p) (ERule (right q) (record { time = k; has_E = eqb-true (get_or s 0 0) (code "E") e; fix = j; before = refl; is_fix_lem = x; no_position = p }))
+          rw (q, e, p) (ERule (right q) (record { time = k; has_E = eqb-true (get_or s 0 0) (code "E") e; fix = j; before = refl; is_fix = x; no_position = p }))
 
   -- a content, after a number that is right
   content_own : (ρ : Rule) (j : ℕ) → kind_at ks (suc j) ≡ kind_by ρ CONTENT → kind_at ks j ≡ AMENDMENT → field_number (read_at ks fs j) ≡ 0

@@ -25,7 +25,6 @@ use Rattle.table.specs.Amends.{mark_of, content_of}
 use Rattle.table.specs.Fault.{has_form, FormCase, Readings, Formed, Unformed}
 use Rattle.table.specs.Field.{IDENT, TZ_IDENT, AIRCRAFT, ROUTE, PLAN_TIME, AMENDMENT, CONTENT, kind_by, trace_of, follows, plain, of_aircraft, read_kind, read_mark, barred, read_in}
 use Rattle.table.specs.Read.{field_number}
-use Rattle.table.specs.declared.kinds.FieldRead.TheVariants.{Read, Nothing}
 use Rattle.table.proofs.KindRules.{is_for, some_rule, no_rule, not_for, one_rule, is_content}
 
 -- ---- by its form

@@ -48,7 +48,7 @@ module _ (ks : List ℕ) (fs : List (List ℕ)) where
     pub has_E : get_or (field_at fs i) 0 0 ≡ code "E"
     pub fix : ℕ
     pub before : i ≡ suc fix
-    pub is_fix_lem : kind_at ks fix ≡ FIX
+    pub is_fix : kind_at ks fix ≡ FIX
     pub no_position : is_position (field_at fs fix) ≡ false
 
   -- the number in the field i stands in a number's field before it

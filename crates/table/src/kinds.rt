@@ -63,7 +63,7 @@ pub const KEPT_10: u64 = MARK_10 as u64;
 
 // What is kept of a field: its word; an ident's key and number; an aircraft's prefix, type and letter; of a route nothing.
 // Parts that a field has not are 0.
-#[derive(Drop)]
+#[derive(Clone, Copy)]
 pub struct Value {
     pub a: u64,
     pub b: u64,
@@ -71,7 +71,7 @@ pub struct Value {
 }
 
 // A field that is read; one without a reading (answer 9); a number that is none of the eight or came before (10).
-#[derive(Drop)]
+#[derive(Clone, Copy)]
 pub enum FieldRead {
     Read(Value),
     Nothing,

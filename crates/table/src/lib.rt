@@ -1,5 +1,7 @@
 // Document 01's table: which fields a type's body has, in order and how many; a body read by them, and its route.
 
+#![tactic(auto)]
+
 pub mod field;
 pub mod kinds;
 pub mod spacing;

@@ -6,7 +6,7 @@ use shapes::find;
 use shapes::sweeps::{has_twice, how_many};
 
 // How many fields, and whether a space stands at the end.
-#[derive(Drop)]
+#[derive(Clone, Copy)]
 pub enum Counted {
     Fields(usize, bool),
     Wrong,

@@ -11,7 +11,7 @@ use crate::{field, kinds, spacing};
 
 // What is wrong with a body: its spacing or its count of fields (answer 8), or the first field that is at fault, with its
 // place (9, 10).
-#[derive(Drop)]
+#[derive(Clone, Copy)]
 pub enum Fault {
     Spacing,
     Field(usize),
@@ -19,14 +19,14 @@ pub enum Fault {
 }
 
 // A body that is taken, whether a space stands at its end, and the marks of its amendments; or its fault.
-#[derive(Drop)]
+#[derive(Clone, Copy)]
 pub enum Answer {
     Taken(bool, u8),
     Refused(Fault),
 }
 
 // The answer, and the values of the fields that were read; after these only zeros.
-#[derive(Drop)]
+#[derive(Clone, Copy)]
 pub struct TableRead {
     pub answer: Answer,
     pub values: [Value; 19],

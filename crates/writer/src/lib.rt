@@ -1,5 +1,7 @@
 // A message written as its line, of the feed or of the old feed: what it takes is known before a byte is written.
 
+#![tactic(auto)]
+
 pub mod sizes;
 
 ghost use Rattle.std.specs.Prelude.{◌≡◌, length, take};
@@ -28,7 +30,7 @@ use text::writing::{has_room, put_bytes};
 use text::{Sized, Written};
 
 // Where a field's text ends, and its trace for the next one.
-#[derive(Drop)]
+#[derive(Clone, Copy)]
 pub struct Put {
     pub end: usize,
     pub trace: u8,

@@ -20,14 +20,14 @@ use table::{field_count, has_fields, has_route, has_type, is_count, kinds, kinds
 use text::{Sized, Written};
 
 // How long a field's text is, its trace for the next one, and the marks set after it.
-#[derive(Drop)]
+#[derive(Clone, Copy)]
 pub enum SizedField {
     Bytes(usize, u8, u8),
     NotOne,
 }
 
 // How long all fields are, each after a space, and the marks set in the end.
-#[derive(Drop)]
+#[derive(Clone, Copy)]
 pub enum SizedAll {
     Bytes(usize, u8),
     NotOne,

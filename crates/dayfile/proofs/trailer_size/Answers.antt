@@ -1,0 +1,8 @@
+-- `trailer_size` meets its contract. Assumes nothing.
+use mathlib.Core.Path.{refl}
+use Rattle.dayfile.specs.DayFile.{trailer_size}
+use Rattle.dayfile.proofs.trailer_size.Goals as goal
+
+pub returns : goal.returns
+unfolding trailer_size
+returns c = refl

@@ -1,0 +1,14 @@
+-- `line::read` meets its contract. Assumes nothing.
+use mathlib.Core.Path.{sym, ap, ◌∙◌}
+use Rattle.rules.specs.declared.Rule.TheVariants.{New}
+use Rattle.line.specs.Read.{newly, read_of}
+use Rattle.line.proofs.Cases.{told}
+use Rattle.line.proofs.read.Goals as goal
+
+pub returns-in-Read : goal.returns-in-Read
+unfolding read_of
+returns-in-Read c = let both = told New _ (ap newly (sym c.in-Read.is ∙ c.read_by-read.ensures)) in record { value = both.0; case = both.1 }
+
+pub returns-in-Refused : goal.returns-in-Refused
+unfolding read_of
+returns-in-Refused c = let both = told New _ (ap newly (sym c.in-Refused.is ∙ c.read_by-read.ensures)) in record { value = both.0; case = both.1 }

@@ -1,0 +1,13 @@
+-- `messages::Plan::filed_level` meets its contract. Assumes nothing.
+use borrow.Author.Tests.{eq-eqb, ne_eqb}
+use Rattle.messages.specs.Body.{plan_level}
+use Rattle.messages.proofs.Ways.{begins_p}
+use Rattle.messages.proofs.Plan.filed_level.Goals as goal
+
+pub returns-then-time-eq-P : goal.returns-then-time-eq-P
+unfolding plan_level
+returns-then-time-eq-P c = rw (begins_p c.args.self.time.0, eq-eqb _ _ c.if-time-eq-P.true)
+
+pub returns : goal.returns
+unfolding plan_level
+returns c = rw (begins_p c.args.self.time.0, ne_eqb _ _ c.if-time-eq-P.false)

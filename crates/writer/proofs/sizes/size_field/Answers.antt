@@ -1,0 +1,36 @@
+-- `writer::sizes::size_field` meets its contract: a field that is no route stands at the start of twelve bytes. Assumes nothing.
+use mathlib.Core.Path.{sym, ◌∙◌}
+use native.Mathlib.Omega.{arith}
+use lib.Seq.{length-take-le}
+use borrow.Author.Tests.{ne_eqb}
+use Rattle.text.proofs.Laws.{next_known, no_room_known, no_text_known}
+use Rattle.table.proofs.FieldLaws.{shown_short}
+use Rattle.writer.proofs.FieldSizes.{field_not, field_is}
+use Rattle.text.proofs.Wrote.{next_text}
+use Rattle.writer.proofs.sizes.size_field.Goals as goal
+
+pub slice_bounds-room-end : goal.slice_bounds-room-end
+slice_bounds-room-end c =
+    let p = c.put_field-written in
+    let k = next_known _ _ _ (sym p.ensures.value ∙ c.in-Next.is) in
+    omega (arith, k.1, k.2, p.auto.out)
+
+pub slice_bounds-size_text-end : goal.slice_bounds-size_text-end
+slice_bounds-size_text-end c =
+    let p = c.put_field-written in
+    let k = next_known _ _ _ (sym p.ensures.value ∙ c.in-Next.is) in
+    sym (length-take-le _ _ (omega (arith, k.1, k.2, p.auto.out)))
+
+pub returns-in-Next : goal.returns-in-Next
+returns-in-Next c =
+    let p = c.put_field-written in
+    let told = sym p.ensures.value ∙ c.in-Next.is in
+    c.size_text.ensures ∙ field_is _ _ _ _ _ (next_known _ _ _ told).0 _ (next_text _ _ _ told p.ensures.out_after)
+
+pub returns-in-NoRoom : goal.returns-in-NoRoom
+returns-in-NoRoom c =
+    let k = no_room_known _ _ _ (sym c.put_field-written.ensures.value ∙ c.in-NoRoom.is) in
+    absurd (omega (arith, k.1, shown_short _ _ _ _ k.0 (rw (← c.plain.ensures) (ne_eqb _ _ c.if-plain-eq-ROUTE.false))))
+
+pub returns-in-NoText : goal.returns-in-NoText
+returns-in-NoText c = field_not _ _ _ _ _ (no_text_known _ _ _ (sym c.put_field-written.ensures.value ∙ c.in-NoText.is))
