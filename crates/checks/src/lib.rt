@@ -1,5 +1,7 @@
 // Why was this line refused? For each line of a feed one line of text: its number, document 01's answer and place, its type and its flight's
 // key. Memory is fixed, whatever the feed; no board is needed. The caller names the rule by which the lines are read.
+#![tactic(auto)]
+
 ghost use Rattle.std.specs.Prelude.{◌≡◌, true, suc, ◌+◌, ◌≤◌, ◌<◌, ◌^◌, length, take};
 ghost use Rattle.text.specs.Text.{packed, spliced};
 ghost use Rattle.fields.specs.MessageType.{type_text};
@@ -23,14 +25,14 @@ use text::pack_known;
 pub const LONGEST_SAYING: usize = 90;
 
 // The rule by which lines are read, and whether the refused ones alone are told.
-#[derive(Drop)]
+#[derive(Clone, Copy)]
 pub struct Asked {
     pub rule: Rule,
     pub refused: bool,
 }
 
 // What is kept from part to part: the cutter's state, how many lines ended, and how many of these read.
-#[derive(Drop)]
+#[derive(Clone, Copy)]
 pub struct Sums {
     pub begun: Begun,
     pub lines: usize,
@@ -38,7 +40,7 @@ pub struct Sums {
 }
 
 // What is said of a line but for its number: document 01's answer and place, and the words of its type and its flight's key, 0 where there is none.
-#[derive(Drop)]
+#[derive(Clone, Copy)]
 pub struct Verdict {
     pub answer: u64,
     pub place: u64,
@@ -46,14 +48,14 @@ pub struct Verdict {
     pub key: u64,
 }
 
-#[derive(Drop)]
+#[derive(Clone, Copy)]
 pub enum Judged {
     Line(Verdict),
     Nothing,
 }
 
 // How far a step came: the counts, how many bytes of the part it used, and the place after what it wrote.
-#[derive(Drop)]
+#[derive(Clone, Copy)]
 pub struct Turn {
     pub sums: Sums,
     pub used: usize,
@@ -61,7 +63,7 @@ pub struct Turn {
 }
 
 // After a part: the counts, and how many bytes were written.
-#[derive(Drop)]
+#[derive(Clone, Copy)]
 pub struct Said {
     pub sums: Sums,
     pub size: usize,

@@ -14,7 +14,7 @@ use Rattle.shapes.proofs.Joins.{cut_whole, before_none, no_cut}
 use Rattle.shapes.proofs.Pieces.{pieces_one}
 use Rattle.board.specs.Board.{is_allowed as is_board}
 use Rattle.rules.specs.Frame.{line_feed}
-use Rattle.cutter.specs.Feed.{Line, TooLong}
+use Rattle.cutter.specs.Feed.{Line}
 use Rattle.cutter.specs.State.{State, state_in, is_allowed, more}
 use Rattle.cutter.specs.Calls.{start, held_closed, taken_of, cut_of, held_cut, line_in}
 use Rattle.cutter.specs.Cases.{told_by, CutCase, NotAllowed, NoLineFeed, LineEnded, OverlongEnded, CutIs}

@@ -1,4 +1,6 @@
 // A whole part of a feed: cut into its lines, each applied to the board, and counted.
+#![tactic(auto)]
+
 ghost use Rattle.std.specs.Prelude.{◌≡◌, true, [], length};
 ghost use Rattle.board.specs.Board.{rows_of, words_of, is_allowed as is_board};
 ghost use Rattle.history.specs.Steps.{rows_after, answer as answer_to};
@@ -15,14 +17,14 @@ use cutter::{Begun, CutAnswer, cut, line};
 use planner::{LineAnswer, apply_allowed};
 
 // What `feed` answers: 0, 13.
-#[derive(Drop)]
+#[derive(Clone, Copy)]
 pub enum FeedAnswer {
     Fed,
     NotAllowed,
 }
 
 // How much of the part was read, the cutter's state after it, how many lines ended in it, and how many of these were taken.
-#[derive(Drop)]
+#[derive(Clone, Copy)]
 pub struct AfterFeed {
     pub answer: FeedAnswer,
     pub used: usize,

@@ -99,8 +99,8 @@ module _ (s : List ℕ) (m : Message) (e : read_of s ≡ read.Read m) where
   reads_zero : line_number (read_of s) ≡ 0
   reads_zero = ap line_number e
 
-  stamp_at_lem : m.stamp.0 ≡ packed (part 4 8 s)
-  stamp_at_lem = word_at STAMP m.stamp.0 a.stamp_held (sym p.stamp)
+  stamp_at : m.stamp.0 ≡ packed (part 4 8 s)
+  stamp_at = word_at STAMP m.stamp.0 a.stamp_held (sym p.stamp)
 
   module _ (b : Body) (q : m.body ≡ b) where
     type_at : part 16 2 s ≡ type_text (type_in b)
@@ -136,7 +136,7 @@ module _ (s : List ℕ) (m : Message) (e : read_of s ≡ read.Read m) where
         departure = word_at POINT d.from.0 (from_dz d r t g) f.1.1.0;
         destination = word_at POINT d.to.0 (to_dz d r t g) f.1.1.1.1.0;
         clock = word_at CLOCK d.clock.0 (clock_dz d r t g) f.1.1.1.1.1.0;
-        stamp = stamp_at_lem;
+        stamp = stamp_at;
       }
   known_body (body.Az d) q =
       let f = (fields_at (body.Az d) q refl).stand in
@@ -150,7 +150,7 @@ module _ (s : List ℕ) (m : Message) (e : read_of s ≡ read.Read m) where
         departure = word_at POINT d.from.0 (from_az d r t g) f.1.0;
         destination = word_at POINT d.to.0 (to_az d r t g) f.1.1.0;
         clock = word_at ARRIVAL d.clock.0 (clock_az d r t g) f.1.1.1.0;
-        stamp = stamp_at_lem;
+        stamp = stamp_at;
       }
   known_body (body.Tz d) q =
       let f = (fields_at (body.Tz d) q refl).stand in
@@ -164,7 +164,7 @@ module _ (s : List ℕ) (m : Message) (e : read_of s ≡ read.Read m) where
         speed = word_at GROUND_SPEED d.speed.0 (speed_tz d r t g) f.1.0;
         level = word_at TRACK_LEVEL d.level.0 (level_tz d r t g) f.1.1.0;
         position = word_at POSITION d.position.0 (position_tz d r t g) f.1.1.1.0;
-        stamp = stamp_at_lem;
+        stamp = stamp_at;
       }
   known_body (body.Af d) q = other_at (body.Af d) q refl
   known_body (body.Fz d) q = other_at (body.Fz d) q refl

@@ -9,7 +9,7 @@ use fields::track::ArrivalClock;
 use line::{LineRead, Refusal};
 use messages::{Az, Body, Dz, Message, Tz};
 
-#[derive(Drop)]
+#[derive(Clone, Copy)]
 pub enum Asked {
     Dz(Key, Arrival),
     Az(Key, Arrival),

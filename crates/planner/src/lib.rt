@@ -1,5 +1,7 @@
 // A line or a strike on a board: what the ramp office's board does with what comes.
 
+#![tactic(auto)]
+
 pub mod asks;
 
 ghost use Rattle.std.specs.Prelude.{◌≡◌, true};
@@ -23,7 +25,7 @@ use fields::flight::{Key, KeyRead};
 use line::Refusal;
 
 // What `apply` answers: 0; the line's own answer; 13; 12.
-#[derive(Drop)]
+#[derive(Clone, Copy)]
 pub enum LineAnswer {
     Taken,
     Line(Refusal),
@@ -32,7 +34,7 @@ pub enum LineAnswer {
 }
 
 // What `strike` answers: 0; 9 with place 1; 13; 14.
-#[derive(Drop)]
+#[derive(Clone, Copy)]
 pub enum StrikeAnswer {
     Taken,
     NoKey,

@@ -1,5 +1,7 @@
 // The board as text: the line of flights and a line for each of them, and the line of what was read and taken.
 
+#![tactic(auto)]
+
 pub mod slips;
 
 ghost use Rattle.std.specs.Prelude.{◌≡◌, true, ◌+◌, ◌≤◌, length};
@@ -16,7 +18,7 @@ use text::writing::{has_room, put_bytes};
 use text::{Written, decimals};
 
 // What `print` answers: 0 with the place after the text; 15; 13.
-#[derive(Drop)]
+#[derive(Clone, Copy)]
 pub enum Printed {
     Next(usize),
     NoRoom,
