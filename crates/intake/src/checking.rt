@@ -5,19 +5,19 @@ ghost use Rattle.rules.specs.Frame.{longest_line};
 ghost use Rattle.checks.specs.Part.{longest_saying};
 ghost use Rattle.intake.specs.Desk.{Kept, Works, is_on, Whole, Done};
 
+use crate::ends::{Source, Target};
 use crate::input::Input;
 use crate::output::{Output, hand_over};
-use crate::{input, output};
+use crate::{STANDARD_ERROR, input, output};
 use checks::{Asked, LONGEST_SAYING, Sums, check};
 use cutter::Begun;
-use libc::STDERR_FILENO;
 use rules::LONGEST_LINE;
 
 // A line of text for each byte of a block, of which there are 4,096.
 const LONGEST_SAID: usize = 4096 * LONGEST_SAYING;
 
 // What is kept from block to block: where bytes come from, what was counted, and how much was handed over.
-#[derive(Drop)]
+#[derive(Clone, Copy)]
 pub struct Work {
     pub input: Input,
     pub sums: Sums,
@@ -44,6 +44,8 @@ fn check_block(
     held: &mut [u8],
     out: &mut [u8],
     work: Work,
+    source: &Source,
+    to: &Target,
 ) -> Work
     requires kept { Kept asked held.old work }
     requires work_value { is_on work ≡ true }
@@ -53,12 +55,12 @@ fn check_block(
     let before = work.input;
     let sums = work.sums;
     let output = work.output;
-    let input = input::next(before, name, block);
+    let input = input::next(before, name, block, source);
     let n = input::total(input) - input::total(before);
     let said = check(held, asked, sums, &block[..n], out);
     let size = said.size;
     let sums = said.sums;
-    let output = hand_over(output, input, asked, &out[..size]);
+    let output = hand_over(output, input, asked, &out[..size], to);
     Work {
         input,
         sums,
@@ -68,18 +70,19 @@ fn check_block(
 
 // Reads until no more comes, or what is said is no longer taken.
 fn check_all(
-    fd: i32,
+    source: &Source,
     name: &[u8],
     asked: Asked,
     block: &mut [u8],
     held: &mut [u8],
     out: &mut [u8],
+    to: &Target,
 ) -> Work
     requires held_len { length held.old ≡ longest_line }
     requires block_in_bounds { longest_saying * length block.old ≤ length out.old }
     ensures { Whole asked held.new result }
 {
-    let input = input::start(fd);
+    let input = input::start(source.number());
     let output = output::start();
     let sums = Sums {
         begun: Begun::Held(0),
@@ -93,14 +96,14 @@ fn check_all(
     };
     let mut on = true;
     while on {
-        work = check_block(name, asked, block, held, out, work);
+        work = check_block(name, asked, block, held, out, work, source, to);
         on = is_on(work);
     }
     work
 }
 
 // The unended rest of a feed that was read whole: a line of text for it, if there is one.
-fn finish(asked: Asked, held: &[u8], out: &mut [u8], work: Work) -> Work
+fn finish(asked: Asked, held: &[u8], out: &mut [u8], work: Work, to: &Target) -> Work
     requires whole { Whole asked held.now work }
     requires longest_saying_in_bounds { longest_saying ≤ length out.old }
     ensures { Done asked result }
@@ -112,7 +115,7 @@ fn finish(asked: Asked, held: &[u8], out: &mut [u8], work: Work) -> Work
         return work;
     }
     let size = checks::end(held, sums, out);
-    let output = hand_over(output, input, asked, &out[..size]);
+    let output = hand_over(output, input, asked, &out[..size], to);
     Work {
         input,
         sums,
@@ -120,28 +123,28 @@ fn finish(asked: Asked, held: &[u8], out: &mut [u8], work: Work) -> Work
     }
 }
 
-// Reads the feed that fd gives, to its end or to a read that fails, and hands over what is said of each of its lines.
-pub(crate) fn check_feed(fd: i32, name: &[u8], asked: Asked) -> Work
+// Reads the feed that the source gives, to its end or to a read that fails, and hands over what is said of each of its lines.
+pub(crate) fn check_feed(source: &Source, name: &[u8], asked: Asked, to: &Target) -> Work
     ensures { Done asked result }
 {
     let mut block = io::buffer();
     let mut held = [0u8; LONGEST_LINE];
     let mut out = [0u8; LONGEST_SAID];
-    let work = check_all(fd, name, asked, &mut block, &mut held, &mut out);
-    finish(asked, &held, &mut out, work)
+    let work = check_all(source, name, asked, &mut block, &mut held, &mut out, to);
+    finish(asked, &held, &mut out, work, to)
 }
 
 // A sum, on standard error.
 fn tell(name: &[u8], n: usize, after: &[u8]) {
-    io::write_all(STDERR_FILENO, name);
-    io::print_decimal(STDERR_FILENO, n as u64);
-    io::write_all(STDERR_FILENO, after);
+    io::write_all(STANDARD_ERROR, name);
+    io::print_decimal(STANDARD_ERROR, n as u64);
+    io::write_all(STANDARD_ERROR, after);
 }
 
 // For each line of the feed one line of text on standard output, and the sums on standard error. Where a read fails before a byte came, there is
 // nothing to sum up.
-pub fn run(fd: i32, name: &[u8], asked: Asked) {
-    let work = check_feed(fd, name, asked);
+pub fn run(source: &Source, name: &[u8], asked: Asked, to: &Target) {
+    let work = check_feed(source, name, asked, to);
     let input = work.input;
     if input::is_barren(input) {
         return;

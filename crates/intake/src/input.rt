@@ -1,11 +1,14 @@
-// THE EDGE: the one place where bytes come in. The kit's contract of `read` says how many bytes came, and not which: that they are the
-// first of the block is its word, and these few lines are what is left to the eye. Nothing outside this file can make an `Input`, so no
-// other code can say that bytes came, or that there are no more.
+// THE EDGE: bytes come in by `Source::read` of `ends`, which is called here alone. The kit's contract of a read says how many bytes came, and not which:
+// that they are the first of the block is its word, and these few lines and those of `ends` are what is left to the eye. Nothing outside this file can make an
+// `Input`, so no other code can say that bytes came, or that there are no more.
 ghost use Rattle.std.specs.Prelude.{◌≡◌, true, false, cond, eqb, length};
 ghost use Rattle.intake.specs.Edge.{Came};
 
+use crate::ends::Source;
+use crate::failure::fail;
+
 // Where bytes come from, how many have come, whether more may come, and whether a read failed.
-#[derive(Drop)]
+#[derive(Clone, Copy)]
 pub struct Input {
     fd: i32,
     total: usize,
@@ -37,25 +40,25 @@ fn closed(input: Input, failed: bool) -> Input
     }
 }
 
-// One read: how many bytes stand at the start of the block then is by how much the total has grown. A read that fails says so.
-pub fn next(input: Input, name: &[u8], block: &mut [u8]) -> Input
+// One read of the descriptor, which the source has open: how many bytes stand at the start of the block then is by how much the total has grown. A read that fails says so.
+pub fn next(input: Input, name: &[u8], block: &mut [u8], source: &Source) -> Input
     ensures { Came input (length block.new) result }
 {
     if block.len() > usize::MAX - input.total {
         return closed(input, false);
     }
-    let fd = input.fd;
-    let got = libc::read(fd, block);
-    if got < 0 {
-        os::fail(name);
-        return closed(input, true);
-    }
-    let n = io::count(got, &block[..]);
+    let n = match source.read(input.fd, block) {
+        Ok(n) => n,
+        Err(error) => {
+            fail(name, &error);
+            return closed(input, true);
+        }
+    };
     if n == 0 {
         return closed(input, false);
     }
     Input {
-        fd,
+        fd: input.fd,
         total: input.total + n,
         live: true,
         failed: false,

@@ -1,6 +1,12 @@
 // The board printer's work: a feed read to its end in large blocks, and its report. Memory is fixed, whatever the feed.
 
+#![tactic(auto)]
+
+pub mod arguments;
 pub mod checking;
+pub mod ends;
+pub mod failure;
+pub mod files;
 pub mod input;
 pub mod output;
 pub mod words;
@@ -10,14 +16,19 @@ ghost use Rattle.io.specs.Counts.{IsPrefixLen};
 ghost use Rattle.text.specs.Text.{spliced};
 ghost use Rattle.intake.specs.Day.{Kept, TakesIn, Reads, is_more, ReadWhole, Led, Fills, AtStart, is_torn, Reports};
 
+use crate::ends::{Source, Target};
 use crate::input::Input;
 use crate::output::hand_report;
 use cutter::{Begun, EndAnswer};
 use feeding::feed_allowed;
-use libc::STDERR_FILENO;
 use printer::{Printed, print, print_counts};
 use rules::LONGEST_LINE;
 use text::Written;
+
+// The descriptors that every program has to write to.
+pub const STANDARD_OUTPUT: i32 = 1;
+
+pub const STANDARD_ERROR: i32 = 2;
 
 // "It stops reading after 4,294,967,295 lines."
 const MOST_LINES: usize = 4294967295;
@@ -26,7 +37,7 @@ const MOST_LINES: usize = 4294967295;
 pub const LONGEST_REPORT: usize = 18300;
 
 // What is kept from block to block: where bytes come from, the cutter's state, and the counts.
-#[derive(Drop)]
+#[derive(Clone, Copy)]
 pub struct Day {
     pub input: Input,
     pub begun: Begun,
@@ -35,7 +46,7 @@ pub struct Day {
 }
 
 // Of a feed that was read: what was kept last, how many bytes its report has, and whether it ended inside a line (17).
-#[derive(Drop)]
+#[derive(Clone, Copy)]
 pub struct Reported {
     pub day: Day,
     pub size: usize,
@@ -70,22 +81,35 @@ fn take_in(board: &mut [u64], held: &mut [u8], day: Day, input: Input, block: &[
 }
 
 // One read, and what came taken in.
-fn read_block(name: &[u8], block: &mut [u8], board: &mut [u64], held: &mut [u8], day: Day) -> Day
+fn read_block(
+    name: &[u8],
+    block: &mut [u8],
+    board: &mut [u64],
+    held: &mut [u8],
+    day: Day,
+    source: &Source,
+) -> Day
     requires { Kept board.old held.old day }
     ensures { Reads board.old held.old day block.new board.new held.new result }
 {
     let before = day.input;
-    let input = input::next(before, name, block);
+    let input = input::next(before, name, block, source);
     let n = input::total(input) - input::total(before);
     take_in(board, held, day, input, &block[..n])
 }
 
 // Reads until no more comes.
-fn read_all(fd: i32, name: &[u8], block: &mut [u8], board: &mut [u64], held: &mut [u8]) -> Day
+fn read_all(
+    source: &Source,
+    name: &[u8],
+    block: &mut [u8],
+    board: &mut [u64],
+    held: &mut [u8],
+) -> Day
     requires { AtStart board.old held.old }
     ensures { ReadWhole board.new held.new result }
 {
-    let input = input::start(fd);
+    let input = input::start(source.number());
     let mut day = Day {
         input,
         begun: Begun::Held(0),
@@ -94,7 +118,7 @@ fn read_all(fd: i32, name: &[u8], block: &mut [u8], board: &mut [u64], held: &mu
     };
     let mut more = true;
     while more {
-        day = read_block(name, block, board, held, day);
+        day = read_block(name, block, board, held, day, source);
         more = is_more(day);
     }
     day
@@ -130,9 +154,9 @@ pub fn is_torn(held: &[u8], begun: Begun) -> bool
     }
 }
 
-// Reads the feed that fd gives, to its end, to a read that fails or to the last line that is read, and puts its report at the start of out; every
+// Reads the feed that the source gives, to its end, to a read that fails or to the last line that is read, and puts its report at the start of out; every
 // other byte stays.
-pub fn report(fd: i32, name: &[u8], out: &mut [u8; LONGEST_REPORT]) -> Reported
+pub fn report(source: &Source, name: &[u8], out: &mut [u8; LONGEST_REPORT]) -> Reported
     ensures prefix_len { IsPrefixLen result.size out.new }
     ensures reports { Reports result (take result.size out.new) }
     ensures out_after { out.new ≡ spliced out.old 0 (take result.size out.new) }
@@ -140,7 +164,7 @@ pub fn report(fd: i32, name: &[u8], out: &mut [u8; LONGEST_REPORT]) -> Reported
     let mut board = [0u64; 2817];
     let mut held = [0u8; LONGEST_LINE];
     let mut block = io::large_buffer();
-    let day = read_all(fd, name, &mut block, &mut board, &mut held);
+    let day = read_all(source, name, &mut block, &mut board, &mut held);
     let size = fill(&board, day, out);
     let begun = day.begun;
     let torn = is_torn(&held, begun);
@@ -149,16 +173,16 @@ pub fn report(fd: i32, name: &[u8], out: &mut [u8; LONGEST_REPORT]) -> Reported
 
 // A word about the feed, on standard error.
 pub fn say(name: &[u8], word: &[u8]) {
-    io::write_all(STDERR_FILENO, name);
-    io::write_all(STDERR_FILENO, b": ");
-    io::write_all(STDERR_FILENO, word);
-    io::write_all(STDERR_FILENO, b"\n");
+    io::write_all(STANDARD_ERROR, name);
+    io::write_all(STANDARD_ERROR, b": ");
+    io::write_all(STANDARD_ERROR, word);
+    io::write_all(STANDARD_ERROR, b"\n");
 }
 
-// Reads the feed and hands its report to standard output. Where a read fails before a byte came, there is nothing to report.
-pub fn run(fd: i32, name: &[u8]) {
+// Reads the feed and hands its report to standard output, which the caller brings. Where a read fails before a byte came, there is nothing to report.
+pub fn run(source: &Source, name: &[u8], to: &Target) {
     let mut out = [0u8; LONGEST_REPORT];
-    let reported = report(fd, name, &mut out);
+    let reported = report(source, name, &mut out);
     let day = reported.day;
     let input = day.input;
     if input::is_barren(input) {
@@ -171,5 +195,5 @@ pub fn run(fd: i32, name: &[u8]) {
         );
     }
     let size = reported.size;
-    hand_report(reported, &out[..size]);
+    hand_report(reported, &out[..size], to);
 }

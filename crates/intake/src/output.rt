@@ -1,25 +1,26 @@
-// THE OTHER EDGE: the one place where bytes go out. A report goes out whole, and is that of what came in; what is said of lines goes out piece by piece,
+// THE OTHER EDGE: bytes go out by `Target::write` of `ends`, which this room calls here alone. A report goes out whole, and is that of what came in; what is said of lines goes out piece by piece,
 // and nothing outside this file can make an `Output`, so no other code can say that bytes were handed over.
 ghost use Rattle.std.specs.Prelude.{◌≡◌, true, false, length};
 ghost use Rattle.intake.specs.Day.{Reports};
 ghost use Rattle.intake.specs.Desk.{Next, Handed};
 
-use crate::Reported;
+use crate::ends::Target;
+use crate::failure::fail;
 use crate::input::Input;
+use crate::{Reported, STANDARD_OUTPUT};
 use checks::Asked;
-use libc::STDOUT_FILENO;
 
 // The report of what came in, and nothing else.
-pub(crate) fn hand_report(reported: Reported, text: &[u8])
+pub(crate) fn hand_report(reported: Reported, text: &[u8], to: &Target)
     requires { Reports reported text.now }
 {
-    if !io::write_all(STDOUT_FILENO, text) {
-        os::fail(b"standard output");
+    if let Err(error) = to.write(STANDARD_OUTPUT, text) {
+        fail(b"standard output", &error);
     }
 }
 
 // How many bytes were handed to standard output, and whether it takes more.
-#[derive(Drop)]
+#[derive(Clone, Copy)]
 pub struct Output {
     total: usize,
     live: bool,
@@ -45,15 +46,21 @@ fn closed(output: Output) -> Output
 }
 
 // What is said next of what came in, and nothing else.
-pub(crate) fn hand_over(output: Output, input: Input, asked: Asked, text: &[u8]) -> Output
+pub(crate) fn hand_over(
+    output: Output,
+    input: Input,
+    asked: Asked,
+    text: &[u8],
+    to: &Target,
+) -> Output
     requires { Next asked input.total output.total text.now }
     ensures { Handed output (length text.now) result }
 {
     if text.len() > usize::MAX - output.total {
         return closed(output);
     }
-    if !io::write_all(STDOUT_FILENO, text) {
-        os::fail(b"standard output");
+    if let Err(error) = to.write(STANDARD_OUTPUT, text) {
+        fail(b"standard output", &error);
         return closed(output);
     }
     Output {

@@ -28,7 +28,7 @@ pub fn is_option(word: &[u8]) -> bool
 }
 
 // What is asked for with an option more, or nothing: the word is no option, or one that was given already.
-#[derive(Drop)]
+#[derive(Clone, Copy)]
 pub enum OptionRead {
     Asks(Asked),
     Nothing,

@@ -1,6 +1,6 @@
 -- What the promises of `keeper` require on feeds and files written out, and so wrong files and answers that they do not allow. `Pre` is what `shelf::put_day` and
 -- `shelf::put_lines` ask for, `Post` what `work::keep_feed` and `lists::look` promise. Assumes nothing.
-use Prim.Native.Nat.{ℕ, ◌+◌}
+use Prim.Native.Nat.{ℕ}
 use mathlib.Core.Bool.{true}
 use mathlib.Core.List.{List, [], ◌∷◌, ◌++◌}
 use mathlib.Core.Logic.{◌⊎◌, inl, inr}

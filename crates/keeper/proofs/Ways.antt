@@ -11,7 +11,7 @@ use types.Run.{OneOf, miss}
 use Rattle.text.specs.Text.{spliced, written_bytes}
 use Rattle.text.proofs.Laws.{has_room_lem}
 use Rattle.text.proofs.Splice.{length-spliced, take-spliced}
-use Rattle.cutter.specs.Feed.{Whole, TooLong}
+use Rattle.cutter.specs.Feed.{Whole}
 use Rattle.cutter.specs.Calls.{cut_number}
 use Rattle.cutter.specs.Cases.{told_by}
 use Rattle.cutter.specs.declared.CutAnswer.{CutAnswer}

@@ -6,10 +6,10 @@ ghost use Rattle.keeper.specs.Keep.{counted_line, TakesUp, Roomy, GoesOn, Steps}
 
 use cutter::{Begun, CutAnswer, cut, line};
 use dayfile::{Kept, MOST_LINES, Place, keep_from};
-use libc::STDERR_FILENO;
+use intake::STANDARD_ERROR;
 
 // What is kept from block to block: the cutter's state, how many lines were looked at, how far the file is, and whether a line did not fit.
-#[derive(Drop)]
+#[derive(Clone, Copy)]
 pub struct Keep {
     pub begun: Begun,
     pub lines: usize,
@@ -18,7 +18,7 @@ pub struct Keep {
 }
 
 // How far a step came: what is kept, how many bytes it used, and whether it left an overlong line out.
-#[derive(Drop)]
+#[derive(Clone, Copy)]
 pub struct Turn {
     pub keep: Keep,
     pub used: usize,
@@ -123,9 +123,9 @@ fn step(
 
 // A word about a line of the feed, on standard error.
 pub(crate) fn tell(line: usize, word: &[u8]) {
-    io::write_all(STDERR_FILENO, b"standard input: line ");
-    io::print_decimal(STDERR_FILENO, line as u64);
-    io::write_all(STDERR_FILENO, word);
+    io::write_all(STANDARD_ERROR, b"standard input: line ");
+    io::print_decimal(STANDARD_ERROR, line as u64);
+    io::write_all(STANDARD_ERROR, word);
 }
 
 // What is not kept is said as it comes.

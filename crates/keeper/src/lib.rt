@@ -1,5 +1,7 @@
 // A feed kept as a day file, and a day file's lines handed back: block by block, in fixed memory whatever the size.
 
+#![tactic(auto)]
+
 pub mod keep;
 pub mod lists;
 pub mod pass;

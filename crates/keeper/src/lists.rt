@@ -10,10 +10,14 @@ use crate::pass::{Pass, go_over};
 use crate::volume::{Filled, Volume};
 use crate::{shelf, volume};
 use dayfile::{Contents, Opened, open_tail, version_1};
+use intake::ends::Target;
+use intake::files::open;
 use intake::say;
+use std::fs::File;
+use std::rt::Files;
 
 // What a file answers, where it could be read.
-#[derive(Drop)]
+#[derive(Clone, Copy)]
 pub struct Looked {
     pub opened: Opened,
     pub read: bool,
@@ -29,7 +33,7 @@ pub(crate) fn open_end(size: usize, end: Filled, tail: &[u8]) -> Opened
 }
 
 // What a file's size and its last bytes tell: 20 to 22. The bytes are left in `tail`.
-pub(crate) fn look_at_end(volume: Volume, name: &[u8], tail: &mut [u8]) -> Looked
+pub(crate) fn look_at_end(volume: Volume, name: &[u8], tail: &mut [u8], file: &File) -> Looked
     requires size_bound { volume.size < 2 ^ 63 }
     requires tail_len { length tail.old ≡ 8 }
     ensures { result.read ≡ true → result.opened ≡ open_by version1 volume.size tail.new }
@@ -41,7 +45,7 @@ pub(crate) fn look_at_end(volume: Volume, name: &[u8], tail: &mut [u8]) -> Looke
             read: true,
         };
     }
-    let end = volume::fill(volume, name, size - 8, tail);
+    let end = volume::fill(volume, name, size - 8, tail, file);
     if !volume::is_filled(end) {
         return Looked {
             opened: Opened::TooShort,
@@ -67,12 +71,12 @@ fn verdict(day: Contents, pass: Pass) -> Opened
 }
 
 // What `dayfile::open` answers to the whole file, by its windows.
-pub(crate) fn look(volume: Volume, name: &[u8]) -> Looked
+pub(crate) fn look(volume: Volume, name: &[u8], file: &File, to: &Target) -> Looked
     requires { volume.size < 2 ^ 63 }
     ensures { result.read ≡ true → Judged volume.size result.opened }
 {
     let mut tail = [0u8; 8];
-    let told = look_at_end(volume, name, &mut tail);
+    let told = look_at_end(volume, name, &mut tail, file);
     if !told.read {
         return told;
     }
@@ -80,7 +84,7 @@ pub(crate) fn look(volume: Volume, name: &[u8]) -> Looked
     let Opened::Day(day) = opened else {
         return told;
     };
-    let pass = go_over(volume, name, day, false);
+    let pass = go_over(volume, name, day, false, file, to);
     let opened = verdict(day, pass);
     Looked {
         opened,
@@ -89,11 +93,11 @@ pub(crate) fn look(volume: Volume, name: &[u8]) -> Looked
 }
 
 // Puts the lines of a file that opens away, each judged again as it is read.
-pub(crate) fn list(volume: Volume, name: &[u8], day: Contents)
+pub(crate) fn list(volume: Volume, name: &[u8], day: Contents, file: &File, to: &Target)
     requires size_bound { volume.size < 2 ^ 63 }
     requires judged { Judged volume.size (Day day) }
 {
-    let pass = go_over(volume, name, day, true);
+    let pass = go_over(volume, name, day, true, file, to);
     if !pass.read {
         return;
     }
@@ -108,16 +112,16 @@ pub(crate) fn list(volume: Volume, name: &[u8], day: Contents)
 }
 
 // The lines of a file that opens; the number and the sentence of one that does not.
-fn answer(volume: Volume, name: &[u8])
+fn answer(volume: Volume, name: &[u8], file: &File, to: &Target)
     requires { volume.size < 2 ^ 63 }
 {
-    let looked = look(volume, name);
+    let looked = look(volume, name, file, to);
     if !looked.read {
         return;
     }
     let opened = looked.opened;
     match opened {
-        Opened::Day(day) => list(volume, name, day),
+        Opened::Day(day) => list(volume, name, day, file, to),
         Opened::TooShort => say(name, b"no day file: under eight bytes (answer 20)"),
         Opened::UnknownVersion => say(name, b"no day file: unknown version (answer 21)"),
         Opened::WrongLength => say(
@@ -131,16 +135,12 @@ fn answer(volume: Volume, name: &[u8])
     }
 }
 
-// Writes the lines of the day file that is named to standard output.
-pub fn run(name: &[u8]) {
-    let fd = os::open_read(name);
-    if fd < 0 {
-        os::fail(name);
-        return;
+// Writes the lines of the day file that is named to standard output, which the caller brings.
+pub fn run<R: Files<File = File>>(rt: &R, name: &[u8], to: &Target) {
+    if let Some(file) = open(rt, name) {
+        let volume = volume::measure(&file, name);
+        if volume::is_whole(volume) {
+            answer(volume, name, &file, to);
+        }
     }
-    let volume = volume::measure(fd, name);
-    if volume::is_whole(volume) {
-        answer(volume, name);
-    }
-    libc::close(fd);
 }

@@ -9,7 +9,9 @@ use crate::volume::{Filled, Volume};
 use crate::{shelf, volume};
 use dayfile::Contents;
 use dayfile::walking::{Sweep, least, sweep_on};
-use libc::STDOUT_FILENO;
+use intake::STANDARD_OUTPUT;
+use intake::ends::Target;
+use std::fs::File;
 
 // A window of the lines has room for any line; one of the index for so many offsets.
 const LINES: usize = 65536;
@@ -17,7 +19,7 @@ const LINES: usize = 65536;
 const INDEX: usize = 8192;
 
 // How far a pass came, where its lines were put, and whether each window could be read.
-#[derive(Drop)]
+#[derive(Clone, Copy)]
 pub struct Pass {
     pub sweep: Sweep,
     pub shelf: Shelf,
@@ -25,14 +27,14 @@ pub struct Pass {
 }
 
 // A pass that only judges puts nothing away.
-fn put(writes: bool, shelf: Shelf, text: &[u8]) -> Shelf
+fn put(writes: bool, shelf: Shelf, text: &[u8], to: &Target) -> Shelf
     requires { writes ≡ true → LinesPiece shelf.total text.now }
     ensures { Puts writes shelf (length text.now) result }
 {
     if !writes {
         return shelf;
     }
-    shelf::put_lines(shelf, b"standard output", text)
+    shelf::put_lines(shelf, b"standard output", text, to)
 }
 
 // How far two windows that were read bring the pass, and their lines put away.
@@ -44,6 +46,7 @@ pub(crate) fn judge(
     lines: &[u8],
     beside: Filled,
     index: &[u8],
+    to: &Target,
 ) -> Pass
     requires wide { Wide day pass.sweep lines.now index.now }
     requires read_from { ReadFrom pass.sweep.at lines.now shown }
@@ -55,7 +58,7 @@ pub(crate) fn judge(
     let shelf = pass.shelf;
     let next = sweep_on(day, sweep, lines, index);
     let used = next.at - sweep.at;
-    let shelf = put(writes, shelf, &lines[..used]);
+    let shelf = put(writes, shelf, &lines[..used], to);
     Pass {
         sweep: next,
         shelf,
@@ -85,6 +88,8 @@ pub(crate) fn turn(
     pass: Pass,
     lines: &mut [u8],
     index: &mut [u8],
+    file: &File,
+    to: &Target,
 ) -> Pass
     requires passing { Passing volume.size day writes pass }
     requires size_bound { (volume.size < 2 ^ 63) × (pass.shelf.live ≡ true) × (pass.sweep.lines < day.lines) }
@@ -93,17 +98,26 @@ pub(crate) fn turn(
 {
     let sweep = pass.sweep;
     let n = least(day.start - sweep.at, lines.len());
-    let shown = volume::fill(volume, name, sweep.at, &mut lines[..n]);
+    let shown = volume::fill(volume, name, sweep.at, &mut lines[..n], file);
     if !volume::is_filled(shown) {
         return unread(pass);
     }
     let m = least(4 * (day.lines - sweep.lines), index.len());
     let place = day.start + 4 * sweep.lines;
-    let beside = volume::fill(volume, name, place, &mut index[..m]);
+    let beside = volume::fill(volume, name, place, &mut index[..m], file);
     if !volume::is_filled(beside) {
         return unread(pass);
     }
-    judge(day, writes, pass, shown, &lines[..n], beside, &index[..m])
+    judge(
+        day,
+        writes,
+        pass,
+        shown,
+        &lines[..n],
+        beside,
+        &index[..m],
+        to,
+    )
 }
 
 // Whether a pass that stood at `before` lines has come further, and not to the end.
@@ -132,6 +146,8 @@ fn go_on(
     writes: bool,
     lines: &mut [u8],
     index: &mut [u8],
+    file: &File,
+    to: &Target,
 ) -> Pass
     requires size_bound { volume.size < 2 ^ 63 }
     requires told { Told volume.size (Day day) }
@@ -139,7 +155,7 @@ fn go_on(
     ensures { Passed volume.size day writes result }
 {
     let sweep = Sweep { at: 0, lines: 0 };
-    let shelf = shelf::start(STDOUT_FILENO);
+    let shelf = shelf::start(STANDARD_OUTPUT);
     let mut pass = Pass {
         sweep,
         shelf,
@@ -149,19 +165,26 @@ fn go_on(
     while on {
         let sweep = pass.sweep;
         let before = sweep.lines;
-        pass = turn(volume, name, day, writes, pass, lines, index);
+        pass = turn(volume, name, day, writes, pass, lines, index, file, to);
         on = is_on(day, before, pass);
     }
     pass
 }
 
 // The whole file in windows of its own.
-pub(crate) fn go_over(volume: Volume, name: &[u8], day: Contents, writes: bool) -> Pass
+pub(crate) fn go_over(
+    volume: Volume,
+    name: &[u8],
+    day: Contents,
+    writes: bool,
+    file: &File,
+    to: &Target,
+) -> Pass
     requires size_bound { volume.size < 2 ^ 63 }
     requires told { Told volume.size (Day day) }
     ensures { Passed volume.size day writes result }
 {
     let mut lines = [0u8; LINES];
     let mut index = [0u8; INDEX];
-    go_on(volume, name, day, writes, &mut lines, &mut index)
+    go_on(volume, name, day, writes, &mut lines, &mut index, file, to)
 }

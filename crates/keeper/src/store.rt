@@ -7,26 +7,34 @@ ghost use Rattle.keeper.specs.Work.{Done};
 use crate::keep::tell;
 use crate::shelf;
 use crate::work::{Outcome, keep_feed};
-use intake::{input, say};
-use libc::{STDERR_FILENO, STDIN_FILENO};
+use intake::ends::{Source, Target};
+use intake::failure::fail;
+use intake::files::path_of;
+use intake::{STANDARD_ERROR, input, say};
+use std::fs;
+use std::fs::File;
+use std::io::ErrorKind;
+use std::rt::Files;
 use text::writing::put_bytes;
 
 // A path has at most so many bytes.
 const LONGEST_NAME: usize = 4095;
 
 // Whether no file has this name. Where one has it, or that cannot be seen, it says so.
-fn is_free(name: &[u8]) -> bool {
-    let fd = os::open_read(name);
-    if fd >= 0 {
-        libc::close(fd);
-        say(name, b"there is such a file already; it stays as it is");
-        return false;
+fn is_free<R: Files>(rt: &R, name: &[u8], path: &str) -> bool {
+    match fs::open(rt, path) {
+        Ok(_) => {
+            say(name, b"there is such a file already; it stays as it is");
+            false
+        }
+        Err(error) => {
+            if error.kind() == ErrorKind::NotFound {
+                return true;
+            }
+            fail(name, &error);
+            false
+        }
     }
-    if os::errno() != libc::ENOENT {
-        os::fail(name);
-        return false;
-    }
-    true
 }
 
 // The name under which the file is written: how many bytes it has.
@@ -81,75 +89,90 @@ fn tell_sums(outcome: Outcome)
     let keep = work.keep;
     let place = keep.place;
     let lost = keep.lines - place.count + unended(outcome);
-    io::write_all(STDERR_FILENO, b"KEPT ");
-    io::print_decimal(STDERR_FILENO, place.count as u64);
-    io::write_all(STDERR_FILENO, b" NOT KEPT ");
-    io::print_decimal(STDERR_FILENO, lost as u64);
-    io::write_all(STDERR_FILENO, b"\n");
+    io::write_all(STANDARD_ERROR, b"KEPT ");
+    io::print_decimal(STANDARD_ERROR, place.count as u64);
+    io::write_all(STANDARD_ERROR, b" NOT KEPT ");
+    io::print_decimal(STANDARD_ERROR, lost as u64);
+    io::write_all(STANDARD_ERROR, b"\n");
 }
 
 // Flushes the part to the disk and gives it its name; whether it has it.
-fn settle(fd: i32, name: &[u8], part: &[u8]) -> bool {
-    if libc::fsync(fd) < 0 {
-        os::fail(part);
-        libc::close(fd);
+fn settle<R: Files>(
+    rt: &R,
+    target: Target,
+    name: &[u8],
+    path: &str,
+    part: &[u8],
+    part_path: &str,
+) -> bool {
+    if let Err(error) = target.settle() {
+        fail(part, &error);
         return false;
     }
-    if libc::close(fd) < 0 {
-        os::fail(part);
+    drop(target);
+    if !is_free(rt, name, path) {
         return false;
     }
-    if !is_free(name) {
-        return false;
-    }
-    if os::rename(part, name) < 0 {
-        os::fail(name);
+    if let Err(error) = fs::rename(rt, part_path, path) {
+        fail(name, &error);
         return false;
     }
     true
 }
 
 // Keeps the feed in the part. One without a byte, because a read failed, leaves none; one that was not written whole stays as it is.
-fn keep_in(name: &[u8], part: &[u8]) {
-    let fd = os::create(part);
-    if fd < 0 {
-        return os::fail(part);
-    }
-    let outcome = keep_feed(STDIN_FILENO, part, shelf::start(fd));
+fn keep_in<R: Files<File = File>>(
+    rt: &R,
+    source: &Source,
+    name: &[u8],
+    path: &str,
+    part: &[u8],
+    part_path: &str,
+) {
+    let target = match File::create_new(rt, part_path) {
+        Ok(file) => Target::Named(file),
+        Err(error) => return fail(part, &error),
+    };
+    let outcome = keep_feed(source, part, shelf::start(target.number()), &target);
     tell_torn(outcome);
     let work = outcome.work;
     let input = work.input;
     let shelf = work.shelf;
     if input::is_barren(input) {
-        libc::close(fd);
-        os::unlink(part);
+        drop(target);
+        let _ = fs::remove_file(rt, part_path);
         return;
     }
     if !shelf::is_live(shelf) {
-        libc::close(fd);
         return say(
             part,
             b"holds what was written before that, and is no day file",
         );
     }
-    if !settle(fd, name, part) {
+    if !settle(rt, target, name, path, part, part_path) {
         return say(part, b"holds what was kept");
     }
     tell_sums(outcome);
 }
 
-// Keeps standard input as the day file NAME.
-pub fn run(name: &[u8]) {
+// Keeps a feed, standard input, as the day file NAME.
+pub fn run<R: Files<File = File>>(rt: &R, source: &Source, name: &[u8]) {
     if name.len() == 0 {
         return say(b"desk keep", b"the name of the file is empty");
     }
     if name.len() + 5 > LONGEST_NAME {
         return say(name, b"the name is too long");
     }
-    if !is_free(name) {
+    let Some(path) = path_of(name) else {
+        return;
+    };
+    if !is_free(rt, name, path) {
         return;
     }
     let mut part = io::buffer();
     let n = put_part(name, &mut part);
-    keep_in(name, &part[..n]);
+    let Some(part_path) = path_of(&part[..n]) else {
+        return;
+    };
+    keep_in(rt, source, name, path, &part[..n], part_path);
 }

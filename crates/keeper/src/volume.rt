@@ -1,9 +1,24 @@
-// THE EDGE where a day file is read, by windows: the kit's contract of `pread` says how many bytes came, and not which. That they are those of the file at that place
-// is its word, and these few lines are what is left to the eye. Nothing outside this file can make a `Volume`.
+// THE EDGE where a day file is read, by windows: the kit's contract of `read_at` says how many bytes came, and not which. That they are those of the file at that
+// place is its word, and these few lines are what is left to the eye. Nothing outside this file can make a `Volume`.
 ghost use Rattle.std.specs.Prelude.{◌≡◌, ◌+◌, ◌^◌, ◌<◌, length};
+ghost use Rattle.std.specs.Io.{ReadsAtMost};
+
+use intake::failure::fail;
+use std::fs::File;
+use std::io::{Error, Result, Seek, SeekFrom};
+use std::os::fd::AsRawFd;
+use std::os::unix::fs::FileExt;
+
+// The system's numbers for places are below 2 to the 63rd.
+const LONGEST_FILE: u64 = 9223372036854775807;
+
+// The system's numbers for a file that is too large, and for a descriptor that is not open.
+const TOO_LARGE: i32 = 27;
+
+const NOT_OPEN: i32 = 9;
 
 // A file, how many bytes it has, and whether these can be read from any place.
-#[derive(Drop)]
+#[derive(Clone, Copy)]
 pub struct Volume {
     fd: i32,
     size: usize,
@@ -11,10 +26,10 @@ pub struct Volume {
 }
 
 // A file that cannot be read from any place.
-fn unmeasured(fd: i32, name: &[u8]) -> Volume
+fn unmeasured(fd: i32, name: &[u8], error: &Error) -> Volume
     ensures { result.size < 2 ^ 63 }
 {
-    os::fail(name);
+    fail(name, error);
     Volume {
         fd,
         size: 0,
@@ -23,16 +38,21 @@ fn unmeasured(fd: i32, name: &[u8]) -> Volume
 }
 
 // How long the file is. One that has no places, as a pipe, or no bytes, as a directory, says so by its first byte.
-pub(crate) fn measure(fd: i32, name: &[u8]) -> Volume
+pub(crate) fn measure(file: &File, name: &[u8]) -> Volume
     ensures { result.size < 2 ^ 63 }
 {
+    let fd = file.as_raw_fd();
     let mut first = [0u8; 1];
-    if libc::pread(fd, &mut first, 0) < 0 {
-        return unmeasured(fd, name);
+    if let Err(error) = file.read_at(&mut first, 0) {
+        return unmeasured(fd, name, &error);
     }
-    let end = libc::lseek(fd, 0, libc::SEEK_END);
-    if end < 0 {
-        return unmeasured(fd, name);
+    let mut places = file;
+    let end = match places.seek(SeekFrom::End(0)) {
+        Ok(end) => end,
+        Err(error) => return unmeasured(fd, name, &error),
+    };
+    if end > LONGEST_FILE {
+        return unmeasured(fd, name, &Error::from_raw_os_error(TOO_LARGE));
     }
     Volume {
         fd,
@@ -54,7 +74,7 @@ pub(crate) fn is_whole(volume: Volume) -> bool
 }
 
 // A window that was read: from which place of the file on, how many bytes, and whether all came. Nothing outside this file can make one.
-#[derive(Drop)]
+#[derive(Clone, Copy)]
 pub struct Filled {
     from: usize,
     size: usize,
@@ -67,8 +87,24 @@ pub(crate) fn is_filled(filled: Filled) -> bool
     filled.whole
 }
 
+// One read of the descriptor from a place. A file that has another descriptor is not open here.
+fn read_from(file: &File, fd: i32, window: &mut [u8], place: u64) -> Result<usize>
+    ensures { ReadsAtMost result window.new }
+{
+    if file.as_raw_fd() != fd {
+        return Err(Error::from_raw_os_error(NOT_OPEN));
+    }
+    file.read_at(window, place)
+}
+
 // Fills the window with the file's bytes from place `from` on. Where they cannot be read, or are not there any more, it says so.
-pub(crate) fn fill(volume: Volume, name: &[u8], from: usize, window: &mut [u8]) -> Filled
+pub(crate) fn fill(
+    volume: Volume,
+    name: &[u8],
+    from: usize,
+    window: &mut [u8],
+    file: &File,
+) -> Filled
     requires { from + length window.old < 2 ^ 63 }
     ensures { (result.from ≡ from) × (result.size ≡ length window.old) }
 {
@@ -76,16 +112,17 @@ pub(crate) fn fill(volume: Volume, name: &[u8], from: usize, window: &mut [u8]) 
     let size = window.len();
     let mut done: usize = 0;
     while done < size {
-        let got = libc::pread(fd, &mut window[done..], (from + done) as i64);
-        if got < 0 {
-            os::fail(name);
-            return Filled {
-                from,
-                size,
-                whole: false,
-            };
-        }
-        let n = io::count(got, &window[done..]);
+        let n = match read_from(file, fd, &mut window[done..], (from + done) as u64) {
+            Ok(n) => n,
+            Err(error) => {
+                fail(name, &error);
+                return Filled {
+                    from,
+                    size,
+                    whole: false,
+                };
+            }
+        };
         if n == 0 {
             intake::say(name, b"it ended while it was read");
             return Filled {

@@ -10,6 +10,7 @@ use cutter::Begun;
 use dayfile::ending::put_trailer;
 use dayfile::numbers::put_index;
 use dayfile::{MOST_LINES, Place, version_1};
+use intake::ends::{Source, Target};
 use intake::input;
 use intake::input::Input;
 use rules::LONGEST_LINE;
@@ -21,14 +22,14 @@ const BROUGHT: usize = 65536 + LONGEST_LINE;
 const CLOSING: usize = 4 * MOST_LINES + 8;
 
 // A feed that was kept: what was kept last, and whether it ended inside a line (17).
-#[derive(Drop)]
+#[derive(Clone, Copy)]
 pub struct Outcome {
     pub work: Work,
     pub torn: bool,
 }
 
 // A feed that is being kept: where it comes from, what is kept of it, and where that is put.
-#[derive(Drop)]
+#[derive(Clone, Copy)]
 pub struct Work {
     pub input: Input,
     pub keep: Keep,
@@ -59,6 +60,8 @@ fn keep_block(
     out: &mut [u8],
     offsets: &mut [u32],
     work: Work,
+    source: &Source,
+    to: &Target,
 ) -> Work
     requires stored { IsStored held.old offsets.old work }
     requires work_value { is_on work ≡ true }
@@ -71,24 +74,25 @@ fn keep_block(
     let shelf = work.shelf;
     let place = keep.place;
     let base = place.at;
-    let input = input::next(before, b"standard input", block);
+    let input = input::next(before, b"standard input", block, source);
     let n = input::total(input) - input::total(before);
     let keep = keep_part(held, keep, &block[..n], out, offsets);
     let place = keep.place;
     let size = place.at - base;
-    let shelf = put_day(shelf, name, input, &out[..size]);
+    let shelf = put_day(shelf, name, input, &out[..size], to);
     Work { input, keep, shelf }
 }
 
 // Reads until no more comes, a line does not fit, or what is kept is no longer taken.
 fn keep_all(
-    fd: i32,
+    source: &Source,
     name: &[u8],
     block: &mut [u8],
     held: &mut [u8],
     out: &mut [u8],
     offsets: &mut [u32],
     shelf: Shelf,
+    to: &Target,
 ) -> Work
     requires held_len { length held.old ≡ longest_line }
     requires block_in_bounds { longest_line + length block.old ≤ length out.old }
@@ -96,7 +100,7 @@ fn keep_all(
     requires total_value { (shelf.total ≡ 0) × (shelf.live ≡ true) }
     ensures { Whole held.new offsets.new result }
 {
-    let input = input::start(fd);
+    let input = input::start(source.number());
     let place = Place { at: 0, count: 0 };
     let keep = Keep {
         begun: Begun::Held(0),
@@ -107,14 +111,14 @@ fn keep_all(
     let mut work = Work { input, keep, shelf };
     let mut on = true;
     while on {
-        work = keep_block(name, block, held, out, offsets, work);
+        work = keep_block(name, block, held, out, offsets, work, source, to);
         on = is_on(work);
     }
     work
 }
 
 // The index and the trailer of what was kept.
-fn close(name: &[u8], offsets: &[u32], work: Work) -> Shelf
+fn close(name: &[u8], offsets: &[u32], work: Work, to: &Target) -> Shelf
     requires { Led offsets.now work }
     ensures { Closes offsets.now work result }
 {
@@ -130,11 +134,11 @@ fn close(name: &[u8], offsets: &[u32], work: Work) -> Shelf
     let mut closing = [0u8; CLOSING];
     put_index(&offsets[..count], &mut closing, 0);
     put_trailer(version_1(), place, &mut closing, 4 * count);
-    put_day(shelf, name, input, &closing[..size])
+    put_day(shelf, name, input, &closing[..size], to)
 }
 
-// Keeps the feed that fd gives, to its end, to a read that fails or to a line that does not fit, and puts its day file on the shelf.
-pub(crate) fn keep_feed(fd: i32, name: &[u8], shelf: Shelf) -> Outcome
+// Keeps the feed that the source gives, to its end, to a read that fails or to a line that does not fit, and puts its day file on the shelf.
+pub(crate) fn keep_feed(source: &Source, name: &[u8], shelf: Shelf, to: &Target) -> Outcome
     requires { (shelf.total ≡ 0) × (shelf.live ≡ true) }
     ensures { Done result }
 {
@@ -143,19 +147,20 @@ pub(crate) fn keep_feed(fd: i32, name: &[u8], shelf: Shelf) -> Outcome
     let mut out = [0u8; BROUGHT];
     let mut offsets = [0u32; MOST_LINES];
     let work = keep_all(
-        fd,
+        source,
         name,
         &mut block,
         &mut held,
         &mut out,
         &mut offsets,
         shelf,
+        to,
     );
     let keep = work.keep;
     let begun = keep.begun;
     let torn = intake::is_torn(&held, begun);
     let input = work.input;
-    let shelf = close(name, &offsets, work);
+    let shelf = close(name, &offsets, work, to);
     Outcome {
         work: Work { input, keep, shelf },
         torn,

@@ -1,0 +1,6 @@
+-- `list` meets its contract. Assumes nothing.
+use Rattle.keeper.proofs.Looks.{judged_told}
+use Rattle.keeper.proofs.lists.list.Goals as goal
+
+pub go_over-pass-requires : goal.go_over-pass-requires
+go_over-pass-requires c = record { size_bound = c.requires.size_bound; told = judged_told c.requires.judged }
