@@ -1,18 +1,22 @@
 // The calls themselves, on what no feed can bring: any words as a board, any state of the cutter, any values to write, any bytes as a day
 // file. Each case of standard input names a call and has what it takes; its answer is written to standard output, with all that the call
 // could change.
+#![tactic(auto)]
+
 mod boards;
 mod cuts;
 mod days;
 mod lines;
 mod numbers;
 
-use libc::STDIN_FILENO;
 use numbers::unpack;
+
+// The descriptor of standard input.
+const STANDARD_INPUT: i32 = 0;
 
 // The call, how many words it takes and how many of these come (the others are 0), how many bytes come in each of two runs, and
 // three numbers.
-#[derive(Drop)]
+#[derive(Clone, Copy)]
 struct Asked {
     call: u64,
     words: usize,
@@ -39,7 +43,7 @@ fn from_numbers(n: [u64; 8]) -> Asked {
 
 // Each word from eight bytes, as many as the room has.
 fn fill(room: &mut [u8], words: &mut [u64]) {
-    io::read_full(STDIN_FILENO, room);
+    io::read_full(STANDARD_INPUT, room);
     unpack(&room[..], words);
 }
 
@@ -53,7 +57,7 @@ fn read_words(given: usize, words: &mut [u64]) {
 }
 
 fn read_bytes(bytes: &mut [u8]) {
-    io::read_full(STDIN_FILENO, bytes);
+    io::read_full(STANDARD_INPUT, bytes);
 }
 
 // The call by its number.
@@ -112,7 +116,7 @@ fn turn(asked: Asked) {
 // Whether there was one more.
 fn read_case() -> bool {
     let mut head = [0u8; 64];
-    let n = io::read_full(STDIN_FILENO, &mut head);
+    let n = io::read_full(STANDARD_INPUT, &mut head);
     if n < 64 {
         return false;
     }

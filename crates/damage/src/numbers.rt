@@ -2,9 +2,11 @@
 ghost use Rattle.std.specs.Prelude.{◌<◌};
 ghost use Rattle.io.specs.Counts.{IsPrefixLen};
 
-use libc::STDOUT_FILENO;
 use text::Written;
 use text::writing::put_bytes;
+
+// The descriptor of standard output.
+const STANDARD_OUTPUT: i32 = 1;
 
 // Four bytes as one number.
 fn four(a: u8, b: u8, c: u8, d: u8) -> u64
@@ -86,7 +88,7 @@ fn used(words: &[u64]) -> usize
 }
 
 fn say(bytes: &[u8]) {
-    io::write_all(STDOUT_FILENO, bytes);
+    io::write_all(STANDARD_OUTPUT, bytes);
 }
 
 pub(crate) fn say_number(n: u64) {

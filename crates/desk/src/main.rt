@@ -1,9 +1,13 @@
 // The desks' program: a word for each job.
+#![tactic(auto)]
+
 use check::same;
 use checks::Asked;
-use intake::say;
+use intake::arguments::{is_there, word_at};
+use intake::ends::{Source, Target};
+use intake::files::open;
 use intake::words::{OptionRead, is_help, is_option, option};
-use libc::{STDIN_FILENO, STDOUT_FILENO};
+use intake::{STANDARD_OUTPUT, say};
 use rules::Rule;
 
 const HELP: [u8; 397] =
@@ -20,40 +24,38 @@ const LINES_HELP: [u8; 239] =
 
 fn print_help() {
     let text = HELP;
-    io::write_all(STDOUT_FILENO, &text);
+    io::write_all(STANDARD_OUTPUT, &text);
 }
 
 fn print_check_help() {
     let text = CHECK_HELP;
-    io::write_all(STDOUT_FILENO, &text);
+    io::write_all(STANDARD_OUTPUT, &text);
 }
 
 fn print_keep_help() {
     let text = KEEP_HELP;
-    io::write_all(STDOUT_FILENO, &text);
+    io::write_all(STANDARD_OUTPUT, &text);
 }
 
 fn print_lines_help() {
     let text = LINES_HELP;
-    io::write_all(STDOUT_FILENO, &text);
+    io::write_all(STANDARD_OUTPUT, &text);
 }
 
 // The checks of the feed in the file that is named; of standard input where that is a hyphen.
-fn check_named(name: &[u8], asked: Asked) {
+fn check_named(rt: &HostRuntime, name: &[u8], asked: Asked) {
+    let to = Target::Standard(rt.stdout());
     if same(name, b"-") {
-        return intake::checking::run(STDIN_FILENO, b"standard input", asked);
+        let source = Source::Standard(rt.stdin());
+        return intake::checking::run(&source, b"standard input", asked, &to);
     }
-    let fd = os::open_read(name);
-    if fd < 0 {
-        os::fail(name);
-        return;
+    if let Some(file) = open(rt, name) {
+        intake::checking::run(&Source::Named(file), name, asked, &to);
     }
-    intake::checking::run(fd, name, asked);
-    libc::close(fd);
 }
 
 // The first word after 'check' that asks for nothing more: help, or the feed, which is the last word.
-fn check_word(word: &[u8], last: bool, asked: Asked) {
+fn check_word(rt: &HostRuntime, word: &[u8], last: bool, asked: Asked) {
     if is_help(word) {
         return print_check_help();
     }
@@ -69,114 +71,109 @@ fn check_word(word: &[u8], last: bool, asked: Asked) {
             b"it reads one feed; 'desk check --help' says how",
         );
     }
-    check_named(word, asked);
+    check_named(rt, word, asked);
 }
 
 // The word at a place after 'check': what is asked for with it, or nothing where it was the last to be looked at.
-fn take_word(asked: Asked, place: usize, last: bool) -> OptionRead {
+fn take_word(rt: &HostRuntime, asked: Asked, place: usize, last: bool) -> OptionRead {
     let mut word = io::buffer();
-    let n = os::arg(place, &mut word);
-    if os::errno() != 0 {
-        os::fail(b"a word after check");
+    let Some(n) = word_at(rt, place, b"a word after check", &mut word) else {
         return OptionRead::Nothing;
-    }
+    };
     let read = option(asked, &word[..n]);
     match read {
         OptionRead::Asks(more) => OptionRead::Asks(more),
         OptionRead::Nothing => {
-            check_word(&word[..n], last, asked);
+            check_word(rt, &word[..n], last, asked);
             OptionRead::Nothing
         }
     }
 }
 
 // The words after 'check': its options, then the feed.
-fn check() {
-    let words = os::arg_count();
+fn check(rt: &HostRuntime) {
     let mut asked = Asked {
         rule: Rule::New,
         refused: false,
     };
-    let mut place: usize = 2;
-    while place < words {
-        let read = take_word(asked, place, place == words - 1);
+    for place in 2..usize::MAX {
+        if !is_there(rt, place) {
+            break;
+        }
+        let read = take_word(rt, asked, place, !is_there(rt, place + 1));
         let OptionRead::Asks(more) = read else {
             return;
         };
         asked = more;
-        place += 1;
     }
-    check_named(b"-", asked);
+    check_named(rt, b"-", asked);
 }
 
 // The word after 'keep'.
-fn keep_word(name: &[u8]) {
+fn keep_word(rt: &HostRuntime, name: &[u8]) {
     if is_help(name) {
         return print_keep_help();
     }
     if is_option(name) {
         return say(name, b"no such option; 'desk keep --help' says how");
     }
-    keeper::store::run(name);
+    keeper::store::run(rt, &Source::Standard(rt.stdin()), name);
 }
 
 // The word after 'lines'.
-fn lines_word(name: &[u8]) {
+fn lines_word(rt: &HostRuntime, name: &[u8]) {
     if is_help(name) {
         return print_lines_help();
     }
     if is_option(name) {
         return say(name, b"no such option; 'desk lines --help' says how");
     }
-    keeper::lists::run(name);
+    keeper::lists::run(rt, name, &Target::Standard(rt.stdout()));
 }
 
 // A word that takes the name of one file.
-fn file_job(word: &[u8], keeps: bool) {
-    if os::arg_count() != 3 {
+fn file_job(rt: &HostRuntime, word: &[u8], keeps: bool) {
+    if !is_there(rt, 2) || is_there(rt, 3) {
         return say(
             word,
             b"it takes the name of one file; with --help it says more",
         );
     }
     let mut name = io::buffer();
-    let n = os::arg(2, &mut name);
-    if os::errno() != 0 {
-        return os::fail(b"the name of the file");
-    }
+    let Some(n) = word_at(rt, 2, b"the name of the file", &mut name) else {
+        return;
+    };
     if keeps {
-        return keep_word(&name[..n]);
+        return keep_word(rt, &name[..n]);
     }
-    lines_word(&name[..n]);
+    lines_word(rt, &name[..n]);
 }
 
-fn job(word: &[u8]) {
+fn job(rt: &HostRuntime, word: &[u8]) {
     if is_help(word) {
         return print_help();
     }
     if same(word, b"check") {
-        return check();
+        return check(rt);
     }
     if same(word, b"keep") {
-        return file_job(b"desk keep", true);
+        return file_job(rt, b"desk keep", true);
     }
     if same(word, b"lines") {
-        return file_job(b"desk lines", false);
+        return file_job(rt, b"desk lines", false);
     }
     say(word, b"no such word; 'desk --help' names what there is");
 }
 
-fn main() {
-    if os::arg_count() < 2 {
+fn main(rt: HostRuntime) {
+    if !is_there(&rt, 1) {
         return say(
             b"desk",
             b"a word is missing; 'desk --help' names what there is",
         );
     }
     let mut word = io::buffer();
-    let n = os::arg(1, &mut word);
-    if os::errno() != 0 {
-        return os::fail(b"the word");
+    if let Some(n) = word_at(&rt, 1, b"the word", &mut word) {
+        job(&rt, &word[..n]);
     }
-    job(&word[..n]);
 }

@@ -1,26 +1,33 @@
 // The known readings of document 01 and the sample lines of sources 003 and 000: of each line its answer number and place, and of one
 // that reads its type, its flight's key if it has one, whether writing what was read gives the same bytes, and the values of its fields.
 // With the word --old the lines are those of the old feed.
+#![tactic(auto)]
+
 use check::same;
-use libc::{STDIN_FILENO, STDOUT_FILENO};
 use line::{LineRead, OldRead, free, read, read_old};
 use messages::values::values_in;
 use messages::{Body, Message, OldMessage, marks_in, type_in};
 use rules::{LONGEST_LINE, Rule};
+use std::rt::Env;
 use table::kinds::{AMENDMENT, Value};
 use table::{field_count, kinds_of};
 use text::{Written, writing};
 use writer::{write, write_old};
 
+// The descriptors that every program has.
+const STANDARD_INPUT: i32 = 0;
+
+const STANDARD_OUTPUT: i32 = 1;
+
 fn say(bytes: &[u8]) {
-    io::write_all(STDOUT_FILENO, bytes);
+    io::write_all(STANDARD_OUTPUT, bytes);
 }
 
 // The answer number and the place, and what comes after them.
 fn answer(number: u64, place: usize, after: &[u8]) {
-    io::print_decimal(STDOUT_FILENO, number);
+    io::print_decimal(STANDARD_OUTPUT, number);
     say(b" ");
-    io::print_decimal(STDOUT_FILENO, place as u64);
+    io::print_decimal(STANDARD_OUTPUT, place as u64);
     say(after);
 }
 
@@ -55,7 +62,7 @@ fn say_key(key: u64) {
 fn say_value(kind: u8, v: Value) {
     if kind == AMENDMENT {
         say(b" #");
-        io::print_decimal(STDOUT_FILENO, v.a);
+        io::print_decimal(STANDARD_OUTPUT, v.a);
     } else {
         say_part(b' ', v.a);
     }
@@ -160,17 +167,16 @@ fn show_all(old: bool, feed: &[u8]) {
 }
 
 // Whether the word --old was given.
-fn is_old() -> bool {
-    if os::arg_count() < 2 {
-        return false;
-    }
+fn is_old<R: Env>(rt: &R) -> bool {
     let mut word = io::buffer();
-    let n = os::arg(1, &mut word);
-    same(&word[..n], b"--old")
+    match rt.arg(1, &mut word) {
+        Ok(n) => same(&word[..n], b"--old"),
+        Err(_) => false,
+    }
 }
 
-fn main() {
+fn main(rt: HostRuntime) {
     let mut feed = [0u8; 131072];
-    let n = io::read_full(STDIN_FILENO, &mut feed);
-    show_all(is_old(), &feed[..n]);
+    let n = io::read_full(STANDARD_INPUT, &mut feed);
+    show_all(is_old(&rt), &feed[..n]);
 }
