@@ -12,8 +12,8 @@ use intake::failure::fail;
 use intake::files::path_of;
 use intake::{STANDARD_ERROR, input, say};
 use std::fs;
-use std::fs::File;
-use std::io::ErrorKind;
+use std::fs::{File, OpenOptions};
+use std::io::{ErrorKind, Result};
 use std::rt::Files;
 use text::writing::put_bytes;
 
@@ -120,6 +120,14 @@ fn settle<R: Files>(
     true
 }
 
+// The part, which no other file may be. It is open to be written alone.
+fn create<R: Files>(rt: &R, path: &str) -> Result<R::File> {
+    OpenOptions::new()
+        .write(true)
+        .create_new(true)
+        .open(rt, path)
+}
+
 // Keeps the feed in the part. One without a byte, because a read failed, leaves none; one that was not written whole stays as it is.
 fn keep_in<R: Files<File = File>>(
     rt: &R,
@@ -129,7 +137,7 @@ fn keep_in<R: Files<File = File>>(
     part: &[u8],
     part_path: &str,
 ) {
-    let target = match File::create_new(rt, part_path) {
+    let target = match create(rt, part_path) {
         Ok(file) => Target::Named(file),
         Err(error) => return fail(part, &error),
     };
