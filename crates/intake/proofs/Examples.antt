@@ -26,6 +26,10 @@ use Rattle.printer.specs.Text.{board_text, counts_text}
 use Rattle.feeding.specs.Tally.{rows_by, taken_by, line_feeds}
 use Rattle.reports.specs.Report.{most_lines, report_of}
 use Rattle.reports.proofs.Joins.{read_empty}
+use Rattle.std.specs.Prelude.{IsOk, IsUtf8, Some}
+use Rattle.intake.specs.Ends.{source_fd, target_fd}
+use Rattle.intake.specs.declared.ends.Source.TheVariants as source
+use Rattle.intake.specs.declared.ends.Target.TheVariants as target
 use Rattle.intake.specs.Day.{is_torn}
 use Rattle.intake.specs.Options.{AsksOld, AsksRefused, AsksNothing}
 use Rattle.intake.specs.declared.words.OptionRead.TheVariants.{Asks, Nothing}
@@ -33,6 +37,8 @@ use Rattle.intake.proofs.Options.{asks_one}
 use Rattle.intake.proofs.input.is_barren.Reads as is-barren
 use Rattle.intake.proofs.input.is_live.Reads as is_live
 use Rattle.intake.proofs.input.next.Reads as next
+use Rattle.intake.proofs.ends.Target.write.Reads as write
+use Rattle.intake.proofs.files.path_of.Reads as path-of
 use Rattle.intake.proofs.input.start.Reads as start
 use Rattle.intake.proofs.input.total.Reads as total
 use Rattle.intake.proofs.is_torn.Reads as is-torn
@@ -91,24 +97,45 @@ old_twice κs a r s p e f = asks_one a.0 a.1.0.now p (rw (e, f) (AsksNothing (λ
 
 -- a read that is live brought something, and no more than its block holds
 pub live_and_nothing_came : (κs : _) (a : _) (r : _) (s : _) → next.Post κs a r s → r.live ≡ true → r.total ≡ a.0.total → ⊥
-live_and_nothing_came κs a r s p l e = omega (arith, (p.some l).0, e)
+live_and_nothing_came κs a r s p l e = omega (arith, (p.0.some l).0, e)
 
 pub more_than_the_block : (κs : _) (a : _) (r : _) (s : _) → next.Post κs a r s → length s.1.1.0.now ≡ 4 → a.0.total ≡ 10 → r.total ≡ 15 → ⊥
-more_than_the_block κs a r s p h e f = omega (arith, p.most, h, e, f)
+more_than_the_block κs a r s p h e f = omega (arith, p.0.most, h, e, f)
 
 -- one that failed brought nothing more, and the descriptor stays
 pub failed_and_live : (κs : _) (a : _) (r : _) (s : _) → next.Post κs a r s → r.failed ≡ true → r.live ≡ true → ⊥
-failed_and_live κs a r s p f l = true_false l (p.ends f)
+failed_and_live κs a r s p f l = true_false l (p.0.ends f)
 
 pub failed_with_bytes : (κs : _) (a : _) (r : _) (s : _) → next.Post κs a r s → r.failed ≡ true → r.total ≡ a.0.total
-failed_with_bytes κs a r s p f = p.none (p.ends f)
+failed_with_bytes κs a r s p f = p.0.none (p.0.ends f)
 
 pub reads_another_descriptor : (κs : _) (a : _) (r : _) (s : _) → next.Post κs a r s → a.0.fd ≡ pos 3 → r.fd ≡ pos 3
-reads_another_descriptor κs a r s p e = p.same ∙ e
+reads_another_descriptor κs a r s p e = p.0.same ∙ e
+
+-- what comes, comes from the descriptor that the input names: nothing from a file that has another; standard input is 0
+pub reads_from_another_file : (κs : _) (a : _) (r : _) (s : _) → next.Post κs a r s → a.0.fd ≡ pos 3 → source_fd a.1.1.1.0.now ≡ pos 4 → r.live ≡ true → ⊥
+reads_from_another_file κs a r s p e f l = let z : pos 4 ≡ pos 3 = sym f ∙ p.1 l ∙ e in cc
+
+pub standard_input_by_another_number : (κs : _) (a : _) (r : _) (s : _) (x : _) → next.Post κs a r s → a.1.1.1.0.now ≡ source.Standard x → r.live ≡ true → a.0.fd ≡ pos 0
+standard_input_by_another_number κs a r s x p f l = sym (p.1 l) ∙ ap source_fd f
+
+-- a path is the name that was given, which is text
+pub another_path : (κs : _) (a : _) (s : _) (path : _) → path-of.Post κs a (Some path) s → a.0.now ≡ bytes "feed" → path.now ≡ bytes "feed"
+another_path κs a s path p e = p.0 ∙ e
+
+pub path_of_a_name_that_is_no_text : (κs : _) (a : _) (s : _) (path : _) → path-of.Post κs a (Some path) s → (IsUtf8 a.0.now → ⊥) → ⊥
+path_of_a_name_that_is_no_text κs a s path p n = n p.1
+
+-- what is written goes to the descriptor that was named: standard output is 1
+pub writes_to_another_file : (κs : _) (a : _) (r : _) (s : _) → write.Post κs a r s → target_fd a.0.now ≡ pos 4 → IsOk r → a.1.0 ≡ pos 4
+writes_to_another_file κs a r s p f o = sym (p o) ∙ f
+
+pub standard_output_by_another_number : (κs : _) (a : _) (r : _) (s : _) (x : _) → write.Post κs a r s → a.0.now ≡ target.Standard x → IsOk r → a.1.0 ≡ pos 1
+standard_output_by_another_number κs a r s x p f o = sym (p o) ∙ ap target_fd f
 
 -- a block of one byte after as many bytes as a number holds is not read into
 pub fails_unread : (κs : _) (a : _) (r : _) (s : _) → next.Post κs a r s → length s.1.1.0.now ≡ 1 → a.0.total ≡ 18446744073709551615 → r.failed ≡ false
-fails_unread κs a r s p h e = (p.unread (omega (arith, h, e))).1
+fails_unread κs a r s p h e = (p.0.unread (omega (arith, h, e))).1
 
 -- a feed begins with no byte, and may bring some
 pub starts_with_a_byte : (κs : _) (a : _) (r : _) (s : _) → start.Post κs a r s → r.total ≡ 1 → ⊥

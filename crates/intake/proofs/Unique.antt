@@ -44,9 +44,9 @@ start_one κs a r r' s s' p q = same_input r r' (p.0 ∙ sym q.0) (p.1 ∙ sym q
 
 pub next_one : (κs : _) (a : _) (r r' : _) (s s' : _) → next.Post κs a r s → next.Post κs a r' s' → r.total ≡ r'.total → r.failed ≡ r'.failed → r ≡ r'
 next_one κs a r r' s s' p q e f =
-    let there : r.live ≡ true → r'.live ≡ true = λ t. not_fails r'.live (λ z. omega (arith, (p.some t).0, q.none z, e)) in
-    let back : r'.live ≡ true → r.live ≡ true = λ t. not_fails r.live (λ z. omega (arith, (q.some t).0, p.none z, e)) in
-    same_input r r' e (same_test r.live r'.live there back) f (p.same ∙ sym q.same)
+    let there : r.live ≡ true → r'.live ≡ true = λ t. not_fails r'.live (λ z. omega (arith, (p.0.some t).0, q.0.none z, e)) in
+    let back : r'.live ≡ true → r.live ≡ true = λ t. not_fails r.live (λ z. omega (arith, (q.0.some t).0, p.0.none z, e)) in
+    same_input r r' e (same_test r.live r'.live there back) f (p.0.same ∙ sym q.0.same)
 
 pub total_one : (κs : _) (a : _) (r r' : _) (s s' : _) → total.Post κs a r s → total.Post κs a r' s' → r ≡ r'
 total_one κs a r r' s s' p q = p ∙ sym q

@@ -1,3 +1,4 @@
+pub mod Ends
 pub mod Edge
 pub mod Day
 pub mod Desk

@@ -1,6 +1,8 @@
 // Where bytes come from, and where they go: a stream that every program has, or a file that it opened, each with its descriptor. A call names the
 // descriptor that it means, and says how many bytes it moved, or why it failed; one that is not this end's is not open here.
+ghost use Rattle.std.specs.Prelude.{◌≡◌, IsOk};
 ghost use Rattle.std.specs.Io.{ReadsAtMost};
+ghost use Rattle.intake.specs.Ends.{source_fd, target_fd};
 
 use std::fs::File;
 use std::io::{Error, Read, Result, Stdin, Stdout, Write};
@@ -23,7 +25,9 @@ pub enum Target {
 
 impl Source {
     // Its descriptor.
-    pub fn number(&self) -> i32 {
+    pub fn number(&self) -> i32
+        ensures { result ≡ source_fd self.now }
+    {
         match self {
             Source::Standard(stream) => stream.as_raw_fd(),
             Source::Named(file) => file.as_raw_fd(),
@@ -32,7 +36,8 @@ impl Source {
 
     // One read of the descriptor.
     pub(crate) fn read(&self, fd: i32, block: &mut [u8]) -> Result<usize>
-        ensures { ReadsAtMost result block.new }
+        ensures within { ReadsAtMost result block.new }
+        ensures own { IsOk result → source_fd self.now ≡ fd }
     {
         if self.number() != fd {
             return Err(Error::from_raw_os_error(NOT_OPEN));
@@ -52,7 +57,9 @@ impl Source {
 
 impl Target {
     // Its descriptor.
-    pub fn number(&self) -> i32 {
+    pub fn number(&self) -> i32
+        ensures { result ≡ target_fd self.now }
+    {
         match self {
             Target::Standard(stream) => stream.as_raw_fd(),
             Target::Named(file) => file.as_raw_fd(),
@@ -60,7 +67,9 @@ impl Target {
     }
 
     // All of the text to the descriptor, or why not all of it could be written.
-    pub fn write(&self, fd: i32, text: &[u8]) -> Result<()> {
+    pub fn write(&self, fd: i32, text: &[u8]) -> Result<()>
+        ensures { IsOk result → target_fd self.now ≡ fd }
+    {
         if self.number() != fd {
             return Err(Error::from_raw_os_error(NOT_OPEN));
         }

@@ -1,4 +1,6 @@
 // Files by the names that a command line gives. What goes wrong is said.
+ghost use Rattle.std.specs.Prelude.{◌≡◌, IsUtf8, MatchOption};
+
 use crate::failure::fail;
 use crate::say;
 use std::fs::File;
@@ -6,7 +8,9 @@ use std::rt::Files;
 use std::str::from_utf8;
 
 // A name as the library takes it, which is text.
-pub fn path_of(name: &[u8]) -> Option<&str> {
+pub fn path_of(name: &[u8]) -> Option<&str>
+    ensures { MatchOption result (¬ IsUtf8 name.now) (λ path. (path.now ≡ name.now) × IsUtf8 name.now) }
+{
     match from_utf8(name) {
         Ok(path) => Some(path),
         Err(_) => {

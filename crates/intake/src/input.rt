@@ -3,6 +3,7 @@
 // `Input`, so no other code can say that bytes came, or that there are no more.
 ghost use Rattle.std.specs.Prelude.{◌≡◌, true, false, cond, eqb, length};
 ghost use Rattle.intake.specs.Edge.{Came};
+ghost use Rattle.intake.specs.Ends.{source_fd};
 
 use crate::ends::Source;
 use crate::failure::fail;
@@ -42,7 +43,8 @@ fn closed(input: Input, failed: bool) -> Input
 
 // One read of the descriptor, which the source has open: how many bytes stand at the start of the block then is by how much the total has grown. A read that fails says so.
 pub fn next(input: Input, name: &[u8], block: &mut [u8], source: &Source) -> Input
-    ensures { Came input (length block.new) result }
+    ensures came { Came input (length block.new) result }
+    ensures own { result.live ≡ true → source_fd source.now ≡ input.fd }
 {
     if block.len() > usize::MAX - input.total {
         return closed(input, false);

@@ -1,6 +1,7 @@
 // THE EDGE where a day file is read, by windows: the kit's contract of `read_at` says how many bytes came, and not which. That they are those of the file at that
 // place is its word, and these few lines are what is left to the eye. Nothing outside this file can make a `Volume`.
-ghost use Rattle.std.specs.Prelude.{◌≡◌, ◌+◌, ◌^◌, ◌<◌, length};
+ghost use Rattle.std.specs.Prelude.{◌≡◌, ◌+◌, ◌^◌, ◌<◌, length, IsOk};
+ghost use Rattle.std.specs.Fd.{file_raw_fd};
 ghost use Rattle.std.specs.Io.{ReadsAtMost};
 
 use intake::failure::fail;
@@ -89,7 +90,8 @@ pub(crate) fn is_filled(filled: Filled) -> bool
 
 // One read of the descriptor from a place. A file that has another descriptor is not open here.
 fn read_from(file: &File, fd: i32, window: &mut [u8], place: u64) -> Result<usize>
-    ensures { ReadsAtMost result window.new }
+    ensures within { ReadsAtMost result window.new }
+    ensures own { IsOk result → file_raw_fd file.now ≡ fd }
 {
     if file.as_raw_fd() != fd {
         return Err(Error::from_raw_os_error(NOT_OPEN));

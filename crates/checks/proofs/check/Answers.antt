@@ -87,8 +87,7 @@ pub step-turn-requires : goal.step-turn-requires
 step-turn-requires c = step_ready c.loop-used.invariant c.loop-used-test.true
 
 pub overflow_add-used : goal.overflow_add-used
-overflow_add-used c =
-    omega (arith, within c.loop-used.invariant c.loop-used-test.true c.step-turn.ensures)
+overflow_add-used c = omega (arith, within c.loop-used.invariant c.loop-used-test.true c.step-turn.ensures)
 
 pub loop-used-smaller : goal.loop-used-smaller
 loop-used-smaller c =
@@ -104,4 +103,6 @@ pub shape_of-out : goal.shape_of-out
 shape_of-out c = same_out c.loop-used.invariant
 
 pub returns : goal.returns
-returns c = let both = done c.loop-used.invariant c.loop-used-test.false in record { adds = both.0; size_in_bounds = both.1.0; continues = both.1.1 }
+returns c =
+    let both = done c.loop-used.invariant c.loop-used-test.false in
+    record { adds = both.0; size_in_bounds = both.1.0; continues = both.1.1 }

@@ -27,4 +27,6 @@ put_part-requires c =
 
 pub returns : goal.returns
 returns c =
-    let a = c.args in let both = put_whole a.n a.verdict _ _ c.requires.verdict_value c.requires.longest_saying_in_bounds (c.put_count-j.ensures.value, c.put_count-j.ensures.out_after) (c.put_count-j-2.ensures.value, c.put_count-j-2.ensures.out_after) (c.put_count-j-3.ensures.value, c.put_count-j-3.ensures.out_after) (c.put_part-j.ensures.value, c.put_part-j.ensures.out_after) (c.put_part.ensures.value, c.put_part.ensures.out_after) in record { value = both.0; out_after = both.1 }
+    let a = c.args in
+    let both = put_whole a.n a.verdict _ _ c.requires.verdict_value c.requires.longest_saying_in_bounds (c.put_count-j.ensures.value, c.put_count-j.ensures.out_after) (c.put_count-j-2.ensures.value, c.put_count-j-2.ensures.out_after) (c.put_count-j-3.ensures.value, c.put_count-j-3.ensures.out_after) (c.put_part-j.ensures.value, c.put_part-j.ensures.out_after) (c.put_part.ensures.value, c.put_part.ensures.out_after) in
+    record { value = both.0; out_after = both.1 }

@@ -3,7 +3,11 @@ use Rattle.checks.proofs.Steps.{step_none, step_verdict, step_line}
 use Rattle.checks.proofs.step.Goals as goal
 
 pub say-next-requires : goal.say-next-requires
-say-next-requires c = record { verdict_value = step_verdict c.args.asked _ c.args.sums _ c.args.out.now c.args.at c.requires.allowed c.cut-done.result _ (c.cut-done.ensures.value, (c.cut-done.ensures.held_after, c.cut-done.ensures.cut_is)) _ c.judge-judged.ensures _ c.in-Line.is; longest_saying_in_bounds = c.requires.roomy }
+say-next-requires c =
+    record {
+      verdict_value = step_verdict c.args.asked _ c.args.sums _ c.args.out.now c.args.at c.requires.allowed c.cut-done.result _ (c.cut-done.ensures.value, (c.cut-done.ensures.held_after, c.cut-done.ensures.cut_is)) _ c.judge-judged.ensures _ c.in-Line.is;
+      longest_saying_in_bounds = c.requires.roomy;
+    }
 
 pub returns-in-Line : goal.returns-in-Line
 returns-in-Line c =

@@ -10,5 +10,4 @@ pack_known-requires c =
     ap is_text (c.put.ensures.out_after ∙ l.0) ∙ l.1
 
 pub returns : goal.returns
-returns c =
-    c.pack_known.ensures ∙ ap packed (c.put.ensures.out_after ∙ (letters_written c.args.kind).0)
+returns c = c.pack_known.ensures ∙ ap packed (c.put.ensures.out_after ∙ (letters_written c.args.kind).0)

@@ -5,10 +5,16 @@ use borrow.Enum.Refused.{opened}
 use Rattle.cutter.proofs.hold.Goals as goal
 
 pub returns-in_default : goal.returns-in_default
-returns-in_default c = let both = mark_more _ _ _ c.in_default.is in record { value = both.0; held_after = both.1 }
+returns-in_default c =
+    let both = mark_more _ _ _ c.in_default.is in
+    record { value = both.0; held_after = both.1 }
 
 pub returns-in-Next : goal.returns-in-Next
-returns-in-Next c = let both = more_held _ _ _ _ c.in-Held.is _ c.put_bytes-written.ensures.out_after _ (sym c.in-Next.is ∙ c.put_bytes-written.ensures.value) in record { value = both.0; held_after = both.1 }
+returns-in-Next c =
+    let both = more_held _ _ _ _ c.in-Held.is _ c.put_bytes-written.ensures.out_after _ (sym c.in-Next.is ∙ c.put_bytes-written.ensures.value) in
+    record { value = both.0; held_after = both.1 }
 
 pub returns-in_default-written : goal.returns-in_default-written
-returns-in_default-written c = let both = more_full _ _ _ _ c.in-Held.is _ c.put_bytes-written.ensures.out_after _ c.put_bytes-written.ensures.value (opened c.in_default-written.in_default-written-own.keys2) in record { value = both.0; held_after = both.1 }
+returns-in_default-written c =
+    let both = more_full _ _ _ _ c.in-Held.is _ c.put_bytes-written.ensures.out_after _ c.put_bytes-written.ensures.value (opened c.in_default-written.in_default-written-own.keys2) in
+    record { value = both.0; held_after = both.1 }

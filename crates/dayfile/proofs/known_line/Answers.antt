@@ -35,8 +35,7 @@ read_number-from-requires c =
 pub slice_bounds-line_size-count : goal.slice_bounds-line_size-count
 slice_bounds-line_size-count c =
     let has : Has version1 c.args.file.now c.args.day c.args.number = record { opened = record { told = c.requires.file_value }; some = c.requires.number_nonzero; there = c.requires.number_le_lines } in
-    let from : c.read_number-from.result ≤ c.args.day.start = before_index has _ c.read_number-from.ensures.value in
-    from
+    before_index has _ c.read_number-from.ensures.value
 
 pub slice_bounds-line_size-start : goal.slice_bounds-line_size-start
 slice_bounds-line_size-start c =
@@ -81,4 +80,8 @@ slice_bounds-result-end c =
 
 pub returns : goal.returns
 returns c =
-    let has : Has version1 c.args.file.now c.args.day c.args.number = record { opened = record { told = c.requires.file_value }; some = c.requires.number_nonzero; there = c.requires.number_le_lines } in record { result_value = line_told has _ c.read_number-from.ensures.value _ c.line_size-size.ensures; ref_ptr_value = ap (starts_at _) (place_told has _ c.read_number-from.ensures.value) }
+    let has : Has version1 c.args.file.now c.args.day c.args.number = record { opened = record { told = c.requires.file_value }; some = c.requires.number_nonzero; there = c.requires.number_le_lines } in
+    record {
+      result_value = line_told has _ c.read_number-from.ensures.value _ c.line_size-size.ensures;
+      ref_ptr_value = ap (starts_at _) (place_told has _ c.read_number-from.ensures.value);
+    }

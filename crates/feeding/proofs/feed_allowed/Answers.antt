@@ -107,7 +107,10 @@ pub shape_of-held-then-fed-most : goal.shape_of-held-then-fed-most
 shape_of-held-then-fed-most c = c.loop-fed.invariant.held_size
 
 pub returns-then-fed-most : goal.returns-then-fed-most
-returns-then-fed-most c = let v = c.loop-fed.invariant in let both = done v (read_most v (omega (arith, c.if-fed-most.true))) in record { value = both.0; board_after = both.1.0; held_after = both.1.1 }
+returns-then-fed-most c =
+    let v = c.loop-fed.invariant in
+    let both = done v (read_most v (omega (arith, c.if-fed-most.true))) in
+    record { value = both.0; board_after = both.1.0; held_after = both.1.1 }
 
 pub slice_bounds-step-count : goal.slice_bounds-step-count
 slice_bounds-step-count c = c.loop-fed.invariant.at
@@ -116,7 +119,9 @@ pub slice_bounds-step-start : goal.slice_bounds-step-start
 slice_bounds-step-start c = omega (arith, c.loop-fed.invariant.at)
 
 pub step-turn-requires : goal.step-turn-requires
-step-turn-requires c = let v = c.loop-fed.invariant in record { board_value = v.good; begun_value = v.begins }
+step-turn-requires c =
+    let v = c.loop-fed.invariant in
+    record { board_value = v.good; begun_value = v.begins }
 
 pub overflow_add-fed : goal.overflow_add-fed
 overflow_add-fed c =
@@ -154,4 +159,7 @@ pub shape_of-held : goal.shape_of-held
 shape_of-held c = c.loop-fed.invariant.held_size
 
 pub returns : goal.returns
-returns c = let v = c.loop-fed.invariant in let both = done v (read_all v c.loop-fed-test.false) in record { value = both.0; board_after = both.1.0; held_after = both.1.1 }
+returns c =
+    let v = c.loop-fed.invariant in
+    let both = done v (read_all v c.loop-fed-test.false) in
+    record { value = both.0; board_after = both.1.0; held_after = both.1.1 }

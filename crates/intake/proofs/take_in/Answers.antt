@@ -8,7 +8,9 @@ pub overflow_sub-day : goal.overflow_sub-day
 overflow_sub-day c = kept_lines _ _ c.args.day c.requires
 
 pub feed_allowed-fed-requires : goal.feed_allowed-fed-requires
-feed_allowed-fed-requires c = let both = kept_allowed _ _ c.args.day c.requires in record { board_value = both.0; begun_value = both.1 }
+feed_allowed-fed-requires c =
+    let both = kept_allowed _ _ c.args.day c.requires in
+    record { board_value = both.0; begun_value = both.1 }
 
 pub overflow_add-result : goal.overflow_add-result
 overflow_add-result c =

@@ -7,8 +7,12 @@ use Rattle.line.proofs.read_old.Goals as goal
 
 pub returns-in-Read : goal.returns-in-Read
 unfolding old_read_of
-returns-in-Read c = let both = told Old _ (ap oldly (sym c.in-Read.is ∙ c.read_by-read.ensures)) in record { value = both.0; case = both.1 }
+returns-in-Read c =
+    let both = told Old _ (ap oldly (sym c.in-Read.is ∙ c.read_by-read.ensures)) in
+    record { value = both.0; case = both.1 }
 
 pub returns-in-Refused : goal.returns-in-Refused
 unfolding old_read_of
-returns-in-Refused c = let both = told Old _ (ap oldly (sym c.in-Refused.is ∙ c.read_by-read.ensures)) in record { value = both.0; case = both.1 }
+returns-in-Refused c =
+    let both = told Old _ (ap oldly (sym c.in-Refused.is ∙ c.read_by-read.ensures)) in
+    record { value = both.0; case = both.1 }

@@ -12,4 +12,6 @@ pub slice_bounds-levels_of-end : goal.slice_bounds-levels_of-end
 slice_bounds-levels_of-end c = sym (length-take-le _ _ c.show-n.ensures.upper_bound)
 
 pub returns : goal.returns
-returns c = let both = level_told _ (c.levels_of.ensures ∙ levels_in_lem _ c.show-n.ensures.room_after) in record { value = both.0; tells_in = both.1 }
+returns c =
+    let both = level_told _ (c.levels_of.ensures ∙ levels_in_lem _ c.show-n.ensures.room_after) in
+    record { value = both.0; tells_in = both.1 }

@@ -11,10 +11,18 @@ returns-in-Next c =
     let p = c.put-written in
     let twelve = c.put-arg-1.given.0.1 in
     let told = sym p.ensures.value ∙ c.in-Next.is in
-    let packed = shown_packed _ _ _ _ twelve told p.ensures.out_after in record { upper_bound = omega (arith, shown_size _ _ _ _ twelve told p.ensures.out_after, text_short _ packed, p.auto.out); room_after = shown_text _ _ _ _ twelve told p.ensures.out_after ∙ rw packed }
+    let packed = shown_packed _ _ _ _ twelve told p.ensures.out_after in
+    record {
+      upper_bound = omega (arith, shown_size _ _ _ _ twelve told p.ensures.out_after, text_short _ packed, p.auto.out);
+      room_after = shown_text _ _ _ _ twelve told p.ensures.out_after ∙ rw packed;
+    }
 
 pub returns-in-NoRoom : goal.returns-in-NoRoom
-returns-in-NoRoom c = record { upper_bound = absurd (twelve_room _ _ c.put-arg-1.given.0.1 (sym c.put-written.ensures.value ∙ c.in-NoRoom.is)); room_after = absurd (twelve_room _ _ c.put-arg-1.given.0.1 (sym c.put-written.ensures.value ∙ c.in-NoRoom.is)) }
+returns-in-NoRoom c =
+    record {
+      upper_bound = absurd (twelve_room _ _ c.put-arg-1.given.0.1 (sym c.put-written.ensures.value ∙ c.in-NoRoom.is));
+      room_after = absurd (twelve_room _ _ c.put-arg-1.given.0.1 (sym c.put-written.ensures.value ∙ c.in-NoRoom.is));
+    }
 
 pub returns-in-NoText : goal.returns-in-NoText
 unfolding shown_of

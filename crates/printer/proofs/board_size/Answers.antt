@@ -41,7 +41,9 @@ pub loop-rows-init : goal.loop-rows-init
 loop-rows-init c = start _ c.requires c.size-total.ensures
 
 pub size-total-requires-in-loop-rows : goal.size-total-requires-in-loop-rows
-size-total-requires-in-loop-rows c = let w = c.loop-rows.invariant.walk in record { p_in_bounds = row_whole w (omega (arith, c.loop-rows-test.true)); board_value = row_good w (omega (arith, c.loop-rows-test.true)) }
+size-total-requires-in-loop-rows c =
+    let w = c.loop-rows.invariant.walk in
+    record { p_in_bounds = row_whole w (omega (arith, c.loop-rows-test.true)); board_value = row_good w (omega (arith, c.loop-rows-test.true)) }
 
 pub overflow_add-total-in-loop-rows : goal.overflow_add-total-in-loop-rows
 overflow_add-total-in-loop-rows c = omega (arith, c.size-total-in-loop-rows.ensures, small c.loop-rows.invariant (omega (arith, c.loop-rows-test.true)))

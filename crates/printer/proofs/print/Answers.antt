@@ -40,16 +40,18 @@ module _ (l out : List ℕ) (at : ℕ) {n : ℕ} (size : n ≡ length (text_in l
           (ap (λ (i : ℕ). Next (at + i)) size ∙ p.0, w ∙ p.1)
 
 pub returns-then-not-is_allowed : goal.returns-then-not-is_allowed
-returns-then-not-is_allowed c = let both = in_print_case _ _ _ (not_allowed _ _ _ (not_so c.is_allowed.ensures c.if-not-is_allowed.true-raw)) in record { value = both.0; out_after = both.1.0; print_case = both.1.1 }
+returns-then-not-is_allowed c =
+    let both = in_print_case _ _ _ (not_allowed _ _ _ (not_so c.is_allowed.ensures c.if-not-is_allowed.true-raw)) in
+    record { value = both.0; out_after = both.1.0; print_case = both.1.1 }
 
 pub board_size-n-requires : goal.board_size-n-requires
-board_size-n-requires c =
-    let allowed : is_allowed c.args.board.now ≡ true = so c.is_allowed.ensures c.if-not-is_allowed.false-raw in
-    allowed
+board_size-n-requires c = so c.is_allowed.ensures c.if-not-is_allowed.false-raw
 
 pub returns-then-not-has_room : goal.returns-then-not-has_room
 returns-then-not-has_room c =
-    let allowed : is_allowed c.args.board.now ≡ true = so c.is_allowed.ensures c.if-not-is_allowed.false-raw in let both = in_print_case _ _ _ (refuses _ _ _ c.board_size-n.ensures allowed c.has_room.ensures c.if-not-has_room.true-raw) in record { value = both.0; out_after = both.1.0; print_case = both.1.1 }
+    let allowed : is_allowed c.args.board.now ≡ true = so c.is_allowed.ensures c.if-not-is_allowed.false-raw in
+    let both = in_print_case _ _ _ (refuses _ _ _ c.board_size-n.ensures allowed c.has_room.ensures c.if-not-has_room.true-raw) in
+    record { value = both.0; out_after = both.1.0; print_case = both.1.1 }
 
 pub put_board-requires : goal.put_board-requires
 put_board-requires c =
@@ -65,4 +67,6 @@ overflow_add-result c =
 
 pub returns : goal.returns
 returns c =
-    let allowed : is_allowed c.args.board.now ≡ true = so c.is_allowed.ensures c.if-not-is_allowed.false-raw in let both = in_print_case _ _ _ (puts _ _ _ c.board_size-n.ensures allowed c.has_room.ensures c.if-not-has_room.false-raw c.put_board.ensures) in record { value = both.0; out_after = both.1.0; print_case = both.1.1 }
+    let allowed : is_allowed c.args.board.now ≡ true = so c.is_allowed.ensures c.if-not-is_allowed.false-raw in
+    let both = in_print_case _ _ _ (puts _ _ _ c.board_size-n.ensures allowed c.has_room.ensures c.if-not-has_room.false-raw c.put_board.ensures) in
+    record { value = both.0; out_after = both.1.0; print_case = both.1.1 }

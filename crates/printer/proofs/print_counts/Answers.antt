@@ -36,12 +36,13 @@ pub overflow_add-n-2 : goal.overflow_add-n-2
 overflow_add-n-2 c = let a = c.args in omega (arith, small a.lines a.taken c.size.ensures c.size-2.ensures)
 
 pub returns-then-not-has_room : goal.returns-then-not-has_room
-returns-then-not-has_room c = let both = in_counts_case _ _ _ _ (no_room_told _ _ _ (size _ _ c.size.ensures c.size-2.ensures) c.has_room.ensures refl c.if-not-has_room.true-raw) in record { value = both.0; out_after = both.1.0; counts_case = both.1.1 }
+returns-then-not-has_room c =
+    let both = in_counts_case _ _ _ _ (no_room_told _ _ _ (size _ _ c.size.ensures c.size-2.ensures) c.has_room.ensures refl c.if-not-has_room.true-raw) in
+    record { value = both.0; out_after = both.1.0; counts_case = both.1.1 }
 
 pub put_counts-requires : goal.put_counts-requires
 put_counts-requires c =
-    let roomy : let a = c.args in a.at + length (counts_text a.lines a.taken) ≤ length a.out.now = let a = c.args in room_told (counts_text a.lines a.taken) a.out.now a.at (size a.lines a.taken c.size.ensures c.size-2.ensures) c.has_room.ensures c.if-not-has_room.false-raw in
-    roomy
+    let a = c.args in room_told (counts_text a.lines a.taken) a.out.now a.at (size a.lines a.taken c.size.ensures c.size-2.ensures) c.has_room.ensures c.if-not-has_room.false-raw
 
 pub overflow_add-result : goal.overflow_add-result
 overflow_add-result c =
@@ -51,4 +52,6 @@ overflow_add-result c =
 
 pub returns : goal.returns
 returns c =
-    let roomy : let a = c.args in a.at + length (counts_text a.lines a.taken) ≤ length a.out.now = let a = c.args in room_told (counts_text a.lines a.taken) a.out.now a.at (size a.lines a.taken c.size.ensures c.size-2.ensures) c.has_room.ensures c.if-not-has_room.false-raw in let both = in_counts_case _ _ _ _ (puts _ _ c.size.ensures c.size-2.ensures _ _ roomy c.put_counts.ensures) in record { value = both.0; out_after = both.1.0; counts_case = both.1.1 }
+    let roomy : let a = c.args in a.at + length (counts_text a.lines a.taken) ≤ length a.out.now = let a = c.args in room_told (counts_text a.lines a.taken) a.out.now a.at (size a.lines a.taken c.size.ensures c.size-2.ensures) c.has_room.ensures c.if-not-has_room.false-raw in
+    let both = in_counts_case _ _ _ _ (puts _ _ c.size.ensures c.size-2.ensures _ _ roomy c.put_counts.ensures) in
+    record { value = both.0; out_after = both.1.0; counts_case = both.1.1 }

@@ -42,9 +42,7 @@ pub put_count-j-requires : goal.put_count-j-requires
 put_count-j-requires c = let a = c.args in first_room a.board.now a.out.now a.at c.requires
 
 pub put_rows-requires : goal.put_rows-requires
-put_rows-requires c =
-    rows_ask _ _ _ c.requires c.put_count-j.ensures.value c.put_count-j.ensures.out_after
+put_rows-requires c = rows_ask _ _ _ c.requires c.put_count-j.ensures.value c.put_count-j.ensures.out_after
 
 pub returns : goal.returns
-returns c =
-    whole _ _ _ c.requires c.put_count-j.ensures.value c.put_count-j.ensures.out_after c.put_rows.ensures
+returns c = whole _ _ _ c.requires c.put_count-j.ensures.value c.put_count-j.ensures.out_after c.put_rows.ensures

@@ -11,8 +11,7 @@ overflow_add-end c =
     omega (arith, digits_end a.name.now a.out.now a.n a.after a.at c.requires c.size.ensures)
 
 pub bounds-out-end : goal.bounds-out-end
-bounds-out-end c =
-    after_inside _ _ _ _ _ c.requires c.size.ensures c.put_bytes.ensures.out_after c.put.ensures.out_after
+bounds-out-end c = after_inside _ _ _ _ _ c.requires c.size.ensures c.put_bytes.ensures.out_after c.put.ensures.out_after
 
 pub overflow_add-result : goal.overflow_add-result
 overflow_add-result c =
@@ -24,4 +23,8 @@ shape_of-out c = simp length-set (c.put.auto.out ∙ c.put_bytes.auto.out)
 
 pub returns : goal.returns
 returns c =
-    let room = c.requires in record { value = count_ends _ _ _ _ _ room c.size.ensures c.put_bytes.ensures.out_after c.put.ensures.out_after; out_after = count_wrote _ _ _ _ _ room c.size.ensures c.put_bytes.ensures.out_after c.put.ensures.out_after }
+    let room = c.requires in
+    record {
+      value = count_ends _ _ _ _ _ room c.size.ensures c.put_bytes.ensures.out_after c.put.ensures.out_after;
+      out_after = count_wrote _ _ _ _ _ room c.size.ensures c.put_bytes.ensures.out_after c.put.ensures.out_after;
+    }

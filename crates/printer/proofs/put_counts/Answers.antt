@@ -36,8 +36,7 @@ pub put_count-j-requires : goal.put_count-j-requires
 put_count-j-requires c = let a = c.args in first_room a.lines a.taken a.out.now a.at c.requires
 
 pub put_count-requires : goal.put_count-requires
-put_count-requires c =
-    second_room _ _ _ _ c.requires c.put_count-j.ensures.value c.put_count-j.ensures.out_after
+put_count-requires c = second_room _ _ _ _ c.requires c.put_count-j.ensures.value c.put_count-j.ensures.out_after
 
 pub returns : goal.returns
 returns c =

@@ -69,11 +69,15 @@ slice_bounds-put-start c = omega (arith, fits c.loop-left.invariant (omega (arit
 
 pub put-size-requires : goal.put-size-requires
 put-size-requires c =
-    let v = c.loop-left.invariant in record { p_in_bounds = row_whole v.walk (omega (arith, c.loop-left-test.true)); board_value = row_good v.walk (omega (arith, c.loop-left-test.true)); board_in_bounds = rest_fits v (omega (arith, c.loop-left-test.true)) }
+    let v = c.loop-left.invariant in
+    record {
+      p_in_bounds = row_whole v.walk (omega (arith, c.loop-left-test.true));
+      board_value = row_good v.walk (omega (arith, c.loop-left-test.true));
+      board_in_bounds = rest_fits v (omega (arith, c.loop-left-test.true));
+    }
 
 pub overflow_add-j : goal.overflow_add-j
-overflow_add-j c =
-    omega (arith, c.put-size.ensures.value, fits c.loop-left.invariant (omega (arith, c.loop-left-test.true)))
+overflow_add-j c = omega (arith, c.put-size.ensures.value, fits c.loop-left.invariant (omega (arith, c.loop-left-test.true)))
 
 pub overflow_add-p : goal.overflow_add-p
 overflow_add-p c = omega (arith, inside c.loop-left.invariant (omega (arith, c.loop-left-test.true)))

@@ -8,5 +8,4 @@ slice_bounds-room-end c =
     next_inside _ _ _ _ (sym c.write_old-written.ensures.value ∙ c.in-Next.is) c.write_old-written.ensures.out_after
 
 pub slice_bounds-same-end : goal.slice_bounds-same-end
-slice_bounds-same-end c =
-    next_part _ _ _ _ (sym c.write_old-written.ensures.value ∙ c.in-Next.is) c.write_old-written.ensures.out_after
+slice_bounds-same-end c = next_part _ _ _ _ (sym c.write_old-written.ensures.value ∙ c.in-Next.is) c.write_old-written.ensures.out_after

@@ -12,8 +12,7 @@ pub slice_bounds-height-end : goal.slice_bounds-height-end
 slice_bounds-height-end c = sym (length-take-le _ _ (le_of_lt c.if-i-s.false))
 
 pub returns-in_default : goal.returns-in_default
-returns-in_default c =
-    block_first _ _ c.find-i.ensures c.if-i-s.false (sym c.height.ensures ∙ c.in_default.is)
+returns-in_default c = block_first _ _ c.find-i.ensures c.if-i-s.false (sym c.height.ensures ∙ c.in_default.is)
 
 pub returns-in_default-height : goal.returns-in_default-height
 returns-in_default-height c =

@@ -29,8 +29,7 @@ returns-then-run c = c.if-run.true ∙ rw (c.in-83.is, speed_runs, sym c.run-in-
 
 pub returns-else-run : goal.returns-else-run
 unfolding is_drawn
-returns-else-run c =
-    c.one_of-else-run.ensures ∙ rw (c.in-83.is, speed_runs, sym c.run-in-83.ensures ∙ c.if-run.false)
+returns-else-run c = c.one_of-else-run.ensures ∙ rw (c.in-83.is, speed_runs, sym c.run-in-83.ensures ∙ c.if-run.false)
 
 pub returns-in-71 : goal.returns-in-71
 unfolding is_drawn

@@ -16,8 +16,7 @@ pub returns-then-not-is_of : goal.returns-then-not-is_of
 returns-then-not-is_of c = rw (position_is _ c.if-s-ne12.false, not_so c.is_of.ensures c.if-not-is_of.true-raw)
 
 pub returns-then-s-ne47 : goal.returns-then-s-ne47
-returns-then-s-ne47 c =
-    rw (position_is _ c.if-s-ne12.false, so c.is_of.ensures c.if-not-is_of.false-raw, ne_eqb _ _ c.if-s-ne47.true)
+returns-then-s-ne47 c = rw (position_is _ c.if-s-ne12.false, so c.is_of.ensures c.if-not-is_of.false-raw, ne_eqb _ _ c.if-s-ne47.true)
 
 pub returns-then-not-is_of-2 : goal.returns-then-not-is_of-2
 returns-then-not-is_of-2 c =

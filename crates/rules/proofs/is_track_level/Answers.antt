@@ -9,8 +9,7 @@ pub slice_bounds-run-end : goal.slice_bounds-run-end
 slice_bounds-run-end c = simp length-take (omega arith)
 
 pub returns-then-run : goal.returns-then-run
-returns-then-run c =
-    c.is_of.ensures ∙ rw (track-letter _ c.if-s-eq4.true, sym c.run.ensures ∙ c.if-run.true)
+returns-then-run c = c.is_of.ensures ∙ rw (track-letter _ c.if-s-eq4.true, sym c.run.ensures ∙ c.if-run.true)
 
 pub returns-else-run : goal.returns-else-run
 returns-else-run c = c.if-run.false ∙ rw (track-letter _ c.if-s-eq4.true, sym c.run.ensures ∙ c.if-run.false)

@@ -45,12 +45,10 @@ pub is_of-requires : goal.is_of-requires
 is_of-requires c = tt
 
 pub returns-then-not-is_of : goal.returns-then-not-is_of
-returns-then-not-is_of c =
-    bad c.loop-i.invariant c.loop-i-test.true (not_so c.is_of.ensures c.if-not-is_of.true-raw)
+returns-then-not-is_of c = bad c.loop-i.invariant c.loop-i-test.true (not_so c.is_of.ensures c.if-not-is_of.true-raw)
 
 pub loop-i-preserved : goal.loop-i-preserved
-loop-i-preserved c =
-    again c.loop-i.invariant c.loop-i-test.true (so c.is_of.ensures c.if-not-is_of.false-raw)
+loop-i-preserved c = again c.loop-i.invariant c.loop-i-test.true (so c.is_of.ensures c.if-not-is_of.false-raw)
 
 pub returns : goal.returns
 returns c = done c.loop-i.invariant c.loop-i-test.false

@@ -11,11 +11,15 @@ use Rattle.table.proofs.TableWays.{by_wrong, by_not, by_ready, by_count, count_d
 use Rattle.table.proofs.read.Goals as goal
 
 pub returns-in_default : goal.returns-in_default
-returns-in_default c = let both = through (c.refused.ensures.answer_value, c.refused.ensures.values_value) (by_wrong _ _ _ (sym c.count.ensures ∙ c.in_default.is)) in record { answer_value = both.0; values_value = both.1 }
+returns-in_default c =
+    let both = through (c.refused.ensures.answer_value, c.refused.ensures.values_value) (by_wrong _ _ _ (sym c.count.ensures ∙ c.in_default.is)) in
+    record { answer_value = both.0; values_value = both.1 }
 
 pub returns-then-not-is_count : goal.returns-then-not-is_count
 returns-then-not-is_count c =
-    let told : count_of c.args.body.now ≡ counted.Fields c.in-Fields.n c.in-Fields.trailing = sym c.count.ensures ∙ c.in-Fields.is in let both = through (c.refused-then-not-is_count.ensures.answer_value, c.refused-then-not-is_count.ensures.values_value) (by_not _ _ _ told (not_so c.is_count.ensures c.if-not-is_count.true-raw)) in record { answer_value = both.0; values_value = both.1 }
+    let told : count_of c.args.body.now ≡ counted.Fields c.in-Fields.n c.in-Fields.trailing = sym c.count.ensures ∙ c.in-Fields.is in
+    let both = through (c.refused-then-not-is_count.ensures.answer_value, c.refused-then-not-is_count.ensures.values_value) (by_not _ _ _ told (not_so c.is_count.ensures c.if-not-is_count.true-raw)) in
+    record { answer_value = both.0; values_value = both.1 }
 
 pub slice_bounds-kinds-end : goal.slice_bounds-kinds-end
 slice_bounds-kinds-end c =
@@ -36,4 +40,6 @@ read-requires c =
 pub returns : goal.returns
 returns c =
     let told : count_of c.args.body.now ≡ counted.Fields c.in-Fields.n c.in-Fields.trailing = sym c.count.ensures ∙ c.in-Fields.is in
-    let right : is_count c.args.t c.in-Fields.n ≡ true = so c.is_count.ensures c.if-not-is_count.false-raw in let both = through (c.read.ensures.answer_value, c.read.ensures.values_value) (rw c.kinds_of-kinds.ensures (by_count _ _ _ told right)) in record { answer_value = both.0; values_value = both.1 }
+    let right : is_count c.args.t c.in-Fields.n ≡ true = so c.is_count.ensures c.if-not-is_count.false-raw in
+    let both = through (c.read.ensures.answer_value, c.read.ensures.values_value) (rw c.kinds_of-kinds.ensures (by_count _ _ _ told right)) in
+    record { answer_value = both.0; values_value = both.1 }

@@ -107,8 +107,7 @@ slice_bounds-put_one-start c =
     simp length-set (omega (arith, roomy))
 
 pub put_one-put-requires : goal.put_one-put-requires
-put_one-put-requires c =
-    asks c.loop-k.invariant c.loop-k-test.true _ (get_or-take _ _ _ _ c.loop-k-test.true)
+put_one-put-requires c = asks c.loop-k.invariant c.loop-k-test.true _ (get_or-take _ _ _ _ c.loop-k-test.true)
 
 pub overflow_add-at : goal.overflow_add-at
 overflow_add-at c =
@@ -123,4 +122,6 @@ pub shape_of-out : goal.shape_of-out
 shape_of-out c = c.loop-k.invariant.same
 
 pub returns : goal.returns
-returns c = let both = done c.loop-k.invariant c.loop-k-test.false in record { value = both.0; out_after = both.1 }
+returns c =
+    let both = done c.loop-k.invariant c.loop-k-test.false in
+    record { value = both.0; out_after = both.1 }

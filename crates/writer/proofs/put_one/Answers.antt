@@ -22,10 +22,25 @@ slice_bounds-trace-end-in-Next c =
 pub returns-in-Next : goal.returns-in-Next
 returns-in-Next c =
     let told : let a = c.args in written_next (is_value a.kind a.trace a.route.now a.v) (shown a.kind a.trace a.route.now a.v) a.out.now 0 ≡ Next c.in-Next.n = sym c.put_field-written.ensures.value ∙ c.in-Next.is in
-    let is = c.put_field-written.ensures.out_after in record { end_value = next_size _ _ _ told is; trace_value = c.trace.ensures ∙ ap (trace_of _) (next_text _ _ _ told is); out_after = next_bytes _ _ _ _ told is }
+    let is = c.put_field-written.ensures.out_after in
+    record {
+      end_value = next_size _ _ _ told is;
+      trace_value = c.trace.ensures ∙ ap (trace_of _) (next_text _ _ _ told is);
+      out_after = next_bytes _ _ _ _ told is;
+    }
 
 pub returns-in-NoRoom : goal.returns-in-NoRoom
-returns-in-NoRoom c = record { end_value = absurd (omega (arith, (no_room_known _ _ _ (sym c.put_field-written.ensures.value ∙ c.in-NoRoom.is)).1, c.requires.room)); trace_value = absurd (omega (arith, (no_room_known _ _ _ (sym c.put_field-written.ensures.value ∙ c.in-NoRoom.is)).1, c.requires.room)); out_after = absurd (omega (arith, (no_room_known _ _ _ (sym c.put_field-written.ensures.value ∙ c.in-NoRoom.is)).1, c.requires.room)) }
+returns-in-NoRoom c =
+    record {
+      end_value = absurd (omega (arith, (no_room_known _ _ _ (sym c.put_field-written.ensures.value ∙ c.in-NoRoom.is)).1, c.requires.room));
+      trace_value = absurd (omega (arith, (no_room_known _ _ _ (sym c.put_field-written.ensures.value ∙ c.in-NoRoom.is)).1, c.requires.room));
+      out_after = absurd (omega (arith, (no_room_known _ _ _ (sym c.put_field-written.ensures.value ∙ c.in-NoRoom.is)).1, c.requires.room));
+    }
 
 pub returns-in-NoText : goal.returns-in-NoText
-returns-in-NoText c = record { end_value = true_false c.requires.good (no_text_known _ _ _ (sym c.put_field-written.ensures.value ∙ c.in-NoText.is)); trace_value = true_false c.requires.good (no_text_known _ _ _ (sym c.put_field-written.ensures.value ∙ c.in-NoText.is)); out_after = true_false c.requires.good (no_text_known _ _ _ (sym c.put_field-written.ensures.value ∙ c.in-NoText.is)) }
+returns-in-NoText c =
+    record {
+      end_value = true_false c.requires.good (no_text_known _ _ _ (sym c.put_field-written.ensures.value ∙ c.in-NoText.is));
+      trace_value = true_false c.requires.good (no_text_known _ _ _ (sym c.put_field-written.ensures.value ∙ c.in-NoText.is));
+      out_after = true_false c.requires.good (no_text_known _ _ _ (sym c.put_field-written.ensures.value ∙ c.in-NoText.is));
+    }

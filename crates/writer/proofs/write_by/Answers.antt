@@ -33,11 +33,15 @@ module _ (ρ : Rule) (x : Reading) (r out : List ℕ) (at n : ℕ) (ok : is_allo
       (ap (λ (i : ℕ). Next (at + i)) size ∙ h.0, lend_on out (line_by ρ x r) at w ∙ h.1)
 
 pub returns-in_default : goal.returns-in_default
-returns-in_default c = let both = in_write_case _ _ _ _ _ (no_text _ _ _ (line_unknown _ _ _ (sym c.size_line.ensures ∙ c.in_default.is))) in record { value = both.0; out_after = both.1.0; write_case = both.1.1 }
+returns-in_default c =
+    let both = in_write_case _ _ _ _ _ (no_text _ _ _ (line_unknown _ _ _ (sym c.size_line.ensures ∙ c.in_default.is))) in
+    record { value = both.0; out_after = both.1.0; write_case = both.1.1 }
 
 pub returns-then-not-has_room : goal.returns-then-not-has_room
 returns-then-not-has_room c =
-    let known : let s = c.args in (is_allowed_by s.rule s.x s.free.now ≡ true) × (c.in-Bytes.n ≡ length (line_by s.rule s.x s.free.now)) = line_known _ _ _ (sym c.size_line.ensures ∙ c.in-Bytes.is) in let both = in_write_case _ _ _ _ _ (no_room_told _ _ _ known.1 c.has_room.ensures known.0 c.if-not-has_room.true-raw) in record { value = both.0; out_after = both.1.0; write_case = both.1.1 }
+    let known : let s = c.args in (is_allowed_by s.rule s.x s.free.now ≡ true) × (c.in-Bytes.n ≡ length (line_by s.rule s.x s.free.now)) = line_known _ _ _ (sym c.size_line.ensures ∙ c.in-Bytes.is) in
+    let both = in_write_case _ _ _ _ _ (no_room_told _ _ _ known.1 c.has_room.ensures known.0 c.if-not-has_room.true-raw) in
+    record { value = both.0; out_after = both.1.0; write_case = both.1.1 }
 
 pub slice_bounds-put_line-count : goal.slice_bounds-put_line-count
 slice_bounds-put_line-count c =
@@ -63,4 +67,6 @@ overflow_add-result c =
 pub returns : goal.returns
 returns c =
     let known : let s = c.args in (is_allowed_by s.rule s.x s.free.now ≡ true) × (c.in-Bytes.n ≡ length (line_by s.rule s.x s.free.now)) = line_known _ _ _ (sym c.size_line.ensures ∙ c.in-Bytes.is) in
-    let roomy : c.args.at + c.in-Bytes.n ≤ length c.args.out.now = leb-true _ _ (so c.has_room.ensures c.if-not-has_room.false-raw) in let both = in_write_case _ _ _ _ _ (puts _ _ _ _ _ _ known.0 known.1 roomy c.put_line.ensures) in record { value = both.0; out_after = both.1.0; write_case = both.1.1 }
+    let roomy : c.args.at + c.in-Bytes.n ≤ length c.args.out.now = leb-true _ _ (so c.has_room.ensures c.if-not-has_room.false-raw) in
+    let both = in_write_case _ _ _ _ _ (puts _ _ _ _ _ _ known.0 known.1 roomy c.put_line.ensures) in
+    record { value = both.0; out_after = both.1.0; write_case = both.1.1 }

@@ -12,8 +12,7 @@ pub bounds-board-0 : goal.bounds-board-0
 bounds-board-0 c = omega (arith, (parts _ c.requires).size)
 
 pub returns-then-n-eq0 : goal.returns-then-n-eq0
-returns-then-n-eq0 c =
-    sym (ap found_of (place_none c.args.board.now c.args.key.0 c.if-n-eq0.true))
+returns-then-n-eq0 c = sym (ap found_of (place_none c.args.board.now c.args.key.0 c.if-n-eq0.true))
 
 pub overflow_mul-left : goal.overflow_mul-left
 overflow_mul-left c = omega (arith, c.one_left-i.ensures.row, (parts _ c.requires).count, cap_is)
@@ -34,8 +33,7 @@ returns-then-left-key c = let a = c.args in
     left_tells a.board.now a.key.0 left (place_at _ _ _ left.row c.if-left-key.true)
 
 pub overflow_add-result : goal.overflow_add-result
-overflow_add-result c =
-    omega (arith, c.one_left-i.ensures.row, (parts _ c.requires).count, cap_is)
+overflow_add-result c = omega (arith, c.one_left-i.ensures.row, (parts _ c.requires).count, cap_is)
 
 pub returns-then-left-key-2 : goal.returns-then-left-key-2
 returns-then-left-key-2 c = let a = c.args in

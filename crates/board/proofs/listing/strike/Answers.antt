@@ -30,8 +30,7 @@ overflow_sub-board c =
     omega (arith, at_below l c.args.key.0 i e)
 
 pub bounds-board-0-in-At : goal.bounds-board-0-in-At
-bounds-board-0-in-At c =
-    omega (arith, (parts _ c.requires).size, c.close_gap.auto.board)
+bounds-board-0-in-At c = omega (arith, (parts _ c.requires).size, c.close_gap.auto.board)
 
 pub returns-in-At : goal.returns-in-At
 returns-in-At c =

@@ -76,8 +76,7 @@ put_row-requires-in-Gap c =
     omega (arith, gap_below l c.args.row.key.0 i e, (parts l c.requires.0).size, cap_is, c.if-n-ge256.false, c.open_gap.auto.board)
 
 pub bounds-board-0-in-Gap : goal.bounds-board-0-in-Gap
-bounds-board-0-in-Gap c =
-    omega (arith, (parts _ c.requires.0).size, c.put_row-in-Gap.auto.words, c.open_gap.auto.board)
+bounds-board-0-in-Gap c = omega (arith, (parts _ c.requires.0).size, c.put_row-in-Gap.auto.words, c.open_gap.auto.board)
 
 pub returns-in-At : goal.returns-in-At
 returns-in-At c =

@@ -9,8 +9,7 @@ pub shape_of-out-in_default : goal.shape_of-out-in_default
 shape_of-out-in_default c = c.put_bytes-written.auto.out ∙ c.loop-i.invariant.1
 
 pub returns-in_default : goal.returns-in_default
-returns-in_default c =
-    prefix_len_of_le _ _ (omega (arith, c.put_bytes-written.auto.out, c.loop-i.invariant.0))
+returns-in_default c = prefix_len_of_le _ _ (omega (arith, c.put_bytes-written.auto.out, c.loop-i.invariant.0))
 
 pub loop-i-preserved : goal.loop-i-preserved
 loop-i-preserved c =

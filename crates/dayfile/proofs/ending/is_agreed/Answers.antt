@@ -17,9 +17,7 @@ pub slice_bounds-walk_run-end-2 : goal.slice_bounds-walk_run-end-2
 slice_bounds-walk_run-end-2 c = sym (length-take-le _ _ c.if-count-offsets.false)
 
 pub returns-then-walked-count : goal.returns-then-walked-count
-returns-then-walked-count c =
-    other_lines _ _ _ c.if-at-out.false c.if-count-offsets.false c.walk_run-walked.ensures c.if-walked-count.true
+returns-then-walked-count c = other_lines _ _ _ c.if-at-out.false c.if-count-offsets.false c.walk_run-walked.ensures c.if-walked-count.true
 
 pub returns : goal.returns
-returns c =
-    agreed_by _ _ _ c.if-at-out.false c.if-count-offsets.false c.walk_run-walked.ensures c.if-walked-count.false
+returns c = agreed_by _ _ _ c.if-at-out.false c.if-count-offsets.false c.walk_run-walked.ensures c.if-walked-count.false

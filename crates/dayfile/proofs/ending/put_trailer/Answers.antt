@@ -11,11 +11,19 @@ put_number-requires c = record { n_bound = (not_over _ _ c.requires.place_value)
 
 pub put_number-requires-2 : goal.put_number-requires-2
 unfolding trailer_size
-put_number-requires-2 c = record { n_bound = omega (arith, c.requires.sound.2, (not_over _ _ c.requires.place_value).0); wide_in_bounds = omega (arith, c.put_number.auto.out, c.requires.trailer_in_bounds) }
+put_number-requires-2 c =
+    record {
+      n_bound = omega (arith, c.requires.sound.2, (not_over _ _ c.requires.place_value).0);
+      wide_in_bounds = omega (arith, c.put_number.auto.out, c.requires.trailer_in_bounds);
+    }
 
 pub put_number-requires-3 : goal.put_number-requires-3
 unfolding trailer_size
-put_number-requires-3 c = record { n_bound = c.requires.sound.1; wide_in_bounds = omega (arith, c.put_number-2.auto.out, c.put_number.auto.out, c.requires.trailer_in_bounds) }
+put_number-requires-3 c =
+    record {
+      n_bound = c.requires.sound.1;
+      wide_in_bounds = omega (arith, c.put_number-2.auto.out, c.put_number.auto.out, c.requires.trailer_in_bounds);
+    }
 
 pub returns : goal.returns
 returns c =

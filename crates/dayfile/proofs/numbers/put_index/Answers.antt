@@ -13,8 +13,7 @@ pub put_number-requires : goal.put_number-requires
 put_number-requires c = record { n_bound = omega (arith, c.shared_slice_known-in-loop-k-1.given c.loop-k.k); wide_in_bounds = omega arith }
 
 pub loop-k-preserved : goal.loop-k-preserved
-loop-k-preserved c =
-    index_next c.loop-k.invariant c.loop-k-test.true c.put_number.ensures
+loop-k-preserved c = index_next c.loop-k.invariant c.loop-k-test.true c.put_number.ensures
 
 pub shape_of-out : goal.shape_of-out
 shape_of-out c = c.loop-k.invariant.same

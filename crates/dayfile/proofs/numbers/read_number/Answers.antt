@@ -61,4 +61,6 @@ loop-i-preserved c =
     again l.invariant c.loop-i-test.true (omega (arith, c.shared_slice_known-1.given l.i))
 
 pub returns : goal.returns
-returns c = let both = done c.loop-i.invariant c.loop-i-test.false in record { value = both.0; upper_bound = both.1 }
+returns c =
+    let both = done c.loop-i.invariant c.loop-i-test.false in
+    record { value = both.0; upper_bound = both.1 }

@@ -4,8 +4,7 @@ use Rattle.dayfile.proofs.Windows.{sweeps}
 use Rattle.dayfile.proofs.walking.sweep_on.Goals as goal
 
 pub returns : goal.returns
-returns c =
-    sweeps c.args.day c.args.sweep _ _ c.requires _ c.walk-walked.ensures
+returns c = sweeps c.args.day c.args.sweep _ _ c.requires _ c.walk-walked.ensures
 
 pub overflow_add-result-2 : goal.overflow_add-result-2
 overflow_add-result-2 c = omega (arith, (returns c).most)

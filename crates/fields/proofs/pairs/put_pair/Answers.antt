@@ -8,11 +8,15 @@ use Rattle.fields.proofs.pairs.put_pair.Goals as goal
 
 pub returns-then-not-holds_pair : goal.returns-then-not-holds_pair
 unfolding is_pair_text
-returns-then-not-holds_pair c = let both = no_text _ _ _ (rw (not_so c.holds_pair.ensures c.if-not-holds_pair.true-raw)) in record { value = both.0; out_after = both.1 }
+returns-then-not-holds_pair c =
+    let both = no_text _ _ _ (rw (not_so c.holds_pair.ensures c.if-not-holds_pair.true-raw)) in
+    record { value = both.0; out_after = both.1 }
 
 pub returns-in-Text : goal.returns-in-Text
 returns-in-Text c =
     let w = pair_writes _ _ _ _ (so c.holds_pair.ensures c.if-not-holds_pair.false-raw) (sym c.pair_word-word.ensures ∙ c.in-Text.is) in rw (← w.0, ← w.1) (record { value = c.put.ensures.value; out_after = c.put.ensures.out_after })
 
 pub returns-in-Nothing : goal.returns-in-Nothing
-returns-in-Nothing c = let both = no_text _ _ _ (pair_too_long _ _ _ _ (so c.holds_pair.ensures c.if-not-holds_pair.false-raw) (sym c.pair_word-word.ensures ∙ c.in-Nothing.is)) in record { value = both.0; out_after = both.1 }
+returns-in-Nothing c =
+    let both = no_text _ _ _ (pair_too_long _ _ _ _ (so c.holds_pair.ensures c.if-not-holds_pair.false-raw) (sym c.pair_word-word.ensures ∙ c.in-Nothing.is)) in
+    record { value = both.0; out_after = both.1 }

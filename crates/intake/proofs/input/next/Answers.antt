@@ -6,14 +6,14 @@ use borrow.Author.Rules.{rules}
 use Rattle.intake.proofs.Edges.{none_came, some_came}
 use Rattle.intake.proofs.input.next.Goals as goal
 
-pub returns-then-block-input : goal.returns-then-block-input
-returns-then-block-input c = none_came _ _ _ false (λ q. refl) c.closed.ensures
+pub returns-then-block-input-clause-came : goal.returns-then-block-input-clause-came
+returns-then-block-input-clause-came c = none_came _ _ _ false (λ q. refl) c.closed.ensures
 
-pub returns-in-Err : goal.returns-in-Err
-returns-in-Err c = none_came _ _ _ true (λ q. absurd (omega arith)) c.closed-in-Err.ensures
+pub returns-in-Err-clause-came : goal.returns-in-Err-clause-came
+returns-in-Err-clause-came c = none_came _ _ _ true (λ q. absurd (omega arith)) c.closed-in-Err.ensures
 
-pub returns-then-n-eq0 : goal.returns-then-n-eq0
-returns-then-n-eq0 c = none_came _ _ _ false (λ q. refl) c.closed-then-n-eq0.ensures
+pub returns-then-n-eq0-clause-came : goal.returns-then-n-eq0-clause-came
+returns-then-n-eq0-clause-came c = none_came _ _ _ false (λ q. refl) c.closed-then-n-eq0.ensures
 
-pub returns : goal.returns
-returns c = some_came _ _ _ _ (omega arith) (omega arith) refl (omega arith) refl refl (search rules)
+pub returns-clause-came : goal.returns-clause-came
+returns-clause-came c = some_came _ _ _ _ (omega arith) (omega (arith, c.in-Ok.ensures.within)) refl (omega arith) refl refl (search rules)

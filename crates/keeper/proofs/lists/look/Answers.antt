@@ -14,7 +14,9 @@ pub returns-in_default : goal.returns-in_default
 returns-in_default c = λ e. let l = c.look_at_end-told in told_judged (told_by_lem _ l.new.tail l.auto.tail (l.ensures e)) (opened c.in_default.in_default-own.keys2)
 
 pub go_over-pass-requires : goal.go_over-pass-requires
-go_over-pass-requires c = let l = c.look_at_end-told in record { size_bound = c.requires; told = told_by_lem _ l.new.tail l.auto.tail (sym c.in-Day.is ∙ l.ensures (not-false _ c.if-not-told.false)) }
+go_over-pass-requires c =
+    let l = c.look_at_end-told in
+    record { size_bound = c.requires; told = told_by_lem _ l.new.tail l.auto.tail (sym c.in-Day.is ∙ l.ensures (not-false _ c.if-not-told.false)) }
 
 pub returns : goal.returns
 returns c = λ e. let g = c.go_over-pass in rw c.verdict-opened.ensures (pass_judged g.result g.ensures e)

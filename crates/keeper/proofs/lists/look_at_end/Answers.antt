@@ -14,7 +14,11 @@ returns-then-not-is_filled c = λ e. true_false e refl
 
 pub open_end-opened-requires : goal.open_end-opened-requires
 open_end-opened-requires c = let f = c.fill-end in
-    let k = f.auto.window in record { le_size = (omega arith, (f.ensures.0, f.ensures.1 ∙ sym k, so c.is_filled.ensures c.if-not-is_filled.false-raw)); tail_len = k ∙ c.requires.tail_len }
+    let k = f.auto.window in
+    record {
+      le_size = (omega arith, (f.ensures.0, f.ensures.1 ∙ sym k, so c.is_filled.ensures c.if-not-is_filled.false-raw));
+      tail_len = k ∙ c.requires.tail_len;
+    }
 
 pub returns : goal.returns
 returns c = λ e. end_told version1 refl _ _ _ c.size-size.ensures c.open_end-opened.ensures

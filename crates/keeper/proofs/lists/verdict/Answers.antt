@@ -6,9 +6,7 @@ pub returns-then-sweep-day : goal.returns-then-sweep-day
 returns-then-sweep-day c = too_few c.args.day c.args.pass c.if-sweep-day.true
 
 pub returns-then-sweep-day-2 : goal.returns-then-sweep-day-2
-returns-then-sweep-day-2 c =
-    other_end c.args.day c.args.pass c.if-sweep-day.false c.if-sweep-day-2.true
+returns-then-sweep-day-2 c = other_end c.args.day c.args.pass c.if-sweep-day.false c.if-sweep-day-2.true
 
 pub returns : goal.returns
-returns c =
-    same_end c.args.day c.args.pass c.if-sweep-day.false c.if-sweep-day-2.false
+returns c = same_end c.args.day c.args.pass c.if-sweep-day.false c.if-sweep-day-2.false

@@ -10,7 +10,11 @@ pub turn-pass-requires : goal.turn-pass-requires
 turn-pass-requires c =
     let l = c.loop-on.invariant in
     let a = l.0.ahead c.loop-on-test.true in
-    record { passing = l.0.passing; size_bound = (c.requires.size_bound, a.0, a.1); lines_len = (l.1 ∙ c.requires.lines_len.0, l.2 ∙ c.requires.lines_len.1) }
+    record {
+      passing = l.0.passing;
+      size_bound = (c.requires.size_bound, a.0, a.1);
+      lines_len = (l.1 ∙ c.requires.lines_len.0, l.2 ∙ c.requires.lines_len.1);
+    }
 
 pub loop-on-smaller : goal.loop-on-smaller
 loop-on-smaller c = less_to_go c.loop-on.pass c.turn-pass.result c.turn-pass.ensures c.is_on-on.result c.is_on-on.ensures c.loop-on.on c.loop-on-test.true

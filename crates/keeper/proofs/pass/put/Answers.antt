@@ -7,8 +7,7 @@ pub returns-then-not-writes : goal.returns-then-not-writes
 returns-then-not-writes c = let s = c.args in no_put s.writes s.shelf _ (not-true s.writes c.if-not-writes.true-raw)
 
 pub put_lines-requires : goal.put_lines-requires
-put_lines-requires c =
-    c.requires (not-false c.args.writes c.if-not-writes.false-raw)
+put_lines-requires c = c.requires (not-false c.args.writes c.if-not-writes.false-raw)
 
 pub returns : goal.returns
 returns c =

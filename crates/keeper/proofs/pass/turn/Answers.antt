@@ -23,12 +23,10 @@ pub overflow_mul-day : goal.overflow_mul-day
 overflow_mul-day c = omega (arith, pass_size c.requires.passing, c.requires.size_bound)
 
 pub overflow_mul-place : goal.overflow_mul-place
-overflow_mul-place c =
-    omega (arith, pass_size c.requires.passing, c.requires.passing.swept.fewer, c.requires.size_bound)
+overflow_mul-place c = omega (arith, pass_size c.requires.passing, c.requires.passing.swept.fewer, c.requires.size_bound)
 
 pub overflow_add-place : goal.overflow_add-place
-overflow_add-place c =
-    omega (arith, pass_size c.requires.passing, c.requires.passing.swept.fewer, c.requires.size_bound)
+overflow_add-place c = omega (arith, pass_size c.requires.passing, c.requires.passing.swept.fewer, c.requires.size_bound)
 
 pub slice_bounds-fill-end-4 : goal.slice_bounds-fill-end-4
 slice_bounds-fill-end-4 c = sym (length-take-le _ _ (omega (arith, c.least-m.ensures)))
@@ -54,7 +52,13 @@ judge-requires c =
     let a = c.least-n in
     let b = c.least-m in
     let x = f.new.window in
-    let y = g.new.window in record { wide = windows_wide c.requires.passing c.args.lines.now c.args.index.now x y a.result b.result a.ensures b.ensures f.auto.window g.auto.window c.requires.size_bound.0 c.requires.size_bound.2 c.requires.lines_len.0 c.requires.lines_len.1; read_from = (f.ensures.0, f.ensures.1 ∙ s_same c.requires.passing c.args.lines.now c.args.index.now x y a.result b.result a.ensures b.ensures f.auto.window g.auto.window, so c.is_filled.ensures c.if-not-is_filled.false-raw); read_from_2 = (g.ensures.0, g.ensures.1 ∙ i_same c.requires.passing c.args.lines.now c.args.index.now x y a.result b.result a.ensures b.ensures f.auto.window g.auto.window, so c.is_filled-2.ensures c.if-not-is_filled-2.false-raw); after_lines = after_lines c.requires.passing c.requires.size_bound.1 }
+    let y = g.new.window in
+    record {
+      wide = windows_wide c.requires.passing c.args.lines.now c.args.index.now x y a.result b.result a.ensures b.ensures f.auto.window g.auto.window c.requires.size_bound.0 c.requires.size_bound.2 c.requires.lines_len.0 c.requires.lines_len.1;
+      read_from = (f.ensures.0, f.ensures.1 ∙ s_same c.requires.passing c.args.lines.now c.args.index.now x y a.result b.result a.ensures b.ensures f.auto.window g.auto.window, so c.is_filled.ensures c.if-not-is_filled.false-raw);
+      read_from_2 = (g.ensures.0, g.ensures.1 ∙ i_same c.requires.passing c.args.lines.now c.args.index.now x y a.result b.result a.ensures b.ensures f.auto.window g.auto.window, so c.is_filled-2.ensures c.if-not-is_filled-2.false-raw);
+      after_lines = after_lines c.requires.passing c.requires.size_bound.1;
+    }
 
 pub shape_of-lines : goal.shape_of-lines
 shape_of-lines c = let f = c.fill-shown in length_front c.args.lines.now f.new.window c.least-n.result f.auto.window

@@ -7,7 +7,13 @@ use Rattle.keeper.proofs.Closings.{done}
 use Rattle.keeper.proofs.work.keep_feed.Goals as goal
 
 pub keep_all-work-requires : goal.keep_all-work-requires
-keep_all-work-requires c = record { held_len = search rules; block_in_bounds = omega (arith, c.large_buffer-block.ensures, length-replicate {A = ℕ} 67584 0); offsets_len = search rules; total_value = c.requires }
+keep_all-work-requires c =
+    record {
+      held_len = search rules;
+      block_in_bounds = omega (arith, c.large_buffer-block.ensures, length-replicate {A = ℕ} 67584 0);
+      offsets_len = search rules;
+      total_value = c.requires;
+    }
 
 pub returns : goal.returns
 returns c =

@@ -24,5 +24,4 @@ returns-then-stamped-day_before c =
     day_before_lem _ _ _ p.le_last p.ranged.day_least (c.if-stamped-day_before.true ∙ c.day_before.ensures)
 
 pub returns : goal.returns
-returns c =
-    old _ _ _ c.if-stamped-moment.false (λ q. c.if-stamped-day_before.false (q ∙ sym c.day_before.ensures))
+returns c = old _ _ _ c.if-stamped-moment.false (λ q. c.if-stamped-day_before.false (q ∙ sym c.day_before.ensures))

@@ -8,8 +8,7 @@ pub returns-then-word-eq0 : goal.returns-then-word-eq0
 returns-then-word-eq0 c = sym (ap length (part_none _ c.if-word-eq0.true))
 
 pub returns-in-Bytes : goal.returns-in-Bytes
-returns-in-Bytes c =
-    size_some _ c.requires c.if-word-eq0.false (sym c.size-found.ensures ∙ c.in-Bytes.is)
+returns-in-Bytes c = size_some _ c.requires c.if-word-eq0.false (sym c.size-found.ensures ∙ c.in-Bytes.is)
 
 pub returns-in-NotOne : goal.returns-in-NotOne
 returns-in-NotOne c = size_never _ c.requires c.if-word-eq0.false (sym c.size-found.ensures ∙ c.in-NotOne.is)

@@ -11,4 +11,5 @@ put_line-requires c =
 
 pub returns : goal.returns
 returns c =
-    let e = slip_there _ _ c.requires.p_in_bounds c.requires.board_value c.parts-words.ensures in record { value = c.put_line.ensures.value ∙ ap length e; out_after = c.put_line.ensures.out_after ∙ ap (spliced _ 0) e }
+    let e = slip_there _ _ c.requires.p_in_bounds c.requires.board_value c.parts-words.ensures in
+    record { value = c.put_line.ensures.value ∙ ap length e; out_after = c.put_line.ensures.out_after ∙ ap (spliced _ 0) e }

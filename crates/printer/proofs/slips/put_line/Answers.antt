@@ -74,8 +74,7 @@ pub put_part-at-requires : goal.put_part-at-requires
 put_part-at-requires c = (packed c.loop-k.invariant, roomy c.loop-k.invariant c.loop-k-test.true)
 
 pub loop-k-preserved : goal.loop-k-preserved
-loop-k-preserved c =
-    again c.loop-k.invariant c.loop-k-test.true c.put_part-at.ensures.value c.put_part-at.ensures.out_after
+loop-k-preserved c = again c.loop-k.invariant c.loop-k-test.true c.put_part-at.ensures.value c.put_part-at.ensures.out_after
 
 pub bounds-words-7 : goal.bounds-words-7
 bounds-words-7 c = omega (arith, c.loop-k.invariant.eight.count)
@@ -87,4 +86,8 @@ pub shape_of-out : goal.shape_of-out
 shape_of-out c = c.put_part.auto.out ∙ c.loop-k.invariant.same
 
 pub returns : goal.returns
-returns c = record { value = c.put_part.ensures.value ∙ done c.loop-k.invariant c.loop-k-test.false; out_after = wrote c.loop-k.invariant c.loop-k-test.false c.put_part.ensures.out_after }
+returns c =
+    record {
+      value = c.put_part.ensures.value ∙ done c.loop-k.invariant c.loop-k-test.false;
+      out_after = wrote c.loop-k.invariant c.loop-k-test.false c.put_part.ensures.out_after;
+    }

@@ -9,10 +9,14 @@ pub bounds-out-at : goal.bounds-out-at
 bounds-out-at c = omega (arith, ap length (part_none _ c.if-word-eq0.true))
 
 pub returns-then-word-eq0 : goal.returns-then-word-eq0
-returns-then-word-eq0 c = let both = put_none _ _ _ c.requires.0 c.requires.1 c.if-word-eq0.true in record { value = both.0; out_after = both.1 }
+returns-then-word-eq0 c =
+    let both = put_none _ _ _ c.requires.0 c.requires.1 c.if-word-eq0.true in
+    record { value = both.0; out_after = both.1 }
 
 pub returns-in-Next : goal.returns-in-Next
-returns-in-Next c = let both = put_some _ _ _ c.requires.0 c.requires.1 c.if-word-eq0.false (sym c.put-written.ensures.value ∙ c.in-Next.is) c.put-written.ensures.out_after in record { value = both.0; out_after = both.1 }
+returns-in-Next c =
+    let both = put_some _ _ _ c.requires.0 c.requires.1 c.if-word-eq0.false (sym c.put-written.ensures.value ∙ c.in-Next.is) c.put-written.ensures.out_after in
+    record { value = both.0; out_after = both.1 }
 
 pub returns-in-NoRoom : goal.returns-in-NoRoom
 returns-in-NoRoom c = put_roomy _ _ _ c.requires.0 c.requires.1 c.if-word-eq0.false (sym c.put-written.ensures.value ∙ c.in-NoRoom.is)

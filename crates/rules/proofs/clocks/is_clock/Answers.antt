@@ -14,8 +14,7 @@ unfolding is_clock
 returns-then-s-ne4 c = rw (fits_apart (bytes "dddd") _ (λ e. c.if-s-ne4.true (sym e)))
 
 pub returns-in_default : goal.returns-in_default
-returns-in_default c =
-    no_minutes 2359 _ (sym c.number.ensures ∙ c.in_default.is) ∙ clock_is _ c.if-s-ne4.false
+returns-in_default c = no_minutes 2359 _ (sym c.number.ensures ∙ c.in_default.is) ∙ clock_is _ c.if-s-ne4.false
 
 pub returns-then-n-le2359 : goal.returns-then-n-le2359
 returns-then-n-le2359 c =

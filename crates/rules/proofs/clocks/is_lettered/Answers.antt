@@ -13,8 +13,7 @@ returns-then-s-ne5 c =
     rw (fits_apart (a.k ∷ bytes "dddd") a.s.now (λ e. c.if-s-ne5.true (omega (arith, e))))
 
 pub returns-then-is_of : goal.returns-then-is_of
-returns-then-is_of c =
-    c.is_clock.ensures ∙ rw (lettered _ _ c.if-s-ne5.false, sym c.is_of.ensures ∙ c.if-is_of.true)
+returns-then-is_of c = c.is_clock.ensures ∙ rw (lettered _ _ c.if-s-ne5.false, sym c.is_of.ensures ∙ c.if-is_of.true)
 
 pub returns-else-is_of : goal.returns-else-is_of
 returns-else-is_of c = c.if-is_of.false ∙ rw (lettered _ _ c.if-s-ne5.false, sym c.is_of.ensures ∙ c.if-is_of.false)

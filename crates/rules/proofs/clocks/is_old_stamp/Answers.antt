@@ -11,9 +11,7 @@ unfolding is_old_stamp
 returns-then-s-ne6 c = rw (fits_apart (bytes "dddddd") _ (λ e. c.if-s-ne6.true (sym e)))
 
 pub returns-in_default : goal.returns-in_default
-returns-in_default c =
-    no_old_stamp _ c.if-s-ne6.false (sym c.number.ensures ∙ c.in_default.is)
+returns-in_default c = no_old_stamp _ c.if-s-ne6.false (sym c.number.ensures ∙ c.in_default.is)
 
 pub returns : goal.returns
-returns c =
-    c.is_time_of_day.ensures ∙ old_stamp_is _ c.if-s-ne6.false (sym c.number.ensures ∙ c.in-Value.is)
+returns c = c.is_time_of_day.ensures ∙ old_stamp_is _ c.if-s-ne6.false (sym c.number.ensures ∙ c.in-Value.is)

@@ -11,9 +11,7 @@ unfolding is_stamp
 returns-then-s-ne8 c = rw (fits_apart (bytes "dddddddd") _ (λ e. c.if-s-ne8.true (sym e)))
 
 pub returns-in_default : goal.returns-in_default
-returns-in_default c =
-    no_stamp _ c.if-s-ne8.false (sym c.number.ensures ∙ c.in_default.is)
+returns-in_default c = no_stamp _ c.if-s-ne8.false (sym c.number.ensures ∙ c.in_default.is)
 
 pub returns : goal.returns
-returns c =
-    c.is_moment.ensures ∙ stamp_is _ c.if-s-ne8.false (sym c.number.ensures ∙ c.in-Value.is)
+returns c = c.is_moment.ensures ∙ stamp_is _ c.if-s-ne8.false (sym c.number.ensures ∙ c.in-Value.is)

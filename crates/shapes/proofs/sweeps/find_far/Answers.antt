@@ -31,12 +31,10 @@ pub loop-i-init : goal.loop-i-init
 loop-i-init c = record { at = omega arith; rest = omega arith }
 
 pub loop-i-preserved : goal.loop-i-preserved
-loop-i-preserved c =
-    again c.loop-i.invariant 16 c.loop-i-test.true (sym c.holds.ensures ∙ c.if-holds.false)
+loop-i-preserved c = again c.loop-i.invariant 16 c.loop-i-test.true (sym c.holds.ensures ∙ c.if-holds.false)
 
 pub overflow_add-result : goal.overflow_add-result
-overflow_add-result c =
-    omega (arith, found c.loop-i.invariant c.find.result c.find.ensures, up_to_le c.args.b c.args.s.now)
+overflow_add-result c = omega (arith, found c.loop-i.invariant c.find.result c.find.ensures, up_to_le c.args.b c.args.s.now)
 
 pub returns : goal.returns
 returns c = found c.loop-i.invariant c.find.result c.find.ensures

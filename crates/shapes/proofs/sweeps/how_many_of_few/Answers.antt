@@ -24,8 +24,7 @@ pub loop-i-init : goal.loop-i-init
 loop-i-init c = record { at = omega arith; rest = omega arith }
 
 pub overflow_add-n : goal.overflow_add-n
-overflow_add-n c =
-    omega (arith, (again c.loop-i.invariant c.loop-i-test.true).rest, many_le c.args.b c.args.s.now, c.requires)
+overflow_add-n c = omega (arith, (again c.loop-i.invariant c.loop-i-test.true).rest, many_le c.args.b c.args.s.now, c.requires)
 
 pub loop-i-preserved : goal.loop-i-preserved
 loop-i-preserved c = again c.loop-i.invariant c.loop-i-test.true

@@ -7,7 +7,9 @@ use Rattle.table.proofs.field.put_ident.Goals as goal
 
 pub returns-then-v-ne0 : goal.returns-then-v-ne0
 unfolding is_two
-returns-then-v-ne0 c = let both = no_text _ _ _ (rw (ne_eqb _ _ c.if-v-ne0.true, and-false)) in record { value = both.0; out_after = both.1 }
+returns-then-v-ne0 c =
+    let both = no_text _ _ _ (rw (ne_eqb _ _ c.if-v-ne0.true, and-false)) in
+    record { value = both.0; out_after = both.1 }
 
 pub returns : goal.returns
 unfolding is_two

@@ -7,11 +7,15 @@ use Rattle.table.proofs.field.put_kind.Goals as goal
 
 pub returns-then-v-eq0 : goal.returns-then-v-eq0
 unfolding is_kind_value shown_kind
-returns-then-v-eq0 c = let both = no_text _ _ _ (rw (c.in-74.is, eq-eqb _ _ c.if-v-eq0.true, and-false)) in record { value = both.0; out_after = both.1 }
+returns-then-v-eq0 c =
+    let both = no_text _ _ _ (rw (c.in-74.is, eq-eqb _ _ c.if-v-eq0.true, and-false)) in
+    record { value = both.0; out_after = both.1 }
 
 pub returns-then-v-ne0 : goal.returns-then-v-ne0
 unfolding is_kind_value shown_kind
-returns-then-v-ne0 c = let both = no_text _ _ _ (rw (c.in-122.is, ne_eqb _ _ c.if-v-ne0.true, and-false)) in record { value = both.0; out_after = both.1 }
+returns-then-v-ne0 c =
+    let both = no_text _ _ _ (rw (c.in-122.is, ne_eqb _ _ c.if-v-ne0.true, and-false)) in
+    record { value = both.0; out_after = both.1 }
 
 pub returns-in-73 : goal.returns-in-73
 unfolding is_kind_value shown_kind

@@ -32,7 +32,9 @@ some m d e n = go (is_mark m) refl
     go false q = absurd (n (ap (λ (s : List ℕ). get_or s 0 0) (rw q at e)))
 
 pub returns-then-digits-eq0 : goal.returns-then-digits-eq0
-returns-then-digits-eq0 c = let both = no_text _ _ _ (none _ _ c.number-digits.ensures c.if-digits-eq0.true) in record { value = both.0; out_after = both.1 }
+returns-then-digits-eq0 c =
+    let both = no_text _ _ _ (none _ _ c.number-digits.ensures c.if-digits-eq0.true) in
+    record { value = both.0; out_after = both.1 }
 
 pub returns : goal.returns
 returns c =

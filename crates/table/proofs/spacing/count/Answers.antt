@@ -41,8 +41,7 @@ pub returns-then-body-ne32 : goal.returns-then-body-ne32
 returns-then-body-ne32 c = bad _ c.if-body-ne32.true (search rules)
 
 pub returns-then-has_twice : goal.returns-then-has_twice
-returns-then-has_twice c =
-    wrong _ (search rules) c.if-body-ne32.false (sym c.has_twice.ensures ∙ c.if-has_twice.true)
+returns-then-has_twice c = wrong _ (search rules) c.if-body-ne32.false (sym c.has_twice.ensures ∙ c.if-has_twice.true)
 
 pub slice_bounds-how_many-end : goal.slice_bounds-how_many-end
 slice_bounds-how_many-end c = sym (length-take-le _ _ (omega arith))

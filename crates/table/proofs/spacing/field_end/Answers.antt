@@ -29,5 +29,4 @@ overflow_add-result c =
     omega (arith, found s c.args.j c.find-m.result c.find-m.ensures, end_to s c.args.j c.if-j-body.false)
 
 pub returns : goal.returns
-returns c =
-    found c.args.body.now c.args.j c.find-m.result c.find-m.ensures
+returns c = found c.args.body.now c.args.j c.find-m.result c.find-m.ensures

@@ -110,12 +110,12 @@ slice_bounds-read_field-start c =
     omega (arith, starts)
 
 pub slice_bounds-read_field-end : goal.slice_bounds-read_field-end
-slice_bounds-read_field-end c =
-    let ends : c.field_end-e.result ≤ length c.args.body.now = rw c.field_end-e.ensures (end_le _ _ (within c.loop-k.invariant c.loop-k-test.true)) in
-    ends
+slice_bounds-read_field-end c = rw c.field_end-e.ensures (end_le _ _ (within c.loop-k.invariant c.loop-k-test.true))
 
 pub returns-in_default : goal.returns-in_default
-returns-in_default c = let both = stops c.loop-k.invariant c.loop-k-test.true c.field_end-e.result c.field_end-e.ensures c.read_field-read.result c.read_field-read.ensures c.as_fault.result (opened c.in_default.in_default-own.keys2) c.as_fault.ensures in record { answer_value = both.0; values_value = both.1 }
+returns-in_default c =
+    let both = stops c.loop-k.invariant c.loop-k-test.true c.field_end-e.result c.field_end-e.ensures c.read_field-read.result c.read_field-read.ensures c.as_fault.result (opened c.in_default.in_default-own.keys2) c.as_fault.ensures in
+    record { answer_value = both.0; values_value = both.1 }
 
 pub slice_bounds-marks_after-count : goal.slice_bounds-marks_after-count
 slice_bounds-marks_after-count c =
@@ -128,9 +128,7 @@ slice_bounds-marks_after-start c =
     omega (arith, starts)
 
 pub slice_bounds-marks_after-end : goal.slice_bounds-marks_after-end
-slice_bounds-marks_after-end c =
-    let ends : c.field_end-e.result ≤ length c.args.body.now = rw c.field_end-e.ensures (end_le _ _ (within c.loop-k.invariant c.loop-k-test.true)) in
-    ends
+slice_bounds-marks_after-end c = rw c.field_end-e.ensures (end_le _ _ (within c.loop-k.invariant c.loop-k-test.true))
 
 pub slice_bounds-trace-count : goal.slice_bounds-trace-count
 slice_bounds-trace-count c =
@@ -143,13 +141,13 @@ slice_bounds-trace-start c =
     omega (arith, starts)
 
 pub slice_bounds-trace-end : goal.slice_bounds-trace-end
-slice_bounds-trace-end c =
-    let ends : c.field_end-e.result ≤ length c.args.body.now = rw c.field_end-e.ensures (end_le _ _ (within c.loop-k.invariant c.loop-k-test.true)) in
-    ends
+slice_bounds-trace-end c = rw c.field_end-e.ensures (end_le _ _ (within c.loop-k.invariant c.loop-k-test.true))
 
 pub loop-k-preserved : goal.loop-k-preserved
 loop-k-preserved c =
     again c.loop-k.invariant c.loop-k-test.true c.field_end-e.result c.field_end-e.ensures c.read_field-read.result c.read_field-read.ensures _ _ _ c.in-Read.is c.trace-trace.ensures c.marks_after-marks.ensures
 
 pub returns : goal.returns
-returns c = let both = done c.loop-k.invariant c.loop-k-test.false in record { answer_value = both.0; values_value = both.1 }
+returns c =
+    let both = done c.loop-k.invariant c.loop-k-test.false in
+    record { answer_value = both.0; values_value = both.1 }

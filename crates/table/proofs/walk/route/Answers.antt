@@ -76,13 +76,16 @@ module _ {ks body : List ℕ} {n at k p : ℕ} (v : Inv ks body n at k p) where
 
 pub returns-in_default : goal.returns-in_default
 returns-in_default c =
-    let w = sym c.count.ensures ∙ c.in_default.is in record { result_value = route_wrong _ _ w; ref_ptr_value = at_front _ (start_wrong _ _ w) }
+    let w = sym c.count.ensures ∙ c.in_default.is in
+    record { result_value = route_wrong _ _ w; ref_ptr_value = at_front _ (start_wrong _ _ w) }
 
 pub loop-k-init : goal.loop-k-init
 loop-k-init c = start _ _ (sym c.count.ensures ∙ c.in-Fields.is)
 
 pub returns-then-k-kinds : goal.returns-then-k-kinds
-returns-then-k-kinds c = let w = no_kinds c.loop-k.invariant c.if-k-kinds.true in record { result_value = w.0; ref_ptr_value = at_front _ w.1 }
+returns-then-k-kinds c =
+    let w = no_kinds c.loop-k.invariant c.if-k-kinds.true in
+    record { result_value = w.0; ref_ptr_value = at_front _ w.1 }
 
 pub overflow_add-j : goal.overflow_add-j
 overflow_add-j c = omega (arith, within c.loop-k.invariant c.loop-k-test.true)
@@ -98,12 +101,14 @@ slice_bounds-result-start c =
     omega (arith, starts)
 
 pub slice_bounds-result-end-then-plain-eq-ROUTE : goal.slice_bounds-result-end-then-plain-eq-ROUTE
-slice_bounds-result-end-then-plain-eq-ROUTE c =
-    let ends : c.field_end-e.result ≤ length c.args.body.now = rw c.field_end-e.ensures (end_le _ _ (within c.loop-k.invariant c.loop-k-test.true)) in
-    ends
+slice_bounds-result-end-then-plain-eq-ROUTE c = rw c.field_end-e.ensures (end_le _ _ (within c.loop-k.invariant c.loop-k-test.true))
 
 pub returns-then-plain-eq-ROUTE : goal.returns-then-plain-eq-ROUTE
-returns-then-plain-eq-ROUTE c = record { result_value = here c.loop-k.invariant c.loop-k-test.true c.if-k-kinds.false c.field_end-e.result c.field_end-e.ensures c.plain.result c.plain.ensures c.if-plain-eq-ROUTE.true; ref_ptr_value = ap (starts_at _) (starts_here c.loop-k.invariant c.loop-k-test.true c.if-k-kinds.false c.field_end-e.result c.field_end-e.ensures c.plain.result c.plain.ensures c.if-plain-eq-ROUTE.true) }
+returns-then-plain-eq-ROUTE c =
+    record {
+      result_value = here c.loop-k.invariant c.loop-k-test.true c.if-k-kinds.false c.field_end-e.result c.field_end-e.ensures c.plain.result c.plain.ensures c.if-plain-eq-ROUTE.true;
+      ref_ptr_value = ap (starts_at _) (starts_here c.loop-k.invariant c.loop-k-test.true c.if-k-kinds.false c.field_end-e.result c.field_end-e.ensures c.plain.result c.plain.ensures c.if-plain-eq-ROUTE.true);
+    }
 
 pub slice_bounds-trace-count : goal.slice_bounds-trace-count
 slice_bounds-trace-count c =
@@ -116,13 +121,13 @@ slice_bounds-trace-start c =
     omega (arith, starts)
 
 pub slice_bounds-trace-end : goal.slice_bounds-trace-end
-slice_bounds-trace-end c =
-    let ends : c.field_end-e.result ≤ length c.args.body.now = rw c.field_end-e.ensures (end_le _ _ (within c.loop-k.invariant c.loop-k-test.true)) in
-    ends
+slice_bounds-trace-end c = rw c.field_end-e.ensures (end_le _ _ (within c.loop-k.invariant c.loop-k-test.true))
 
 pub loop-k-preserved : goal.loop-k-preserved
 loop-k-preserved c =
     again c.loop-k.invariant c.loop-k-test.true c.if-k-kinds.false c.field_end-e.result c.field_end-e.ensures c.plain.result c.plain.ensures _ c.if-plain-eq-ROUTE.false c.trace-trace.ensures
 
 pub returns : goal.returns
-returns c = let w = no_fields c.loop-k.invariant c.loop-k-test.false in record { result_value = w.0; ref_ptr_value = at_front _ w.1 }
+returns c =
+    let w = no_fields c.loop-k.invariant c.loop-k-test.false in
+    record { result_value = w.0; ref_ptr_value = at_front _ w.1 }

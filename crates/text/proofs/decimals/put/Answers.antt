@@ -58,7 +58,9 @@ module _ {n at w : ℕ} {out₀ out : List ℕ} {r k : ℕ} (v : Inv n at w out�
         }
 
 pub returns-then-not-has_room : goal.returns-then-not-has_room
-returns-then-not-has_room c = record { value = (no_room_told _ _ _ c.size-w.ensures c.has_room.ensures refl c.if-not-has_room.true-raw).0; out_after = (no_room_told _ _ _ c.size-w.ensures c.has_room.ensures refl c.if-not-has_room.true-raw).1 }
+returns-then-not-has_room c =
+    let both = no_room_told _ _ _ c.size-w.ensures c.has_room.ensures refl c.if-not-has_room.true-raw in
+    record { value = both.0; out_after = both.1 }
 
 pub loop-k-init : goal.loop-k-init
 loop-k-init c =
@@ -78,4 +80,5 @@ pub returns : goal.returns
 returns c =
     let a = c.args in
     let v = c.loop-k.invariant in
-    let r = has_room_lem (decimal a.n) a.out.now a.at refl (omega (arith, v.room, v.long)) in record { value = ap Next (omega (arith, v.long)) ∙ r.0; out_after = whole v c.loop-k-test.false ∙ r.1 }
+    let r = has_room_lem (decimal a.n) a.out.now a.at refl (omega (arith, v.room, v.long)) in
+    record { value = ap Next (omega (arith, v.long)) ∙ r.0; out_after = whole v c.loop-k-test.false ∙ r.1 }

@@ -36,7 +36,9 @@ module _ {s : List ℕ} {at : ℕ} {out₀ out : List ℕ} {i : ℕ} (v : Inv s 
       }
 
 pub returns-then-not-has_room : goal.returns-then-not-has_room
-returns-then-not-has_room c = record { value = (no_room_told _ _ _ refl c.has_room.ensures refl c.if-not-has_room.true-raw).0; out_after = (no_room_told _ _ _ refl c.has_room.ensures refl c.if-not-has_room.true-raw).1 }
+returns-then-not-has_room c =
+    let both = no_room_told _ _ _ refl c.has_room.ensures refl c.if-not-has_room.true-raw in
+    record { value = both.0; out_after = both.1 }
 
 pub loop-i-init : goal.loop-i-init
 loop-i-init c =
@@ -55,4 +57,5 @@ returns c =
     let a = c.args in
     let v = c.loop-i.invariant in
     let z = c.loop-i-test.false in
-    let r = has_room_lem a.s.now a.out.now a.at refl v.room in record { value = ap (λ (n : ℕ). Next (a.at + n)) (all v z) ∙ r.0; out_after = whole v z ∙ r.1 }
+    let r = has_room_lem a.s.now a.out.now a.at refl v.room in
+    record { value = ap (λ (n : ℕ). Next (a.at + n)) (all v z) ∙ r.0; out_after = whole v z ∙ r.1 }

@@ -114,4 +114,5 @@ shape_of-out c = c.loop-r.invariant.same
 pub returns : goal.returns
 returns c =
     let v = c.loop-r.invariant in
-    let z = c.loop-r-test.false in record { value = ap (λ (n : ℕ). c.args.at + n) (all v z ∙ sym (text_long c.args.t)); out_after = whole v z }
+    let z = c.loop-r-test.false in
+    record { value = ap (λ (n : ℕ). c.args.at + n) (all v z ∙ sym (text_long c.args.t)); out_after = whole v z }

@@ -12,5 +12,4 @@ pub returns-then-not-holds : goal.returns-then-not-holds
 returns-then-not-holds c = rw (not_so c.holds.ensures c.if-not-holds.true-raw, and-false)
 
 pub returns : goal.returns
-returns c =
-    c.holds-2.ensures ∙ rw (eq-eqb _ _ c.if-sequence-ne0.false, so c.holds.ensures c.if-not-holds.false-raw)
+returns c = c.holds-2.ensures ∙ rw (eq-eqb _ _ c.if-sequence-ne0.false, so c.holds.ensures c.if-not-holds.false-raw)

@@ -37,13 +37,11 @@ pub loop-k-init : goal.loop-k-init
 loop-k-init c = record { all = c.well_formed.0.1.0.1; rest = refl }
 
 pub returns-then-v-ne0 : goal.returns-then-v-ne0
-returns-then-v-ne0 c =
-    stops c.loop-k.invariant c.loop-k-test.true (rw (ne_eqb _ _ c.if-v-ne0.true))
+returns-then-v-ne0 c = stops c.loop-k.invariant c.loop-k-test.true (rw (ne_eqb _ _ c.if-v-ne0.true))
 
 pub returns-then-v-ne0-2 : goal.returns-then-v-ne0-2
 unfolding is_one
-returns-then-v-ne0-2 c =
-    stops c.loop-k.invariant c.loop-k-test.true (rw (eq-eqb _ _ c.if-v-ne0.false, ne_eqb _ _ c.if-v-ne0-2.true))
+returns-then-v-ne0-2 c = stops c.loop-k.invariant c.loop-k-test.true (rw (eq-eqb _ _ c.if-v-ne0.false, ne_eqb _ _ c.if-v-ne0-2.true))
 
 pub returns-then-v-ne0-3 : goal.returns-then-v-ne0-3
 unfolding is_one

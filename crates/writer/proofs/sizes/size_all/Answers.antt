@@ -53,8 +53,7 @@ pub bounds-values-k : goal.bounds-values-k
 bounds-values-k c = omega (arith, c.loop-k.invariant.asks.few)
 
 pub returns-in_default : goal.returns-in_default
-returns-in_default c =
-    stops c.loop-k.invariant c.loop-k-test.true (sym c.size_field.ensures ∙ c.in_default.is)
+returns-in_default c = stops c.loop-k.invariant c.loop-k-test.true (sym c.size_field.ensures ∙ c.in_default.is)
 
 pub overflow_add-size : goal.overflow_add-size
 overflow_add-size c =
@@ -68,8 +67,7 @@ overflow_add-size-in-loop-k c =
 
 pub loop-k-preserved : goal.loop-k-preserved
 loop-k-preserved c =
-    let turns : let a = c.args in let s = c.in-Bytes in Inv a.kinds.now a.route.now a.values (c.loop-k.size + (s.n + 1)) (c.loop-k.k + 1) s.next s.after = again c.loop-k.invariant c.loop-k-test.true _ _ _ (sym c.size_field.ensures ∙ c.in-Bytes.is) in
-    turns
+    again c.loop-k.invariant c.loop-k-test.true _ _ _ (sym c.size_field.ensures ∙ c.in-Bytes.is)
 
 pub returns : goal.returns
 returns c = done c.loop-k.invariant c.loop-k-test.false

@@ -15,5 +15,4 @@ returns-then-self-eq0 c = rw (so c.holds_pair.ensures c.if-not-holds_pair.false-
 
 pub returns : goal.returns
 unfolding is_aircraft_value
-returns c =
-    c.holds.ensures ∙ rw (so c.holds_pair.ensures c.if-not-holds_pair.false-raw, ne_eqb _ _ c.if-self-eq0.false)
+returns c = c.holds.ensures ∙ rw (so c.holds_pair.ensures c.if-not-holds_pair.false-raw, ne_eqb _ _ c.if-self-eq0.false)

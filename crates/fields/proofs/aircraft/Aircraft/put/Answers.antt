@@ -6,11 +6,17 @@ use Rattle.fields.proofs.AircraftLaws.{aircraft_writes, aircraft_word_lem}
 use Rattle.fields.proofs.aircraft.Aircraft.put.Goals as goal
 
 pub returns-then-not-holds : goal.returns-then-not-holds
-returns-then-not-holds c = let both = no_text _ _ _ (not_so c.holds.ensures c.if-not-holds.true-raw) in record { value = both.0; out_after = both.1 }
+returns-then-not-holds c =
+    let both = no_text _ _ _ (not_so c.holds.ensures c.if-not-holds.true-raw) in
+    record { value = both.0; out_after = both.1 }
 
 pub returns-in-Text : goal.returns-in-Text
 returns-in-Text c =
     let w = aircraft_writes _ (so c.holds.ensures c.if-not-holds.false-raw) (sym c.word-whole.ensures ∙ c.in-Text.is) in rw (← w.0, ← w.1) (record { value = c.put.ensures.value; out_after = c.put.ensures.out_after })
 
 pub returns-in-Nothing : goal.returns-in-Nothing
-returns-in-Nothing c = record { value = absurd (aircraft_word_lem _ (so c.holds.ensures c.if-not-holds.false-raw) (sym c.word-whole.ensures ∙ c.in-Nothing.is)); out_after = absurd (aircraft_word_lem _ (so c.holds.ensures c.if-not-holds.false-raw) (sym c.word-whole.ensures ∙ c.in-Nothing.is)) }
+returns-in-Nothing c =
+    record {
+      value = absurd (aircraft_word_lem _ (so c.holds.ensures c.if-not-holds.false-raw) (sym c.word-whole.ensures ∙ c.in-Nothing.is));
+      out_after = absurd (aircraft_word_lem _ (so c.holds.ensures c.if-not-holds.false-raw) (sym c.word-whole.ensures ∙ c.in-Nothing.is));
+    }

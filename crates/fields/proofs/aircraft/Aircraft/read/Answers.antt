@@ -7,8 +7,12 @@ use Rattle.fields.proofs.aircraft.Aircraft.read.Goals as goal
 
 pub returns-in_default : goal.returns-in_default
 unfolding plain_of
-returns-in_default c = let both = told _ (c.read_prefixed.ensures ∙ with_one _ (sym c.read_after.ensures ∙ c.in_default.is)) in record { value = both.0; told = both.1 }
+returns-in_default c =
+    let both = told _ (c.read_prefixed.ensures ∙ with_one _ (sym c.read_after.ensures ∙ c.in_default.is)) in
+    record { value = both.0; told = both.1 }
 
 pub returns : goal.returns
 unfolding plain_of
-returns c = let both = told _ (without _ (sym c.read_after.ensures ∙ c.in-Read.is)) in record { value = both.0; told = both.1 }
+returns c =
+    let both = told _ (without _ (sym c.read_after.ensures ∙ c.in-Read.is)) in
+    record { value = both.0; told = both.1 }

@@ -5,7 +5,9 @@ use Rattle.fields.proofs.FacilityLaws.{facility_small}
 use Rattle.fields.proofs.heads.Facility.put.Goals as goal
 
 pub returns-then-not-holds : goal.returns-then-not-holds
-returns-then-not-holds c = let both = no_text _ _ _ (not_so c.holds.ensures c.if-not-holds.true-raw) in record { value = both.0; out_after = both.1 }
+returns-then-not-holds c =
+    let both = no_text _ _ _ (not_so c.holds.ensures c.if-not-holds.true-raw) in
+    record { value = both.0; out_after = both.1 }
 
 pub bytes-bytes-requires : goal.bytes-bytes-requires
 bytes-bytes-requires c = facility_small _ (so c.holds.ensures c.if-not-holds.false-raw)

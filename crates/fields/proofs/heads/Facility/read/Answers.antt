@@ -24,8 +24,7 @@ bounds-s-2 c = omega (arith, facility_length _ (so c.is_facility.ensures c.if-no
 
 pub bounds-s-3 : goal.bounds-s-3
 unfolding facility_of
-bounds-s-3 c =
-    omega (arith, facility_length _ (so c.is_facility.ensures c.if-not-is_facility.false-raw))
+bounds-s-3 c = omega (arith, facility_length _ (so c.is_facility.ensures c.if-not-is_facility.false-raw))
 
 pub returns : goal.returns
 unfolding facility_of
