@@ -1,5 +1,6 @@
 -- What the promises of `board` require on inputs written out, and so wrong answers that they do not allow: of each, `Post` is the function's
 -- `ensures` as it stands in the source, r any result that meets it, s the state at exit. Assumes nothing.
+use Rattle.std.specs.Prelude.{Err, None, Ok, Some}
 use Prim.Native.Nat.{ℕ, ◌≤◌}
 use Prim.Native.String.{String}
 use mathlib.Core.Bool.{true, false}
@@ -23,12 +24,8 @@ use Rattle.fields.specs.Word.{is_word}
 use Rattle.board.specs.Board.{flat, read_rows, rows_of, words_of, is_allowed, done_of, done_number, struck_number}
 use Rattle.board.specs.Row.{is_row, is_arrival, is_track, has_entry, row_words, arrival_words, track_words, row_of}
 use Rattle.board.specs.Rows.{CAP, is_board, rises_by_bytes, all_rows, rises, key_of, look_row, Place, At, Gap, fits_at, find_in, fits as listing-fits, written, struck, is_listed}
-use Rattle.board.specs.declared.Done.TheVariants.{Written}
-use Rattle.board.specs.declared.Struck.TheVariants.{Gone, Missing}
-use Rattle.board.specs.declared.rows.ArrivalSlot.TheVariants as arrival
 use Rattle.board.specs.declared.rows.Row.{Row}
 use Rattle.board.specs.declared.rows.Track.{Track}
-use Rattle.board.specs.declared.rows.TrackSlot.TheVariants as track
 use Rattle.board.proofs.Allowed.{cap_is, parts}
 use Rattle.board.proofs.Theorems.{rows_words, empty_board}
 use Rattle.board.proofs.empty.Reads as empty
@@ -43,7 +40,7 @@ allows_257_rows κs a r s p ws e = p ∙ ap is_allowed e ∙ not_holds (is_allow
 
 -- two rows of one flight are no board
 abbrev flight : ℕ → Track → Row
-flight k t = record { key = record { 0 = k }; arrival = arrival.Empty; track = track.Entry t }
+flight k t = record { key = record { 0 = k }; arrival = None; track = Some t }
 
 pub equal_keys_allowed : (κs : _) (a : _) (r : _) (s : _) → is-allowed.Post κs a r s → (k : ℕ) (t : Track) → a.0.now ≡ words_of (flight k t ∷ flight k t ∷ []) → r ≡ false
 unfolding rows_of words_of read_rows flat row_of row_words arrival_words track_words rises
@@ -85,7 +82,7 @@ one l e = ap rows_of e ∙ rows_words (tracked ∷ []) one_row
 
 -- a flight that is not listed is shown with its own key, and without entries
 pub looks_without_key : (κs : _) (a : _) (r : _) (s : _) → look.Post κs a r s → (n : ℕ) → n ≡ 2817 → a.0.now ≡ replicate n 0
-    → r ≡ record { key = a.1.0; arrival = arrival.Empty; track = track.Empty }
+    → r ≡ record { key = a.1.0; arrival = None; track = None }
 unfolding look_row
 looks_without_key κs a r s p n h e = p ∙ ap (look_row a.1.0.0) (none a.0.now n h e)
 
@@ -101,7 +98,7 @@ unfolding written CAP
 count_not_raised κs a r s p n h e k = p.words ∙ rw (none a.0.now n h e, k)
 
 -- with 255 rows there is room for any flight
-pub full_at_255 : (κs : _) (a : _) (r : _) (s : _) → write.Post κs a r s → length (rows_of a.0.now) ≡ 255 → r ≡ Written
+pub full_at_255 : (κs : _) (a : _) (r : _) (s : _) → write.Post κs a r s → length (rows_of a.0.now) ≡ 255 → r ≡ Ok tt
 unfolding listing-fits CAP
 full_at_255 κs a r s p e = p.done ∙ ap done_of (room (rows_of a.0.now) e (find_in (rows_of a.0.now) (key_of a.1.0)))
   where
@@ -115,11 +112,11 @@ no_room_is_written κs a r s p e = p.number ∙ rw e
 
 -- a board of one row is without rows when it is struck
 pub last_row_stays : (κs : _) (a : _) (r : _) (s : _) → strike.Post κs a r s → a.0.now ≡ words_of (tracked ∷ []) → a.1.0 ≡ tracked.key
-    → (r ≡ Gone) × (s.0.now ≡ words_of [])
+    → (r ≡ Ok tt) × (s.0.now ≡ words_of [])
 unfolding struck is_listed packed value code_of is_digit is_letter
 last_row_stays κs a r s p e k = (p.done ∙ rw (one a.0.now e, k), p.words ∙ rw (one a.0.now e, k))
 
 -- no flight is struck off a board without rows: 14, and not 0
-pub strikes_what_is_not_there : (κs : _) (a : _) (r : _) (s : _) → strike.Post κs a r s → (n : ℕ) → n ≡ 2817 → a.0.now ≡ replicate n 0 → (r ≡ Missing) × (struck_number r ≡ 14)
+pub strikes_what_is_not_there : (κs : _) (a : _) (r : _) (s : _) → strike.Post κs a r s → (n : ℕ) → n ≡ 2817 → a.0.now ≡ replicate n 0 → (r ≡ Err (record {})) × (struck_number r ≡ 14)
 unfolding is_listed
 strikes_what_is_not_there κs a r s p n h e = (p.done ∙ rw (none a.0.now n h e), p.number ∙ rw (none a.0.now n h e))

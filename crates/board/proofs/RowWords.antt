@@ -1,6 +1,7 @@
 -- THE LAWS of a row and its words: the words of an allowed row pass the test and give the row back, and eleven words that
 -- pass the test are the words of an allowed row. No field's text is held as 0, so that zeros say that an entry is missing.
 -- Assumes nothing.
+use Rattle.std.specs.Prelude.{None, Option, Some}
 use mathlib.Core.Path.{◌≡◌, refl, ap, ◌∙◌}
 use mathlib.Core.Bool.{Bool, true, false, not, ◌&&◌}
 use mathlib.Core.List.{List, [], ◌∷◌, ◌++◌}
@@ -18,12 +19,10 @@ use Rattle.fields.specs.Word.{is_word}
 use Rattle.fields.proofs.WordLaws.{word_packed, word_some}
 use Rattle.fields.proofs.PairLaws.{packed_some}
 use Rattle.board.specs.Row.{is_arrival, is_track, has_entry, is_row, arrival_words, track_words, row_words, arrival_of, track_of, row_of, is_arrival_words, is_track_words, is_row_words}
-use Rattle.board.specs.declared.rows.ArrivalSlot.{ArrivalSlot}
-use Rattle.board.specs.declared.rows.ArrivalSlot.TheVariants as arrival
-use Rattle.board.specs.declared.rows.TrackSlot.{TrackSlot}
-use Rattle.board.specs.declared.rows.TrackSlot.TheVariants as track
 use Rattle.board.specs.declared.rows.Row.{Row}
 use Rattle.board.proofs.Stores.{length_arrival, length_track}
+use Rattle.board.specs.declared.rows.Arrival.{Arrival}
+use Rattle.board.specs.declared.rows.Track.{Track}
 
 pub length-row : (r : Row) → length (row_words r) ≡ 11
 unfolding row_words
@@ -47,66 +46,66 @@ speed_some a b c d e = some_word GROUND_SPEED a (and_four (is_word GROUND_SPEED 
 abbrev cell : List ℕ → ℕ → ℕ
 cell w i = get_or w i 0
 
-module _ (a : ArrivalSlot) where
+module _ (a : Option Arrival) where
   abbrev arrived : ℕ → ℕ
   arrived i = cell (arrival_words a) i
 
-module _ (t : TrackSlot) where
+module _ (t : Option Track) where
   abbrev tracked : ℕ → ℕ
   tracked i = cell (track_words t) i
 
-arrival_back : (a : ArrivalSlot) → is_arrival a ≡ true → arrival_of (arrived a 0) (arrived a 1) (arrived a 2) (arrived a 3) ≡ a
+arrival_back : (a : Option Arrival) → is_arrival a ≡ true → arrival_of (arrived a 0) (arrived a 1) (arrived a 2) (arrived a 3) ≡ a
 unfolding arrival_of arrival_words is_arrival
-arrival_back arrival.Empty e = refl
-arrival_back (arrival.Entry a) e = rw (departure_some a.departure.0 a.destination.0 a.clock.0 a.stamp.0 e)
+arrival_back None e = refl
+arrival_back (Some a) e = rw (departure_some a.departure.0 a.destination.0 a.clock.0 a.stamp.0 e)
 
-arrival_words_lem : (a : ArrivalSlot) → is_arrival a ≡ true → is_arrival_words (arrived a 0) (arrived a 1) (arrived a 2) (arrived a 3) ≡ true
+arrival_words_lem : (a : Option Arrival) → is_arrival a ≡ true → is_arrival_words (arrived a 0) (arrived a 1) (arrived a 2) (arrived a 3) ≡ true
 unfolding is_arrival_words arrival_words is_arrival
-arrival_words_lem arrival.Empty e = refl
-arrival_words_lem (arrival.Entry a) e = rw (departure_some a.departure.0 a.destination.0 a.clock.0 a.stamp.0 e) e
+arrival_words_lem None e = refl
+arrival_words_lem (Some a) e = rw (departure_some a.departure.0 a.destination.0 a.clock.0 a.stamp.0 e) e
 
-track_back : (t : TrackSlot) → is_track t ≡ true → track_of (tracked t 0) (tracked t 1) (tracked t 2) (tracked t 3) ≡ t
+track_back : (t : Option Track) → is_track t ≡ true → track_of (tracked t 0) (tracked t 1) (tracked t 2) (tracked t 3) ≡ t
 unfolding track_of track_words is_track
-track_back track.Empty e = refl
-track_back (track.Entry t) e = rw (speed_some t.speed.0 t.level.0 t.position.0 t.stamp.0 e)
+track_back None e = refl
+track_back (Some t) e = rw (speed_some t.speed.0 t.level.0 t.position.0 t.stamp.0 e)
 
-track_words_lem : (t : TrackSlot) → is_track t ≡ true → is_track_words (tracked t 0) (tracked t 1) (tracked t 2) (tracked t 3) ≡ true
+track_words_lem : (t : Option Track) → is_track t ≡ true → is_track_words (tracked t 0) (tracked t 1) (tracked t 2) (tracked t 3) ≡ true
 unfolding is_track_words track_words is_track
-track_words_lem track.Empty e = refl
-track_words_lem (track.Entry t) e = rw (speed_some t.speed.0 t.level.0 t.position.0 t.stamp.0 e) e
+track_words_lem None e = refl
+track_words_lem (Some t) e = rw (speed_some t.speed.0 t.level.0 t.position.0 t.stamp.0 e) e
 
-entry_words : (a : ArrivalSlot) (t : TrackSlot) → is_arrival a ≡ true → is_track t ≡ true → not (eqb (arrived a 0) 0 && eqb (tracked t 0) 0) ≡ has_entry a t
+entry_words : (a : Option Arrival) (t : Option Track) → is_arrival a ≡ true → is_track t ≡ true → not (eqb (arrived a 0) 0 && eqb (tracked t 0) 0) ≡ has_entry a t
 unfolding has_entry arrival_words track_words is_arrival is_track
-entry_words arrival.Empty track.Empty e f = refl
-entry_words arrival.Empty (track.Entry t) e f = rw (speed_some t.speed.0 t.level.0 t.position.0 t.stamp.0 f)
-entry_words (arrival.Entry a) t e f = rw (departure_some a.departure.0 a.destination.0 a.clock.0 a.stamp.0 e)
+entry_words None None e f = refl
+entry_words None (Some t) e f = rw (speed_some t.speed.0 t.level.0 t.position.0 t.stamp.0 f)
+entry_words (Some a) t e f = rw (departure_some a.departure.0 a.destination.0 a.clock.0 a.stamp.0 e)
 
 -- ---- a row's words, read
 
 module _ (k : ℕ) (rest : List ℕ) where
-  abbrev told : ArrivalSlot → TrackSlot → List ℕ
+  abbrev told : Option Arrival → Option Track → List ℕ
   told a t = k ∷ (arrival_words a ++ (track_words t ++ 0 ∷ 0 ∷ [])) ++ rest
 
-  row_cells : (a : ArrivalSlot) (t : TrackSlot)
+  row_cells : (a : Option Arrival) (t : Option Track)
       → row_of (told a t) ≡ record {
         key = record { 0 = k };
         arrival = arrival_of (arrived a 0) (arrived a 1) (arrived a 2) (arrived a 3);
         track = track_of (tracked t 0) (tracked t 1) (tracked t 2) (tracked t 3);
       }
   unfolding row_of arrival_words track_words
-  row_cells arrival.Empty track.Empty = refl
-  row_cells arrival.Empty (track.Entry t) = refl
-  row_cells (arrival.Entry a) track.Empty = refl
-  row_cells (arrival.Entry a) (track.Entry t) = refl
+  row_cells None None = refl
+  row_cells None (Some t) = refl
+  row_cells (Some a) None = refl
+  row_cells (Some a) (Some t) = refl
 
-  test_cells : (a : ArrivalSlot) (t : TrackSlot)
+  test_cells : (a : Option Arrival) (t : Option Track)
       → is_row_words (told a t) ≡ (is_word KEY k && is_arrival_words (arrived a 0) (arrived a 1) (arrived a 2) (arrived a 3)
       && is_track_words (tracked t 0) (tracked t 1) (tracked t 2) (tracked t 3) && not (eqb (arrived a 0) 0 && eqb (tracked t 0) 0) && true && true)
   unfolding is_row_words arrival_words track_words
-  test_cells arrival.Empty track.Empty = refl
-  test_cells arrival.Empty (track.Entry t) = refl
-  test_cells (arrival.Entry a) track.Empty = refl
-  test_cells (arrival.Entry a) (track.Entry t) = refl
+  test_cells None None = refl
+  test_cells None (Some t) = refl
+  test_cells (Some a) None = refl
+  test_cells (Some a) (Some t) = refl
 
 parts : (r : Row) → is_row r ≡ true → (is_word KEY r.key.0 ≡ true) × (is_arrival r.arrival ≡ true) × (is_track r.track ≡ true) × (has_entry r.arrival r.track ≡ true)
 unfolding is_row

@@ -1,5 +1,6 @@
 -- The stores of a row's words are one writing: of a key and an arrival entry, of a track, and of a row's eleven words.
 -- Assumes nothing.
+use Rattle.std.specs.Prelude.{None, Option, Some}
 use mathlib.Core.Path.{◌≡◌, refl, ap, ◌∙◌}
 use mathlib.Core.List.{List, [], ◌∷◌, ◌++◌}
 use Prim.Native.Nat.{ℕ, ◌+◌, ◌≤◌}
@@ -8,21 +9,19 @@ use lib.ListN.{length, set}
 use Rattle.text.specs.Text.{spliced}
 use Rattle.text.proofs.Splice.{spliced_next, set-spliced, next_store}
 use Rattle.board.specs.Row.{arrival_words, track_words, row_words}
-use Rattle.board.specs.declared.rows.ArrivalSlot.{ArrivalSlot}
-use Rattle.board.specs.declared.rows.ArrivalSlot.TheVariants as arrival
-use Rattle.board.specs.declared.rows.TrackSlot.{TrackSlot}
-use Rattle.board.specs.declared.rows.TrackSlot.TheVariants as track
 use Rattle.board.specs.declared.rows.Row.{Row}
+use Rattle.board.specs.declared.rows.Arrival.{Arrival}
+use Rattle.board.specs.declared.rows.Track.{Track}
 
-pub length_arrival : (a : ArrivalSlot) → length (arrival_words a) ≡ 4
+pub length_arrival : (a : Option Arrival) → length (arrival_words a) ≡ 4
 unfolding arrival_words
-length_arrival arrival.Empty = refl
-length_arrival (arrival.Entry a) = refl
+length_arrival None = refl
+length_arrival (Some a) = refl
 
-pub length_track : (t : TrackSlot) → length (track_words t) ≡ 4
+pub length_track : (t : Option Track) → length (track_words t) ≡ 4
 unfolding track_words
-length_track track.Empty = refl
-length_track (track.Entry t) = refl
+length_track None = refl
+length_track (Some t) = refl
 
 pub five_stores : (l : List ℕ) (p k a b c d : ℕ) → p + 5 ≤ length l
     → set (set (set (set (set l p k) (p + 1) a) (p + 2) b) (p + 3) c) (p + 4) d ≡ spliced l p (k ∷ a ∷ b ∷ c ∷ d ∷ [])

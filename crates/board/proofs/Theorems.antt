@@ -1,6 +1,7 @@
 -- Words and rows: a board's words are those of the rows that `is_board` allows and no others, and each gives the other
 -- back, so two boards are equal exactly if their rows are. The board without rows; what a refused call leaves.
 -- Assumes nothing.
+use Rattle.std.specs.Prelude.{Err}
 use mathlib.Core.Path.{◌≡◌, refl, sym, ap, ◌∙◌}
 use mathlib.Core.Bool.{Bool, true, false}
 use mathlib.Core.List.{List, [], ◌∷◌, ◌++◌}
@@ -13,8 +14,6 @@ use Rattle.board.specs.Rows.{CAP, key_of, all_rows, is_board, rises, written, fi
 use Rattle.board.specs.declared.rows.Row.{Row}
 use Rattle.board.proofs.Order.{rising_test, test_rising}
 use Rattle.board.specs.Board.{W, flat, read_rows, rows_of, words_of, all_zero, is_allowed, done_of, gone_of}
-use Rattle.board.specs.declared.Done.TheVariants.{Full}
-use Rattle.board.specs.declared.Struck.TheVariants.{Missing}
 use Rattle.board.specs.Posts.{Wrote, Stricken}
 use Rattle.board.proofs.Words.{length-flat, length-read, length-rows, flat_read, all_read, read_flat, hold_flat}
 use Rattle.board.proofs.Allowed.{cap_is, parts, whole, zeros_after, zero_tests}
@@ -115,16 +114,16 @@ still_written l r e h = allowed_words (written (rows_of l) r) (keep_written (row
 pub still_struck : (l : List ℕ) (k : ℕ) → is_allowed l ≡ true → is_allowed (words_of (struck (rows_of l) k)) ≡ true
 still_struck l k e = allowed_words (struck (rows_of l) k) (keep_struck (rows_of l) k (board_rows l e))
 
-pub write_refused : (l l' : List ℕ) (r : Row) → is_allowed l ≡ true → Wrote l r Full l' → l' ≡ l
+pub write_refused : (l l' : List ℕ) (r : Row) → is_allowed l ≡ true → Wrote l r (Err (record {})) l' → l' ≡ l
 write_refused l l' r e w = w.words ∙ ap words_of (written_full r (rows_of l) (by (fits (rows_of l) (key_of r)) w.done)) ∙ words_rows l e
   where
-    by : (b : Bool) → Full ≡ done_of b → b ≡ false
+    by : (b : Bool) → Err (record {}) ≡ done_of b → b ≡ false
     by true q = cc
     by false q = refl
 
-pub strike_refused : (l l' : List ℕ) (k : ℕ) → is_allowed l ≡ true → Stricken l k Missing l' → l' ≡ l
+pub strike_refused : (l l' : List ℕ) (k : ℕ) → is_allowed l ≡ true → Stricken l k (Err (record {})) l' → l' ≡ l
 strike_refused l l' k e w = w.words ∙ ap words_of (struck_missing k (rows_of l) (by (is_listed (rows_of l) k) w.done)) ∙ words_rows l e
   where
-    by : (b : Bool) → Missing ≡ gone_of b → b ≡ false
+    by : (b : Bool) → Err (record {}) ≡ gone_of b → b ≡ false
     by true q = cc
     by false q = refl

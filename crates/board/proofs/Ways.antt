@@ -1,4 +1,5 @@
 -- What each way through `look`, `write` and `strike` leaves, said of the rows. Assumes nothing.
+use Rattle.std.specs.Prelude.{Err, None, Ok, Result}
 use mathlib.Core.Path.{◌≡◌, refl, sym, ap, ◌∙◌, subst}
 use mathlib.Core.Bool.{Bool, true, false, cond}
 use mathlib.Core.List.{List, [], ◌∷◌, ◌++◌}
@@ -12,16 +13,10 @@ use Rattle.text.specs.Text.{spliced}
 use Rattle.board.specs.Row.{row_words, row_of, is_row}
 use Rattle.board.specs.Rows.{CAP, key_of, Rising, lookup, or_empty, look_row, Place, At, Gap, further, find_in, written_at, fits_at, written, fits, struck_at, is_at, struck, is_listed}
 use Rattle.board.specs.declared.rows.Row.{Row}
-use Rattle.board.specs.declared.rows.ArrivalSlot.TheVariants as arrival
-use Rattle.board.specs.declared.rows.TrackSlot.TheVariants as track
 use Rattle.board.proofs.Order.{rising_test}
 use Rattle.board.specs.Slides.{slid_right, slid_left, zeroed}
 use Rattle.board.specs.declared.Found.{Found}
 use Rattle.board.specs.declared.Found.TheVariants as found
-use Rattle.board.specs.declared.Done.{Done}
-use Rattle.board.specs.declared.Done.TheVariants.{Written, Full}
-use Rattle.board.specs.declared.Struck.{Struck}
-use Rattle.board.specs.declared.Struck.TheVariants.{Gone, Missing}
 use Rattle.board.specs.Board.{W, rows_of, words_of, is_allowed, found_of, done_of, gone_of, done_number, struck_number}
 use Rattle.board.specs.Posts.{Wrote, Stricken}
 use Rattle.board.proofs.Words.{length-rows, row_there}
@@ -29,6 +24,8 @@ use Rattle.board.proofs.Boards.{replace_board, insert_board, remove_board}
 use Rattle.board.proofs.Allowed.{parts}
 use Rattle.board.proofs.Lookup.{above_rising, none_below}
 use Rattle.board.proofs.Theorems.{words_rows, still_written, still_struck}
+use Rattle.board.specs.declared.Full.{Full}
+use Rattle.board.specs.declared.NotListed.{NotListed}
 
 -- ---- what `find` answered, as a place
 
@@ -104,7 +101,7 @@ look_at l k i e =
     row_there l i d (at_below l k i e) ∙ sym (ap (or_empty k) (subst (Stands k (rows_of l) d) e (stands k (rows_of l) d)))
 
 pub look_gap : (l : List ℕ) (k i : ℕ) → is_allowed l ≡ true → find_in (rows_of l) k ≡ Gap i
-    → record { key = record { 0 = k }; arrival = arrival.Empty; track = track.Empty } ≡ look_row k (rows_of l)
+    → record { key = record { 0 = k }; arrival = None; track = None } ≡ look_row k (rows_of l)
 unfolding look_row
 look_gap l k i a e =
     sym (ap (or_empty k) (subst (Stands k (rows_of l) (row_of [])) e (stands k (rows_of l) (row_of [])) (rising_test (rows_of l) (parts l a).rise)))
@@ -116,38 +113,38 @@ done_number_lem true = refl
 done_number_lem false = refl
 
 module _ (l : List ℕ) (al : is_allowed l ≡ true) (r : Row) (ok : is_row r ≡ true) (i : ℕ) where
-  wrote : (d : Done) (l' : List ℕ) → d ≡ done_of (fits (rows_of l) (key_of r)) → l' ≡ words_of (written (rows_of l) r) → Wrote l r d l'
+  wrote : (d : Result (Unit {0}) Full) (l' : List ℕ) → d ≡ done_of (fits (rows_of l) (key_of r)) → l' ≡ words_of (written (rows_of l) r) → Wrote l r d l'
   wrote d l' e q = record { done = e; number = rw e (done_number_lem (fits (rows_of l) (key_of r))); words = q; still = rw q (still_written l r al ok) }
 
-  pub write_at : find_in (rows_of l) (key_of r) ≡ At i → Wrote l r Written (spliced l (1 + W * i) (row_words r))
+  pub write_at : find_in (rows_of l) (key_of r) ≡ At i → Wrote l r (Ok tt) (spliced l (1 + W * i) (row_words r))
   unfolding written fits
   write_at e =
       let rs : List Row = rows_of l in
       let h : i < length rs = omega (arith, length-rows l, at_below l (key_of r) i e) in
-      wrote Written (spliced l (1 + W * i) (row_words r))
+      wrote (Ok tt) (spliced l (1 + W * i) (row_words r))
       (sym (ap (λ (f : Place). done_of (fits_at f rs)) e))
       (ap (λ (x : List ℕ). spliced x (1 + W * i) (row_words r)) (sym (words_rows l al))
       ∙ replace_board rs r i h
       ∙ sym (ap (λ (f : Place). words_of (written_at f r rs)) e))
 
-  pub write_full : find_in (rows_of l) (key_of r) ≡ Gap i → CAP ≤ get_or l 0 0 → Wrote l r Full l
+  pub write_full : find_in (rows_of l) (key_of r) ≡ Gap i → CAP ≤ get_or l 0 0 → Wrote l r (Err (record {})) l
   unfolding written fits
   write_full e full =
       let rs : List Row = rows_of l in
       let t : ltb (length rs) CAP ≡ false = le-ltb (length rs) CAP (rw length-rows full) in
-      wrote Full l
+      wrote (Err (record {})) l
       (sym (ap (λ (f : Place). done_of (fits_at f rs)) e ∙ ap done_of t))
       (sym (ap (λ (f : Place). words_of (written_at f r rs)) e ∙ ap (λ (b : Bool). words_of (cond b (take i rs ++ r ∷ drop i rs) rs)) t ∙ words_rows l al))
 
   pub write_in : find_in (rows_of l) (key_of r) ≡ Gap i → get_or l 0 0 < CAP
-      → Wrote l r Written (set (spliced (slid_right l (1 + W * i) (1 + W * get_or l 0 0) W) (1 + W * i) (row_words r)) 0 (get_or l 0 0 + 1))
+      → Wrote l r (Ok tt) (set (spliced (slid_right l (1 + W * i) (1 + W * get_or l 0 0) W) (1 + W * i) (row_words r)) 0 (get_or l 0 0 + 1))
   unfolding written fits
   write_in e room =
       let rs : List Row = rows_of l in
       let n : length rs ≡ get_or l 0 0 = length-rows l in
       let t : ltb (length rs) CAP ≡ true = lt-ltb (length rs) CAP (rw n room) in
       let h : i ≤ length rs = omega (arith, gap_below l (key_of r) i e) in
-      wrote Written (set (spliced (slid_right l (1 + W * i) (1 + W * get_or l 0 0) W) (1 + W * i) (row_words r)) 0 (get_or l 0 0 + 1))
+      wrote (Ok tt) (set (spliced (slid_right l (1 + W * i) (1 + W * get_or l 0 0) W) (1 + W * i) (row_words r)) 0 (get_or l 0 0 + 1))
       (sym (ap (λ (f : Place). done_of (fits_at f rs)) e ∙ ap done_of t))
       (ap (λ (m : ℕ). set (spliced (slid_right l (1 + W * i) (1 + W * m) W) (1 + W * i) (row_words r)) 0 (m + 1)) (sym n)
       ∙ ap (λ (x : List ℕ). set (spliced (slid_right x (1 + W * i) (1 + W * length rs) W) (1 + W * i) (row_words r)) 0 (length rs + 1)) (sym (words_rows l al))
@@ -161,24 +158,24 @@ gone_number true = refl
 gone_number false = refl
 
 module _ (l : List ℕ) (al : is_allowed l ≡ true) (k i : ℕ) where
-  stricken : (d : Struck) (l' : List ℕ) → d ≡ gone_of (is_listed (rows_of l) k) → l' ≡ words_of (struck (rows_of l) k) → Stricken l k d l'
+  stricken : (d : Result (Unit {0}) NotListed) (l' : List ℕ) → d ≡ gone_of (is_listed (rows_of l) k) → l' ≡ words_of (struck (rows_of l) k) → Stricken l k d l'
   stricken d l' e q = record { done = e; number = rw e (gone_number (is_listed (rows_of l) k)); words = q; still = rw q (still_struck l k al) }
 
   pub strike_at : find_in (rows_of l) k ≡ At i
-      → Stricken l k Gone (set (zeroed (slid_left l (1 + W * i) (W * (get_or l 0 0 - (i + 1))) W) (1 + W * (get_or l 0 0 - 1)) W) 0 (get_or l 0 0 - 1))
+      → Stricken l k (Ok tt) (set (zeroed (slid_left l (1 + W * i) (W * (get_or l 0 0 - (i + 1))) W) (1 + W * (get_or l 0 0 - 1)) W) 0 (get_or l 0 0 - 1))
   unfolding struck is_listed
   strike_at e =
       let rs : List Row = rows_of l in
       let n : length rs ≡ get_or l 0 0 = length-rows l in
       let h : i < length rs = omega (arith, at_below l k i e) in
-      stricken Gone (set (zeroed (slid_left l (1 + W * i) (W * (get_or l 0 0 - (i + 1))) W) (1 + W * (get_or l 0 0 - 1)) W) 0 (get_or l 0 0 - 1))
+      stricken (Ok tt) (set (zeroed (slid_left l (1 + W * i) (W * (get_or l 0 0 - (i + 1))) W) (1 + W * (get_or l 0 0 - 1)) W) 0 (get_or l 0 0 - 1))
       (sym (ap (λ (f : Place). gone_of (is_at f)) e))
       (ap (λ (m : ℕ). set (zeroed (slid_left l (1 + W * i) (W * (m - (i + 1))) W) (1 + W * (m - 1)) W) 0 (m - 1)) (sym n)
       ∙ ap (λ (x : List ℕ). set (zeroed (slid_left x (1 + W * i) (W * (length rs - (i + 1))) W) (1 + W * (length rs - 1)) W) 0 (length rs - 1)) (sym (words_rows l al))
       ∙ remove_board rs i h (rw n (parts l al).count)
       ∙ sym (ap (λ (f : Place). words_of (struck_at f rs)) e))
 
-  pub strike_missing : find_in (rows_of l) k ≡ Gap i → Stricken l k Missing l
+  pub strike_missing : find_in (rows_of l) k ≡ Gap i → Stricken l k (Err (record {})) l
   unfolding struck is_listed
   strike_missing e =
-      stricken Missing l (sym (ap (λ (f : Place). gone_of (is_at f)) e)) (sym (ap (λ (f : Place). words_of (struck_at f (rows_of l))) e ∙ words_rows l al))
+      stricken (Err (record {})) l (sym (ap (λ (f : Place). gone_of (is_at f)) e)) (sym (ap (λ (f : Place). words_of (struck_at f (rows_of l))) e ∙ words_rows l al))

@@ -1,16 +1,14 @@
 -- A board as words that the caller lends: word 0 the count of rows, then eleven words for each row, then zeros, 2,817
 -- words in all. The rows that words show, the words that show rows, and which words are a board (document 01,
 -- "Board"). Assumes nothing.
-use Rattle.std.specs.Prelude.{Bool, true, false, ◌&&◌, List, [], ◌∷◌, ◌++◌, ℕ, zero, suc, ◌+◌, ◌*◌, ◌-◌, length, get_or, drop, replicate, eqb, leb}
+use Rattle.std.specs.Prelude.{Bool, true, false, ◌&&◌, List, [], ◌∷◌, ◌++◌, ℕ, zero, suc, ◌+◌, ◌*◌, ◌-◌, length, get_or, drop, replicate, eqb, leb, Err, Ok, Result}
 use Rattle.board.specs.Row.{row_words, row_of, is_row_words}
 use Rattle.board.specs.Rows.{CAP, Place, At, Gap, rises}
 use Rattle.board.specs.declared.rows.Row.{Row}
 use Rattle.board.specs.declared.Found.{Found}
 use Rattle.board.specs.declared.Found.TheVariants as found
-use Rattle.board.specs.declared.Done.{Done}
-use Rattle.board.specs.declared.Done.TheVariants.{Written, Full}
-use Rattle.board.specs.declared.Struck.{Struck}
-use Rattle.board.specs.declared.Struck.TheVariants.{Gone, Missing}
+use Rattle.board.specs.declared.Full.{Full}
+use Rattle.board.specs.declared.NotListed.{NotListed}
 
 -- the words of a row
 abbrev pub W : ℕ
@@ -62,20 +60,20 @@ found_of (At i) = found.At i
 found_of (Gap i) = found.Gap i
 
 -- a row is written if it fits
-abbrev pub done_of : Bool → Done
-done_of true = Written
-done_of false = Full
+abbrev pub done_of : Bool → Result (Unit {0}) Full
+done_of true = Ok tt
+done_of false = Err (record {})
 
 -- a flight is gone if it was listed
-abbrev pub gone_of : Bool → Struck
-gone_of true = Gone
-gone_of false = Missing
+abbrev pub gone_of : Bool → Result (Unit {0}) NotListed
+gone_of true = Ok tt
+gone_of false = Err (record {})
 
 -- document 01's numbers: 12, "board full"; 14, "flight not listed"
-abbrev pub done_number : Done → ℕ
-done_number Written = 0
-done_number Full = 12
+abbrev pub done_number : Result (Unit {0}) Full → ℕ
+done_number (Ok tt) = 0
+done_number (Err (record {})) = 12
 
-abbrev pub struck_number : Struck → ℕ
-struck_number Gone = 0
-struck_number Missing = 14
+abbrev pub struck_number : Result (Unit {0}) NotListed → ℕ
+struck_number (Ok tt) = 0
+struck_number (Err (record {})) = 14

@@ -1,13 +1,11 @@
 -- Rows in the order of their keys (document 01, "Board"): "One row per listed flight, at most 256, in byte order of the
 -- key". What a key shows, where it stands or would stand, and what writing and striking a row do. Assumes nothing.
-use Rattle.std.specs.Prelude.{ℕ, suc, ◌<◌, Bool, true, false, cond, ◌&&◌, List, [], ◌∷◌, ◌++◌, eqb, leb, ltb, length, take, drop, set}
+use Rattle.std.specs.Prelude.{ℕ, suc, ◌<◌, Bool, true, false, cond, ◌&&◌, List, [], ◌∷◌, ◌++◌, eqb, leb, ltb, length, take, drop, set, None}
 use Rattle.std.proofs.Math.Option.{Option, none, some}
 use Rattle.text.specs.Text.{text_of}
 use Rattle.text.specs.Order.{less}
 use Rattle.board.specs.Row.{is_row}
 use Rattle.board.specs.declared.rows.Row.{Row}
-use Rattle.board.specs.declared.rows.ArrivalSlot.TheVariants as arrival
-use Rattle.board.specs.declared.rows.TrackSlot.TheVariants as track
 
 -- how many rows a board has room for
 unfoldable pub CAP : ℕ
@@ -61,7 +59,7 @@ lookup k (r ∷ rs) = cond (eqb (key_of r) k) (some r) (lookup k rs)
 
 -- a flight that is not listed has a row with no entries
 abbrev pub or_empty : ℕ → Option Row → Row
-or_empty k none = record { key = record { 0 = k }; arrival = arrival.Empty; track = track.Empty }
+or_empty k none = record { key = record { 0 = k }; arrival = None; track = None }
 or_empty k (some r) = r
 
 unfoldable pub look_row : ℕ → List Row → Row

@@ -3,19 +3,19 @@ ghost use Rattle.std.specs.Prelude.{◌≡◌, ◌+◌, ◌≤◌, [], ◌∷◌
 ghost use Rattle.text.specs.Text.{spliced};
 ghost use Rattle.board.specs.Row.{arrival_words, track_words, row_words, arrival_of, track_of, row_of};
 
-use crate::rows::{Arrival, ArrivalSlot, Row, Track, TrackSlot};
+use crate::rows::{Arrival, Row, Track};
 use fields::flight::Key;
 use fields::frame::Stamp;
 use fields::plan::Point;
 use fields::track::{ArrivalClock, GroundSpeed, Position, TrackLevel};
 
-fn arrival_of(departure: u64, destination: u64, clock: u64, stamp: u64) -> ArrivalSlot
+fn arrival_of(departure: u64, destination: u64, clock: u64, stamp: u64) -> Option<Arrival>
     ensures { result ≡ arrival_of departure destination clock stamp }
 {
     if departure == 0 {
-        return ArrivalSlot::Empty;
+        return None;
     }
-    ArrivalSlot::Entry(Arrival {
+    Some(Arrival {
         departure: Point(departure),
         destination: Point(destination),
         clock: ArrivalClock(clock),
@@ -23,13 +23,13 @@ fn arrival_of(departure: u64, destination: u64, clock: u64, stamp: u64) -> Arriv
     })
 }
 
-fn track_of(speed: u64, level: u64, position: u64, stamp: u64) -> TrackSlot
+fn track_of(speed: u64, level: u64, position: u64, stamp: u64) -> Option<Track>
     ensures { result ≡ track_of speed level position stamp }
 {
     if speed == 0 {
-        return TrackSlot::Empty;
+        return None;
     }
-    TrackSlot::Entry(Track {
+    Some(Track {
         speed: GroundSpeed(speed),
         level: TrackLevel(level),
         position: Position(position),
@@ -37,14 +37,14 @@ fn track_of(speed: u64, level: u64, position: u64, stamp: u64) -> TrackSlot
     })
 }
 
-fn arrival_at(words: &[u64], p: usize) -> ArrivalSlot
+fn arrival_at(words: &[u64], p: usize) -> Option<Arrival>
     requires { p + 4 ≤ length words.now }
     ensures { result ≡ arrival_of (get_or words.now p 0) (get_or words.now (p + 1) 0) (get_or words.now (p + 2) 0) (get_or words.now (p + 3) 0) }
 {
     arrival_of(words[p], words[p + 1], words[p + 2], words[p + 3])
 }
 
-fn track_at(words: &[u64], p: usize) -> TrackSlot
+fn track_at(words: &[u64], p: usize) -> Option<Track>
     requires { p + 4 ≤ length words.now }
     ensures { result ≡ track_of (get_or words.now p 0) (get_or words.now (p + 1) 0) (get_or words.now (p + 2) 0) (get_or words.now (p + 3) 0) }
 {
@@ -75,13 +75,13 @@ fn put_five(words: &mut [u64], p: usize, key: u64, a: u64, b: u64, c: u64, d: u6
     words[p + 4] = d;
 }
 
-fn put_arrival(words: &mut [u64], p: usize, key: u64, arrival: ArrivalSlot)
+fn put_arrival(words: &mut [u64], p: usize, key: u64, arrival: Option<Arrival>)
     requires { p + 5 ≤ length words.old }
     ensures { words.new ≡ spliced words.old p (key ∷ arrival_words arrival) }
 {
     match arrival {
-        ArrivalSlot::Empty => put_five(words, p, key, 0, 0, 0, 0),
-        ArrivalSlot::Entry(a) => put_five(
+        None => put_five(words, p, key, 0, 0, 0, 0),
+        Some(a) => put_five(
             words,
             p,
             key,
@@ -106,13 +106,13 @@ fn put_six(words: &mut [u64], p: usize, a: u64, b: u64, c: u64, d: u64)
     words[p + 5] = 0;
 }
 
-fn put_track(words: &mut [u64], p: usize, track: TrackSlot)
+fn put_track(words: &mut [u64], p: usize, track: Option<Track>)
     requires { p + 6 ≤ length words.old }
     ensures { words.new ≡ spliced words.old p (track_words track ++ 0 ∷ 0 ∷ []) }
 {
     match track {
-        TrackSlot::Empty => put_six(words, p, 0, 0, 0, 0),
-        TrackSlot::Entry(t) => put_six(words, p, t.speed.0, t.level.0, t.position.0, t.stamp.0),
+        None => put_six(words, p, 0, 0, 0, 0),
+        Some(t) => put_six(words, p, t.speed.0, t.level.0, t.position.0, t.stamp.0),
     }
 }
 

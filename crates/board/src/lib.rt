@@ -24,18 +24,12 @@ pub enum Found {
 }
 
 // What `listing::write` answers: 0, 12.
-#[derive(Clone, Copy)]
-pub enum Done {
-    Written,
-    Full,
-}
+#[derive(Clone, Copy, PartialEq, Eq)]
+pub struct Full;
 
 // What `listing::strike` answers: 0, 14.
-#[derive(Clone, Copy)]
-pub enum Struck {
-    Gone,
-    Missing,
-}
+#[derive(Clone, Copy, PartialEq, Eq)]
+pub struct NotListed;
 
 // Whether each of the first n rows is one that the board allows.
 fn rows_hold(board: &[u64], n: usize) -> bool

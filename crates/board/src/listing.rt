@@ -8,9 +8,9 @@ ghost use Rattle.board.specs.Posts.{Wrote, Stricken};
 
 use crate::halving::one_left;
 use crate::keeping::{put_row, row_at};
-use crate::rows::{ArrivalSlot, Row, TrackSlot};
+use crate::rows::Row;
 use crate::slides::{clear, slide_left, slide_right};
-use crate::{Done, Found, Struck};
+use crate::{Found, Full, NotListed};
 use fields::flight::Key;
 
 // The place of a key, or the place where it would go. The one row that is left of all, halved and halved again, tells it.
@@ -43,8 +43,8 @@ pub fn look(board: &[u64], key: Key) -> Row
         Found::At(i) => row_at(board, 1 + 11 * i),
         Found::Gap(_) => Row {
             key,
-            arrival: ArrivalSlot::Empty,
-            track: TrackSlot::Empty,
+            arrival: None,
+            track: None,
         },
     }
 }
@@ -69,7 +69,7 @@ fn close_gap(board: &mut [u64], i: usize)
 }
 
 // The row stands in the place of its key's, or between the others; a full board has no room for another flight.
-pub fn write(board: &mut [u64], row: Row) -> Done
+pub fn write(board: &mut [u64], row: Row) -> Result<(), Full>
     requires { (is_allowed board.old ≡ true) × (is_row row ≡ true) }
     ensures { Wrote board.old row result board.new }
 {
@@ -77,23 +77,23 @@ pub fn write(board: &mut [u64], row: Row) -> Done
     match found {
         Found::At(i) => {
             put_row(board, 1 + 11 * i, row);
-            Done::Written
+            Ok(())
         }
         Found::Gap(i) => {
             let n = board[0];
             if n >= 256 {
-                return Done::Full;
+                return Err(Full);
             }
             open_gap(board, i);
             put_row(board, 1 + 11 * i, row);
             board[0] = n + 1;
-            Done::Written
+            Ok(())
         }
     }
 }
 
 // The flight's row goes, and the rows after it move up.
-pub fn strike(board: &mut [u64], key: Key) -> Struck
+pub fn strike(board: &mut [u64], key: Key) -> Result<(), NotListed>
     requires { is_allowed board.old ≡ true }
     ensures { Stricken board.old key.0 result board.new }
 {
@@ -103,8 +103,8 @@ pub fn strike(board: &mut [u64], key: Key) -> Struck
             let n = board[0];
             close_gap(board, i);
             board[0] = n - 1;
-            Struck::Gone
+            Ok(())
         }
-        Found::Gap(_) => Struck::Missing,
+        Found::Gap(_) => Err(NotListed),
     }
 }

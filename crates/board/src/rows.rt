@@ -26,22 +26,10 @@ pub struct Track {
 }
 
 #[derive(Clone, Copy)]
-pub enum ArrivalSlot {
-    Empty,
-    Entry(Arrival),
-}
-
-#[derive(Clone, Copy)]
-pub enum TrackSlot {
-    Empty,
-    Entry(Track),
-}
-
-#[derive(Clone, Copy)]
 pub struct Row {
     pub key: Key,
-    pub arrival: ArrivalSlot,
-    pub track: TrackSlot,
+    pub arrival: Option<Arrival>,
+    pub track: Option<Track>,
 }
 
 fn are_zero(a: u64, b: u64, c: u64) -> bool

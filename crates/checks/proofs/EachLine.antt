@@ -1,6 +1,7 @@
 -- EACH LINE OF A FEED HAS ONE LINE OF TEXT, under either rule: where all are asked for, the i-th line of what is said is what is said of the i-th line of the
 -- feed, with its number from 1, and there are no others. Where only the refused are asked for, no refused line is left out, and no line that reads stays.
 -- Assumes nothing.
+use Rattle.std.specs.Prelude.{Err}
 use mathlib.Core.Path.{◌≡◌, refl, sym, ap, ◌∙◌}
 use mathlib.Core.Bool.{Bool, true, false, cond, ◌&&◌}
 use mathlib.Core.List.{List, [], ◌∷◌, ◌++◌, map, append_assoc}
@@ -27,7 +28,6 @@ use Rattle.cutter.proofs.Feeds.{feed_only}
 use Rattle.line.specs.Cases.{Case}
 use Rattle.line.specs.Messages.{AnswerOf, number_of, place_of, read_as}
 use Rattle.line.specs.Read.{read_by, number_by}
-use Rattle.line.specs.declared.RuleRead.TheVariants.{Refused}
 use Rattle.line.specs.declared.Refusal.TheVariants.{Long}
 use Rattle.line.proofs.Calls.{ReadCall, read_told, read_case}
 use Rattle.line.proofs.Cases.{case_only}
@@ -185,7 +185,7 @@ answer_read {ρ} {line} {r} c n =
 -- ---- AND SO OF EVERY LINE, ALSO AN OVERLONG ONE: what is said is the number and the place of its case in document 01's table
 
 module _ (ρ : Rule) (s : List ℕ) where
-  long_read : leb (length s) longest_line ≡ false → read_by ρ s ≡ Refused Long
+  long_read : leb (length s) longest_line ≡ false → read_by ρ s ≡ Err Long
   long_read q = let h = leb-false (length s) longest_line q in sym (line_long ρ s (go ρ h) h)
     where
       go : (ρ : Rule) → longest_line < length s → head_length ρ ≤ length s

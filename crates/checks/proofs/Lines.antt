@@ -1,5 +1,6 @@
 -- The words of what is said of a line are texts, what they make is what specs/Check says of the line, and it is no longer than 90 bytes.
 -- Assumes nothing.
+use Rattle.std.specs.Prelude.{Err, Ok, Result}
 use mathlib.Core.Path.{◌≡◌, refl}
 use mathlib.Core.Bool.{Bool, true, false, cond, ◌&&◌}
 use mathlib.Core.List.{List, [], ◌∷◌}
@@ -27,8 +28,6 @@ use Rattle.messages.specs.Body.{type_in, key_in}
 use Rattle.messages.specs.declared.Reading.{Reading}
 use Rattle.messages.proofs.Keys.{no_key}
 use Rattle.line.specs.Read.{read_by, number_by}
-use Rattle.line.specs.declared.RuleRead.{RuleRead}
-use Rattle.line.specs.declared.RuleRead.TheVariants.{Read, Refused}
 use Rattle.line.proofs.Placed.{stands_key}
 use Rattle.printer.specs.RowText.{hyphen, line_text}
 use Rattle.printer.specs.Parts.{part_text}
@@ -37,6 +36,7 @@ use Rattle.checks.specs.Feed.{checks_from}
 use Rattle.checks.specs.Part.{verdict_by, overlong, verdict_of, is_verdict, verdict_text, verdict_said, longest_saying}
 use Rattle.checks.specs.declared.Asked.{Asked}
 use Rattle.checks.specs.declared.Verdict.{Verdict}
+use Rattle.line.specs.declared.Refusal.{Refusal}
 
 -- ---- the words
 
@@ -77,17 +77,17 @@ letters_written type.To = (refl, refl)
 letters_written type.Hb = (refl, refl)
 
 -- a key's that of a key; where there is none it is 0
-key_word : (ρ : Rule) (s : List ℕ) (x : Reading) → read_by ρ s ≡ Read x → is_packed (key_in x.body) ≡ true
+key_word : (ρ : Rule) (s : List ℕ) (x : Reading) → read_by ρ s ≡ Ok x → is_packed (key_in x.body) ≡ true
 key_word ρ s x e = go (has_fields (type_in x.body)) refl
   where
     go : (f : Bool) → has_fields (type_in x.body) ≡ f → is_packed (key_in x.body) ≡ true
     go true f = word_packed KEY (key_in x.body) (stands_key ρ s x e f).0
     go false f = rw (no_key x.body f) zero_packed
 
-verdict_by_lem : (ρ : Rule) (s : List ℕ) (r : RuleRead) → read_by ρ s ≡ r → is_verdict (verdict_by r) ≡ true
+verdict_by_lem : (ρ : Rule) (s : List ℕ) (r : Result Reading Refusal) → read_by ρ s ≡ r → is_verdict (verdict_by r) ≡ true
 unfolding is_verdict
-verdict_by_lem ρ s (Read x) e = rw ((type_word (type_in x.body)).0, key_word ρ s x e)
-verdict_by_lem ρ s (Refused y) e = rw zero_packed
+verdict_by_lem ρ s (Ok x) e = rw ((type_word (type_in x.body)).0, key_word ρ s x e)
+verdict_by_lem ρ s (Err y) e = rw zero_packed
 
 over_is : is_verdict overlong ≡ true
 unfolding is_verdict
@@ -100,10 +100,10 @@ verdict_is ρ TooLong = over_is
 
 -- ---- what they say
 
-text_by : (n : ℕ) (r : RuleRead) → verdict_text n (verdict_by r) ≡ read_said n r
+text_by : (n : ℕ) (r : Result Reading Refusal) → verdict_text n (verdict_by r) ≡ read_said n r
 unfolding verdict_text
-text_by n (Read x) = rw (type_word (type_in x.body)).1
-text_by n (Refused y) = rw zero_part
+text_by n (Ok x) = rw (type_word (type_in x.body)).1
+text_by n (Err y) = rw zero_part
 
 over_text : (n : ℕ) → verdict_text n overlong ≡ saying n 2 0 hyphen hyphen
 unfolding verdict_text
@@ -114,9 +114,9 @@ unfolding verdict_of check_of
 verdict_text_lem ρ n (Whole s) = text_by n (read_by ρ s)
 verdict_text_lem ρ n TooLong = over_text n
 
-taken_by_lem : (r : RuleRead) → eqb (verdict_by r).answer 0 ≡ eqb (number_by r) 0
-taken_by_lem (Read x) = refl
-taken_by_lem (Refused y) = refl
+taken_by_lem : (r : Result Reading Refusal) → eqb (verdict_by r).answer 0 ≡ eqb (number_by r) 0
+taken_by_lem (Ok x) = refl
+taken_by_lem (Err y) = refl
 
 pub verdict_taken : (ρ : Rule) (l : Line) → eqb (verdict_of ρ l).answer 0 ≡ is_taken ρ l
 unfolding verdict_of is_taken

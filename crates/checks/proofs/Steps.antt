@@ -1,4 +1,5 @@
 -- One call of `cut`, and what is said of the line that it told of: what the bytes that it used add. Assumes nothing.
+use Rattle.std.specs.Prelude.{None, Option, Some}
 use mathlib.Core.Path.{◌≡◌, refl, sym, ap, ◌∙◌}
 use mathlib.Core.Bool.{true, false, cond}
 use mathlib.Core.List.{List, [], ◌∷◌, ◌++◌, append-nil}
@@ -35,8 +36,6 @@ use Rattle.checks.specs.Part.{verdict_of, judged_of, is_verdict, verdict_said, c
 use Rattle.checks.specs.declared.Asked.{Asked}
 use Rattle.checks.specs.declared.Sums.{Sums}
 use Rattle.checks.specs.declared.Verdict.{Verdict}
-use Rattle.checks.specs.declared.Judged.{Judged}
-use Rattle.checks.specs.declared.Judged.TheVariants as judged
 use Rattle.checks.proofs.Lines.{verdict_is, verdict_taken, verdict_said_lem}
 
 -- ---- the bytes that a call used
@@ -78,7 +77,7 @@ used_by {held} {begun} {rest} (OverlongEnded p q z) a = used_line (state_in held
 
 -- ---- at most one line is told of
 
-told_none : (ρ : Rule) (ts : List Line) → judged_of ρ ts ≡ judged.Nothing → ts ≡ []
+told_none : (ρ : Rule) (ts : List Line) → judged_of ρ ts ≡ None → ts ≡ []
 told_none ρ [] e = refl
 told_none ρ (l ∷ ts) e = absurd (let z : ◌≡◌ {A = ℕ} 0 1 = cc in omega arith)
 
@@ -87,7 +86,7 @@ pub record Told (ρ : Rule) (ts : List Line) (v : Verdict) : Type 0 where
   pub is : ts ≡ line ∷ []
   pub verdict : v ≡ verdict_of ρ line
 
-told_line : (ρ : Rule) (ts : List Line) → length ts ≤ 1 → (v : Verdict) → judged_of ρ ts ≡ judged.Line v → Told ρ ts v
+told_line : (ρ : Rule) (ts : List Line) → length ts ≤ 1 → (v : Verdict) → judged_of ρ ts ≡ Some v → Told ρ ts v
 told_line ρ [] h v e = absurd (let z : ◌≡◌ {A = ℕ} 0 1 = cc in omega arith)
 told_line ρ (l ∷ []) h v e = let z : verdict_of ρ l ≡ v = cc in record { line = l; is = refl; verdict = sym z }
 told_line ρ (l ∷ (k ∷ ts)) h v e = absurd (omega arith)
@@ -125,7 +124,7 @@ module _ (asked : Asked) (held : List ℕ) (s : Sums) (rest out : List ℕ) (at 
   lines_are ls e = sym the_used.lines ∙ e
 
   -- no line ended
-  pub step_none : (0 < length rest) → (j : Judged) → j ≡ judged_of asked.rule the_lines → j ≡ judged.Nothing
+  pub step_none : (0 < length rest) → (j : Option Verdict) → j ≡ judged_of asked.rule the_lines → j ≡ None
       → Steps asked held s rest out at held' (record { sums = moved; used = done.used; next = at }) out
   unfolding checks_from reads_in
   step_none h j e f =
@@ -144,7 +143,7 @@ module _ (asked : Asked) (held : List ℕ) (s : Sums) (rest out : List ℕ) (at 
       }
 
   -- a line ended
-  module _ (j : Judged) (e : j ≡ judged_of asked.rule the_lines) (v : Verdict) (f : j ≡ judged.Line v) where
+  module _ (j : Option Verdict) (e : j ≡ judged_of asked.rule the_lines) (v : Verdict) (f : j ≡ Some v) where
     the_told : Told asked.rule the_lines v
     the_told = told_line asked.rule the_lines (told_few done.answer (line_in done.answer held' rest)) v (sym e ∙ f)
 

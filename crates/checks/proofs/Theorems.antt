@@ -1,6 +1,7 @@
 -- THE THEOREMS OF A CHECK, about the promises (`Post`) of `check` and `end` as they stand in the source: whatever the parts of a feed, what is said of
 -- them, one after the other, and then of the unended rest, is what is said of the whole; and where in the line its type and its key stand.
 -- Assumes nothing.
+use Rattle.std.specs.Prelude.{Ok}
 use mathlib.Core.Path.{◌≡◌, sym, ap, ◌∙◌}
 use mathlib.Core.Bool.{true, false}
 use mathlib.Core.List.{List, [], ◌++◌}
@@ -25,7 +26,6 @@ use Rattle.messages.specs.declared.Reading.{Reading}
 use Rattle.messages.proofs.Keys.{no_key}
 use Rattle.line.specs.Cases.{fewest, untyped}
 use Rattle.line.specs.Read.{read_by}
-use Rattle.line.specs.declared.RuleRead.TheVariants.{Read}
 use Rattle.line.proofs.Placed.{reads_stand, stands_key}
 use Rattle.printer.specs.RowText.{hyphen}
 use Rattle.printer.proofs.RowLines.{word_part}
@@ -78,15 +78,15 @@ lines_are_feeds {asked} {feed} c = c.lines ∙ sym (ap length (start_lines feed)
 -- ---- WHERE IN THE LINE THEY STAND
 
 -- "two letters of type", after 16 bytes; in an old line after 7
-pub type_there : (ρ : Rule) (s : List ℕ) (x : Reading) → read_by ρ s ≡ Read x → type_said (read_by ρ s) ≡ part (untyped ρ) 2 s
+pub type_there : (ρ : Rule) (s : List ℕ) (x : Reading) → read_by ρ s ≡ Ok x → type_said (read_by ρ s) ≡ part (untyped ρ) 2 s
 type_there New s x e = rw e (reads_stand New s x e).type
 type_there Old s x e = rw e (reads_stand Old s x e).type
 
 -- "The flight's key is the part before the slash", of the first field; the body begins after 18 bytes, in an old line after 9
-pub key_there : (ρ : Rule) (s : List ℕ) (x : Reading) → read_by ρ s ≡ Read x → has_fields (type_in x.body) ≡ true → key_said (read_by ρ s) ≡ before slash (field_at 1 (drop (fewest ρ) s))
+pub key_there : (ρ : Rule) (s : List ℕ) (x : Reading) → read_by ρ s ≡ Ok x → has_fields (type_in x.body) ≡ true → key_said (read_by ρ s) ≡ before slash (field_at 1 (drop (fewest ρ) s))
 key_there New s x e f = let k = stands_key New s x e f in rw e (word_part KEY (key_in x.body) k.0 ∙ k.1)
 key_there Old s x e f = let k = stands_key Old s x e f in rw e (word_part KEY (key_in x.body) k.0 ∙ k.1)
 
 -- RT, TO and HB have no fields, and no key
-pub key_none : (ρ : Rule) (s : List ℕ) (x : Reading) → read_by ρ s ≡ Read x → has_fields (type_in x.body) ≡ false → key_said (read_by ρ s) ≡ hyphen
+pub key_none : (ρ : Rule) (s : List ℕ) (x : Reading) → read_by ρ s ≡ Ok x → has_fields (type_in x.body) ≡ false → key_said (read_by ρ s) ≡ hyphen
 key_none ρ s x e f = rw (e, no_key x.body f) zero_part

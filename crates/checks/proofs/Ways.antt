@@ -1,4 +1,5 @@
 -- What each way through the code gives, but for the loop, is what its definition says. Assumes nothing.
+use Rattle.std.specs.Prelude.{None, Some}
 use mathlib.Core.Path.{◌≡◌, refl, sym, ap, ◌∙◌}
 use mathlib.Core.Bool.{Bool, true, false}
 use mathlib.Core.List.{List, [], ◌∷◌}
@@ -27,7 +28,6 @@ use Rattle.line.proofs.Theorems.{answer_reading}
 use Rattle.checks.specs.Part.{body_verdict, refused_verdict, verdict_by, overlong, verdict_of, judged_of, verdict_text, verdict_said, counted}
 use Rattle.checks.specs.declared.Sums.{Sums}
 use Rattle.checks.specs.declared.Verdict.{Verdict}
-use Rattle.checks.specs.declared.Judged.TheVariants as judged
 
 -- ---- `of_body`, `of_refusal`, `judge_new` and `judge_old`
 
@@ -44,20 +44,20 @@ answer_judged ρ s v e x g f = f ∙ ap (λ (y : AnswerOf ρ). verdict_by (read_
 
 module _ (ρ : Rule) (a : CutAnswer) (held rest : List ℕ) where
   module _ (s : List ℕ) (is : s ≡ line_in a held rest) (v : Verdict) (e : v ≡ verdict_by (read_by ρ s)) where
-    pub buffer_judged : (n : ℕ) → a ≡ cut.InBuffer n → judged.Line v ≡ judged_of ρ (told_by a (line_in a held rest))
+    pub buffer_judged : (n : ℕ) → a ≡ cut.InBuffer n → Some v ≡ judged_of ρ (told_by a (line_in a held rest))
     unfolding told_by verdict_of
     buffer_judged n q = rw (← is, q, e)
 
-    pub part_judged : (n : ℕ) → a ≡ cut.InPart n → judged.Line v ≡ judged_of ρ (told_by a (line_in a held rest))
+    pub part_judged : (n : ℕ) → a ≡ cut.InPart n → Some v ≡ judged_of ρ (told_by a (line_in a held rest))
     unfolding told_by verdict_of
     part_judged n q = rw (← is, q, e)
 
-  pub long_judged : a ≡ cut.TooLong → judged.Line overlong ≡ judged_of ρ (told_by a (line_in a held rest))
+  pub long_judged : a ≡ cut.TooLong → Some overlong ≡ judged_of ρ (told_by a (line_in a held rest))
   unfolding told_by verdict_of
   long_judged q = rw q
 
 -- where no line ended, the code tells only the variant's number
-pub none_judged : (ρ : Rule) (a : CutAnswer) (l : List ℕ) → OneOf (0 ∷ 4 ∷ []) (tag_of the_type a) → judged.Nothing ≡ judged_of ρ (told_by a l)
+pub none_judged : (ρ : Rule) (a : CutAnswer) (l : List ℕ) → OneOf (0 ∷ 4 ∷ []) (tag_of the_type a) → None ≡ judged_of ρ (told_by a l)
 unfolding told_by
 none_judged ρ cut.Taken l h = refl
 none_judged ρ (cut.InBuffer n) l h = absurd (miss (0 ∷ 4 ∷ []) 1 tt h)

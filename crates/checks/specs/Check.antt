@@ -1,18 +1,18 @@
 -- WHAT IS SAID OF A LINE, read under the rule ρ, and why it was refused: its number from 1, document 01's answer number, the place that it gives ("0 where it
 -- gives none"), and of a line that reads its type and its flight's key; a hyphen for what is not there. No board is there, so 12 and 13 do not arise.
 -- Assumes nothing.
-use Rattle.std.specs.Prelude.{ℕ, Bool, true, false, cond, ◌&&◌, List, [], ◌∷◌, eqb}
+use Rattle.std.specs.Prelude.{ℕ, Bool, true, false, cond, ◌&&◌, List, [], ◌∷◌, eqb, Err, Ok, Result}
 use Rattle.text.specs.Decimal.{decimal}
 use Rattle.rules.specs.declared.Rule.{Rule}
 use Rattle.fields.specs.MessageType.{type_text}
 use Rattle.cutter.specs.Feed.{Line, Whole, TooLong}
 use Rattle.messages.specs.Body.{type_in, key_in}
 use Rattle.line.specs.Read.{read_by, number_by, place_by}
-use Rattle.line.specs.declared.RuleRead.{RuleRead}
-use Rattle.line.specs.declared.RuleRead.TheVariants.{Read, Refused}
 use Rattle.printer.specs.RowText.{hyphen, line_text}
 use Rattle.printer.specs.Parts.{part_text}
 use Rattle.checks.specs.declared.Asked.{Asked}
+use Rattle.messages.specs.declared.Reading.{Reading}
+use Rattle.line.specs.declared.Refusal.{Refusal}
 
 -- what may be asked for under a rule: every line of the feed, or those alone that have no reading
 abbrev pub every_line : Rule → Asked
@@ -26,17 +26,17 @@ abbrev pub saying : ℕ → ℕ → ℕ → List ℕ → List ℕ → List ℕ
 saying number answer place type key = line_text (decimal number ∷ decimal answer ∷ decimal place ∷ type ∷ key ∷ [])
 
 -- "two letters of type"
-abbrev pub type_said : RuleRead → List ℕ
-type_said (Read x) = type_text (type_in x.body)
-type_said (Refused y) = hyphen
+abbrev pub type_said : Result Reading Refusal → List ℕ
+type_said (Ok x) = type_text (type_in x.body)
+type_said (Err y) = hyphen
 
 -- "The flight's key is the part before the slash"; RT, TO and HB have none
-abbrev pub key_said : RuleRead → List ℕ
-key_said (Read x) = part_text (key_in x.body)
-key_said (Refused y) = hyphen
+abbrev pub key_said : Result Reading Refusal → List ℕ
+key_said (Ok x) = part_text (key_in x.body)
+key_said (Err y) = hyphen
 
 -- of what the n-th line is read as
-abbrev pub read_said : ℕ → RuleRead → List ℕ
+abbrev pub read_said : ℕ → Result Reading Refusal → List ℕ
 read_said n r = saying n (number_by r) (place_by r) (type_said r) (key_said r)
 
 -- the n-th line of a feed; "2: line over 2,048 bytes"

@@ -1,6 +1,6 @@
 -- What the functions of `checks` are about: the words of what is said of a line, and what a part of a feed adds to what was said of the feed before it.
 -- `proofs/Lines` and `proofs/Feeds` show that this is what specs/Check and specs/Feed say. Assumes nothing.
-use Rattle.std.specs.Prelude.{ℕ, suc, ◌+◌, ◌*◌, ◌≤◌, ◌<◌, ◌^◌, ◌≡◌, Bool, true, cond, ◌&&◌, List, [], ◌∷◌, ◌++◌, eqb, length, take}
+use Rattle.std.specs.Prelude.{ℕ, suc, ◌+◌, ◌*◌, ◌≤◌, ◌<◌, ◌^◌, ◌≡◌, Bool, true, cond, ◌&&◌, List, [], ◌∷◌, ◌++◌, eqb, length, take, Err, None, Ok, Option, Result, Some}
 use Rattle.text.specs.Text.{packed, is_packed, spliced}
 use Rattle.shapes.specs.Pieces.{pieces}
 use Rattle.rules.specs.Frame.{line_feed}
@@ -13,8 +13,6 @@ use Rattle.messages.specs.Body.{type_in, key_in}
 use Rattle.messages.specs.declared.Body.{Body}
 use Rattle.line.specs.Read.{read_by, refusal_number, refusal_place}
 use Rattle.line.specs.declared.Refusal.{Refusal}
-use Rattle.line.specs.declared.RuleRead.{RuleRead}
-use Rattle.line.specs.declared.RuleRead.TheVariants.{Read, Refused}
 use Rattle.printer.specs.RowText.{hyphen}
 use Rattle.printer.specs.Parts.{part_text}
 use Rattle.checks.specs.Check.{saying, torn_of}
@@ -23,8 +21,7 @@ use Rattle.checks.specs.declared.Asked.{Asked}
 use Rattle.checks.specs.declared.Turn.{Turn}
 use Rattle.checks.specs.declared.Sums.{Sums}
 use Rattle.checks.specs.declared.Verdict.{Verdict}
-use Rattle.checks.specs.declared.Judged.{Judged}
-use Rattle.checks.specs.declared.Judged.TheVariants as judged
+use Rattle.messages.specs.declared.Reading.{Reading}
 
 -- ---- a line: its answer and place, and its type and key as words, 0 where there is none
 
@@ -34,9 +31,9 @@ body_verdict b = record { answer = 0; place = 0; kind = packed (type_text (type_
 abbrev pub refused_verdict : Refusal → Verdict
 refused_verdict y = record { answer = refusal_number y; place = refusal_place y; kind = 0; key = 0 }
 
-abbrev pub verdict_by : RuleRead → Verdict
-verdict_by (Read x) = body_verdict x.body
-verdict_by (Refused y) = refused_verdict y
+abbrev pub verdict_by : Result Reading Refusal → Verdict
+verdict_by (Ok x) = body_verdict x.body
+verdict_by (Err y) = refused_verdict y
 
 abbrev pub overlong : Verdict
 overlong = record { answer = 2; place = 0; kind = 0; key = 0 }
@@ -46,9 +43,9 @@ verdict_of ρ (Whole s) = verdict_by (read_by ρ s)
 verdict_of ρ TooLong = overlong
 
 -- of the line that a cut told of, if it did
-abbrev pub judged_of : Rule → List Line → Judged
-judged_of ρ [] = judged.Nothing
-judged_of ρ (l ∷ ls) = judged.Line (verdict_of ρ l)
+abbrev pub judged_of : Rule → List Line → Option Verdict
+judged_of ρ [] = None
+judged_of ρ (l ∷ ls) = Some (verdict_of ρ l)
 
 unfoldable pub is_verdict : Verdict → Bool
 is_verdict v = is_packed v.kind && is_packed v.key

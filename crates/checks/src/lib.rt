@@ -14,7 +14,7 @@ ghost use Rattle.checks.specs.Part.{body_verdict, refused_verdict, verdict_by, j
 
 use cutter::{Begun, CutAnswer, EndAnswer, cut, line};
 use fields::heads::MessageType;
-use line::{LineRead, OldRead, Refusal};
+use line::Refusal;
 use messages::{Body, key_in, type_in};
 use printer::put_count;
 use printer::slips::put_part;
@@ -46,12 +46,6 @@ pub struct Verdict {
     pub place: u64,
     pub kind: u64,
     pub key: u64,
-}
-
-#[derive(Clone, Copy)]
-pub enum Judged {
-    Line(Verdict),
-    Nothing,
 }
 
 // How far a step came: the counts, how many bytes of the part it used, and the place after what it wrote.
@@ -110,11 +104,11 @@ fn judge_new(line: &[u8]) -> Verdict
 {
     let read = line::read(line);
     match read {
-        LineRead::Read(m) => {
+        Ok(m) => {
             let body = m.body;
             of_body(body)
         }
-        LineRead::Refused(refusal) => of_refusal(refusal),
+        Err(refusal) => of_refusal(refusal),
     }
 }
 
@@ -124,11 +118,11 @@ fn judge_old(line: &[u8]) -> Verdict
 {
     let read = line::read_old(line);
     match read {
-        OldRead::Read(m) => {
+        Ok(m) => {
             let body = m.body;
             of_body(body)
         }
-        OldRead::Refused(refusal) => of_refusal(refusal),
+        Err(refusal) => of_refusal(refusal),
     }
 }
 
@@ -143,19 +137,19 @@ fn judge_line(rule: Rule, line: &[u8]) -> Verdict
 }
 
 // Of the line that a cut told of, if it did. An overlong one answers 2.
-fn judge<'a>(rule: Rule, answer: CutAnswer, held: &'a [u8], rest: &'a [u8]) -> Judged
+fn judge<'a>(rule: Rule, answer: CutAnswer, held: &'a [u8], rest: &'a [u8]) -> Option<Verdict>
     ensures { result ≡ judged_of rule (told_by answer (line_in answer held.now rest.now)) }
 {
     match answer {
-        CutAnswer::InBuffer(_) => Judged::Line(judge_line(rule, line(answer, held, rest))),
-        CutAnswer::InPart(_) => Judged::Line(judge_line(rule, line(answer, held, rest))),
-        CutAnswer::TooLong => Judged::Line(Verdict {
+        CutAnswer::InBuffer(_) => Some(judge_line(rule, line(answer, held, rest))),
+        CutAnswer::InPart(_) => Some(judge_line(rule, line(answer, held, rest))),
+        CutAnswer::TooLong => Some(Verdict {
             answer: 2,
             place: 0,
             kind: 0,
             key: 0,
         }),
-        _ => Judged::Nothing,
+        _ => None,
     }
 }
 
@@ -226,7 +220,7 @@ fn step(held: &mut [u8], asked: Asked, sums: Sums, rest: &[u8], out: &mut [u8], 
     let rule = asked.rule;
     let judged = judge(rule, answer, &held[..], rest);
     match judged {
-        Judged::Line(verdict) => {
+        Some(verdict) => {
             let next = say(asked.refused, (sums.lines + 1) as u64, verdict, out, at);
             let sums = count(sums, verdict);
             Turn {
@@ -235,7 +229,7 @@ fn step(held: &mut [u8], asked: Asked, sums: Sums, rest: &[u8], out: &mut [u8], 
                 next,
             }
         }
-        Judged::Nothing => Turn {
+        None => Turn {
             sums,
             used: done.used,
             next: at,

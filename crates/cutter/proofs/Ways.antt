@@ -1,4 +1,5 @@
 -- What each way through the code of the cutter answers is what its definition says. Assumes nothing.
+use Rattle.std.specs.Prelude.{Err, Ok, Result}
 use mathlib.Core.Path.{◌≡◌, refl, sym, ap, ◌∙◌}
 use mathlib.Core.Bool.{Bool, true, false, not}
 use mathlib.Core.List.{List, [], ◌∷◌}
@@ -12,9 +13,7 @@ use denote.Enum.Declared.{tag_of}
 use types.Run.{OneOf, miss}
 use Rattle.text.specs.Text.{has_room, spliced, written_next, written_bytes}
 use Rattle.text.proofs.Logic.{true_false}
-use Rattle.text.specs.declared.Written.{Written}
 use Rattle.text.specs.contracts.Written.{the_type}
-use Rattle.text.specs.declared.Written.TheVariants.{Next, NoRoom, NoText}
 use Rattle.shapes.specs.Cut.{up_to, has, before}
 use Rattle.shapes.proofs.Laws.{up_to_le}
 use Rattle.shapes.proofs.Joins.{whole_has}
@@ -27,6 +26,8 @@ use Rattle.cutter.specs.declared.CutAnswer.{CutAnswer}
 use Rattle.cutter.specs.declared.CutAnswer.TheVariants as cut
 use Rattle.cutter.specs.declared.EndAnswer.TheVariants as end
 use Rattle.cutter.specs.contracts.CutAnswer.{the_type as the-answer}
+use Rattle.text.specs.declared.NotWritten.TheVariants.{NoRoom, NoText}
+use Rattle.text.specs.declared.NotWritten.{NotWritten}
 
 -- ---- `is_allowed`
 
@@ -79,28 +80,28 @@ module _ (held : List ℕ) (begun : Begun) (s : List ℕ) where
 
   module _ (n : ℕ) (e : begun ≡ Held n) (out : List ℕ) (o : out ≡ written_bytes true s held n) where
     -- where it isn't written, the code tells only the variant's number
-    pub more_full : (r : Written) → r ≡ written_next true s held n → OneOf (1 ∷ 2 ∷ []) (tag_of the_type r) → (Overlong ≡ more_in held begun s) × (out ≡ held_more held begun s)
+    pub more_full : (r : Result ℕ NotWritten) → r ≡ written_next true s held n → OneOf (1 ∷ 2 ∷ []) (tag_of the_type r) → (Overlong ≡ more_in held begun s) × (out ≡ held_more held begun s)
     unfolding more_in held_more written_next written_bytes
     more_full r w h = go (has_room s held n) refl r w h
       where
-        go : (b : Bool) → has_room s held n ≡ b → (r : Written) → r ≡ written_next true s held n → OneOf (1 ∷ 2 ∷ []) (tag_of the_type r)
+        go : (b : Bool) → has_room s held n ≡ b → (r : Result ℕ NotWritten) → r ≡ written_next true s held n → OneOf (1 ∷ 2 ∷ []) (tag_of the_type r)
             → (Overlong ≡ more_in held begun s) × (out ≡ held_more held begun s)
-        go true q (Next m) w h = absurd (miss (1 ∷ 2 ∷ []) 0 tt h)
-        go true q NoRoom w h = let d : NoRoom ≡ Next (n + length s) = rw q at w in ((cc), (cc))
-        go true q NoText w h = let d : NoText ≡ Next (n + length s) = rw q at w in ((cc), (cc))
+        go true q (Ok m) w h = absurd (miss (1 ∷ 2 ∷ []) 0 tt h)
+        go true q (Err NoRoom) w h = let d : (Err NoRoom) ≡ Ok (n + length s) = rw q at w in ((cc), (cc))
+        go true q (Err NoText) w h = let d : (Err NoText) ≡ Ok (n + length s) = rw q at w in ((cc), (cc))
         go false q r w h = let d : out ≡ held = rw q at o in rw (e, q) (refl, d)
 
-    pub more_held : (m : ℕ) → Next m ≡ written_next true s held n → (Held m ≡ more_in held begun s) × (out ≡ held_more held begun s)
+    pub more_held : (m : ℕ) → Ok m ≡ written_next true s held n → (Held m ≡ more_in held begun s) × (out ≡ held_more held begun s)
     unfolding more_in held_more written_next written_bytes
     more_held m w = go (has_room s held n) refl
       where
         go : (b : Bool) → has_room s held n ≡ b → (Held m ≡ more_in held begun s) × (out ≡ held_more held begun s)
         go true q =
-            let d : Next m ≡ Next (n + length s) = rw q at w in
+            let d : Ok m ≡ Ok (n + length s) = rw q at w in
             let f : m ≡ n + length s = cc in
             let g : out ≡ spliced held n s = rw q at o in
             rw (e, q) (rw f, g)
-        go false q = let d : Next m ≡ NoRoom = rw q at w in ((cc), (cc))
+        go false q = let d : Ok m ≡ Err NoRoom = rw q at w in ((cc), (cc))
 
 -- ---- `close`
 

@@ -10,7 +10,6 @@ ghost use Rattle.cutter.specs.Cases.{CutIs, EndIs};
 use rules::{LINE_FEED, LONGEST_LINE};
 use shapes::find;
 use shapes::sweeps::find_far;
-use text::Written;
 use text::writing::put_bytes;
 
 // How much of the buffer is the begun line; or the mark that it is overlong, which stands in place of its bytes.
@@ -88,7 +87,7 @@ fn hold(held: &mut [u8], begun: Begun, bytes: &[u8]) -> Begun
     };
     let written = put_bytes(bytes, held, n);
     match written {
-        Written::Next(next) => Begun::Held(next),
+        Ok(next) => Begun::Held(next),
         _ => Begun::Overlong,
     }
 }

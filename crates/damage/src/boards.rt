@@ -7,15 +7,15 @@ use feeding::FeedAnswer;
 use fields::frame::Stamp;
 use meanings::ages;
 use meanings::ages::Aged;
-use planner::{LineAnswer, StrikeAnswer};
-use printer::Printed;
+use planner::{NotStruck, NotTaken};
+use printer::NotPrinted;
 
-fn say_line_answer(answer: LineAnswer) {
+fn say_line_answer(answer: Result<(), NotTaken>) {
     match answer {
-        LineAnswer::Taken => say_two(0, 0),
-        LineAnswer::Line(refusal) => say_two(refusal.number() as u64, refusal.place() as u64),
-        LineAnswer::NotAllowed => say_two(13, 0),
-        LineAnswer::Full => say_two(12, 0),
+        Ok(()) => say_two(0, 0),
+        Err(NotTaken::Line(refusal)) => say_two(refusal.number() as u64, refusal.place() as u64),
+        Err(NotTaken::NotAllowed) => say_two(13, 0),
+        Err(NotTaken::Full) => say_two(12, 0),
     }
 }
 
@@ -26,12 +26,12 @@ pub(crate) fn apply(board: &mut [u64], line: &[u8]) {
     say_words(&board[..]);
 }
 
-fn say_strike_answer(answer: StrikeAnswer) {
+fn say_strike_answer(answer: Result<(), NotStruck>) {
     match answer {
-        StrikeAnswer::Taken => say_two(0, 0),
-        StrikeAnswer::NoKey => say_two(9, 1),
-        StrikeAnswer::NotAllowed => say_two(13, 0),
-        StrikeAnswer::NotListed => say_two(14, 0),
+        Ok(()) => say_two(0, 0),
+        Err(NotStruck::NoKey) => say_two(9, 1),
+        Err(NotStruck::NotAllowed) => say_two(13, 0),
+        Err(NotStruck::NotListed) => say_two(14, 0),
     }
 }
 
@@ -42,11 +42,11 @@ pub(crate) fn strike(board: &mut [u64], key: &[u8]) {
     say_words(&board[..]);
 }
 
-fn say_printed(printed: Printed) {
+fn say_printed(printed: Result<usize, NotPrinted>) {
     match printed {
-        Printed::Next(next) => say_two(0, next as u64),
-        Printed::NoRoom => say_two(15, 0),
-        Printed::NotAllowed => say_two(13, 0),
+        Ok(next) => say_two(0, next as u64),
+        Err(NotPrinted::NoRoom) => say_two(15, 0),
+        Err(NotPrinted::NotAllowed) => say_two(13, 0),
     }
 }
 

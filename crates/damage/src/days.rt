@@ -1,19 +1,19 @@
 // The calls on day files: any bytes as a file; any buffer, run of offsets, place and count.
 use crate::numbers::{say_bytes, say_number, say_two, say_words};
-use dayfile::{Ended, Kept, Opened, Place};
+use dayfile::{NotEnded, NotKept, NotOpened, Place};
 
 fn say_three(a: u64, b: u64, c: u64) {
     say_two(a, b);
     say_number(c);
 }
 
-fn say_opened(opened: Opened) {
+fn say_opened(opened: Result<Contents, NotOpened>) {
     match opened {
-        Opened::Day(day) => say_three(0, day.lines as u64, day.start as u64),
-        Opened::TooShort => say_three(20, 0, 0),
-        Opened::UnknownVersion => say_three(21, 0, 0),
-        Opened::WrongLength => say_three(22, 0, 0),
-        Opened::WrongLines => say_three(23, 0, 0),
+        Ok(day) => say_three(0, day.lines as u64, day.start as u64),
+        Err(NotOpened::TooShort) => say_three(20, 0, 0),
+        Err(NotOpened::UnknownVersion) => say_three(21, 0, 0),
+        Err(NotOpened::WrongLength) => say_three(22, 0, 0),
+        Err(NotOpened::WrongLines) => say_three(23, 0, 0),
     }
 }
 
@@ -67,13 +67,13 @@ fn widen(offsets: &[u32], words: &mut [u64]) {
     }
 }
 
-fn say_kept(kept: Kept) {
+fn say_kept(kept: Result<Place, NotKept>) {
     match kept {
-        Kept::Next(place) => say_three(0, place.at as u64, place.count as u64),
-        Kept::TooLong => say_three(2, 0, 0),
-        Kept::LineFeed => say_three(25, 0, 0),
-        Kept::TooMany => say_three(24, 0, 0),
-        Kept::NoRoom => say_three(15, 0, 0),
+        Ok(place) => say_three(0, place.at as u64, place.count as u64),
+        Err(NotKept::TooLong) => say_three(2, 0, 0),
+        Err(NotKept::LineFeed) => say_three(25, 0, 0),
+        Err(NotKept::TooMany) => say_three(24, 0, 0),
+        Err(NotKept::NoRoom) => say_three(15, 0, 0),
     }
 }
 
@@ -96,12 +96,12 @@ pub(crate) fn keep_line(line: &[u8], out: &mut [u8], words: &mut [u64], at: usiz
     keep(line, out, &mut offsets[..n], words, Place { at, count });
 }
 
-fn say_ended(ended: Ended) {
+fn say_ended(ended: Result<usize, NotEnded>) {
     match ended {
-        Ended::Whole(size) => say_two(0, size as u64),
-        Ended::Disagree => say_two(13, 0),
-        Ended::TooMany => say_two(24, 0),
-        Ended::NoRoom => say_two(15, 0),
+        Ok(size) => say_two(0, size as u64),
+        Err(NotEnded::Disagree) => say_two(13, 0),
+        Err(NotEnded::TooMany) => say_two(24, 0),
+        Err(NotEnded::NoRoom) => say_two(15, 0),
     }
 }
 

@@ -13,7 +13,7 @@ use fields::plan::{FiledSpeed, Fix, Level, Point, Time};
 use fields::track::{ArrivalClock, Clock, GroundSpeed, Position, TrackLevel};
 use fields::words;
 use messages::{Af, Amended, Amendment, Az, Body, Dz, Message, OldMessage, Plan, Rz, Tz};
-use text::{Packed, Written};
+use text::NotWritten;
 
 fn ident(key: u64, number: u64) -> Ident {
     Ident {
@@ -161,7 +161,7 @@ fn send(
     free: &[u8],
     out: &mut [u8],
     at: usize,
-) -> Written
+) -> Result<usize, NotWritten>
     requires { 48 ≤ length w.now }
 {
     let body = body(w);
@@ -175,11 +175,11 @@ fn send(
     writer::write(m, free, out, at)
 }
 
-pub(crate) fn say_written(written: Written) {
+pub(crate) fn say_written(written: Result<usize, NotWritten>) {
     match written {
-        Written::Next(next) => say_two(0, next as u64),
-        Written::NoRoom => say_two(15, 0),
-        Written::NoText => say_two(16, 0),
+        Ok(next) => say_two(0, next as u64),
+        Err(NotWritten::NoRoom) => say_two(15, 0),
+        Err(NotWritten::NoText) => say_two(16, 0),
     }
 }
 
@@ -202,7 +202,7 @@ fn center(n: u64) -> Center {
         return Center(1);
     }
     let letter = [n as u8];
-    let Packed::Text(t) = words::read(rules::PREFIX, &letter) else {
+    let Some(t) = words::read(rules::PREFIX, &letter) else {
         return Center(1);
     };
     Center(t)
@@ -216,7 +216,7 @@ fn send_old(
     free: &[u8],
     out: &mut [u8],
     at: usize,
-) -> Written
+) -> Result<usize, NotWritten>
     requires { 48 ≤ length w.now }
 {
     let body = body(w);

@@ -2,7 +2,6 @@
 ghost use Rattle.std.specs.Prelude.{◌<◌};
 ghost use Rattle.io.specs.Counts.{IsPrefixLen};
 
-use text::Written;
 use text::writing::put_bytes;
 
 // The descriptor of standard output.
@@ -64,7 +63,7 @@ fn pack(words: &[u64], out: &mut [u8]) -> usize
     while i < words.len() {
         let bytes = eight(words[i]);
         let written = put_bytes(&bytes, out, at);
-        let Written::Next(next) = written else {
+        let Ok(next) = written else {
             return at;
         };
         at = next;

@@ -1,5 +1,6 @@
 -- What the promises of `dayfile` require on inputs written out, and so wrong answers that they do not allow: of each, `Post` is the function's
 -- `ensures` as it stands in the source, r any result that meets it, s the state at exit. Assumes nothing.
+use Rattle.std.specs.Prelude.{Err, Ok}
 use Prim.Native.Nat.{ℕ, ◌+◌, ◌-◌}
 use mathlib.Core.Bool.{false}
 use mathlib.Core.List.{List, [], ◌∷◌, ◌++◌}
@@ -19,9 +20,6 @@ use Rattle.dayfile.specs.DayFile.{version1, trailer_size, trailer_of, starts_fro
 use Rattle.dayfile.specs.Opening.{offsets_in, open_by, same_numbers, is_empty, agree, tail_of, open_of, lines_by, lines_in, numbered, place_of}
 use Rattle.dayfile.specs.Keeping.{is_full, has_place, kept_of, out_after, run_after, is_agreed, is_over, closing, ended_of, out_ended}
 use Rattle.dayfile.specs.Cases.{AreLines, IsVersioned, IsMeasured}
-use Rattle.dayfile.specs.declared.Opened.TheVariants as opened
-use Rattle.dayfile.specs.declared.Kept.TheVariants as kept
-use Rattle.dayfile.specs.declared.Ended.TheVariants as ended
 use Rattle.dayfile.proofs.version_1.Reads as version-1
 use Rattle.dayfile.proofs.walking.least.Reads as least
 use Rattle.dayfile.proofs.«open».Reads as opening
@@ -31,6 +29,9 @@ use Rattle.dayfile.proofs.ending.end_file.Reads as end-file
 use Rattle.dayfile.proofs.Files.{kept_line, each_at, lines_run, length-starts}
 use Rattle.dayfile.proofs.Opens.{lines_is}
 use Rattle.dayfile.proofs.KeptCases.{disagree_is}
+use Rattle.dayfile.specs.declared.NotEnded.TheVariants.{Disagree, NoRoom}
+use Rattle.dayfile.specs.declared.NotKept.TheVariants.{LineFeed, NoRoom, TooLong, TooMany}
+use Rattle.dayfile.specs.declared.NotOpened.TheVariants.{TooShort, UnknownVersion, WrongLength, WrongLines}
 
 -- ---- version 1
 
@@ -50,61 +51,61 @@ unfolding file_of feed_of starts_from index_of trailer_of places
 file_of_two_lines = refl
 
 -- what files written out are told, all computed at once
-told : (open_of version1 two ≡ opened.Day (record { lines = 2; start = 4 }))
-    × (open_of version1 (0 ∷ 0 ∷ 0 ∷ 0 ∷ 0 ∷ 0 ∷ 0 ∷ 1 ∷ []) ≡ opened.Day (record { lines = 0; start = 0 }))
-    × (open_of version1 (65 ∷ 66 ∷ 10 ∷ 10 ∷ 0 ∷ 0 ∷ 0 ∷ 0 ∷ 0 ∷ 0 ∷ 0 ∷ 3 ∷ 0 ∷ 0 ∷ 0 ∷ 4 ∷ 0 ∷ 2 ∷ 1 ∷ 0 ∷ []) ≡ opened.UnknownVersion)
-    × (open_of version1 (65 ∷ 66 ∷ 10 ∷ 10 ∷ 0 ∷ 0 ∷ 0 ∷ 0 ∷ 0 ∷ 0 ∷ 0 ∷ 3 ∷ 4 ∷ 0 ∷ 0 ∷ 0 ∷ 0 ∷ 2 ∷ 0 ∷ 1 ∷ []) ≡ opened.WrongLength)
-    × (open_of version1 (65 ∷ 66 ∷ 10 ∷ 10 ∷ 0 ∷ 0 ∷ 0 ∷ 0 ∷ 0 ∷ 0 ∷ 0 ∷ 3 ∷ 0 ∷ 0 ∷ 0 ∷ 4 ∷ 2 ∷ 0 ∷ 0 ∷ 1 ∷ []) ≡ opened.WrongLength)
-    × (open_of version1 (255 ∷ 255 ∷ 255 ∷ 252 ∷ 0 ∷ 1 ∷ 0 ∷ 1 ∷ []) ≡ opened.WrongLength)
-    × (open_of version1 (65 ∷ 66 ∷ 10 ∷ 10 ∷ 0 ∷ 0 ∷ 0 ∷ 0 ∷ 0 ∷ 0 ∷ 0 ∷ 2 ∷ 0 ∷ 0 ∷ 0 ∷ 4 ∷ 0 ∷ 2 ∷ 0 ∷ 1 ∷ []) ≡ opened.WrongLines)
-    × (open_of version1 (65 ∷ 10 ∷ 66 ∷ 0 ∷ 0 ∷ 0 ∷ 0 ∷ 0 ∷ 0 ∷ 0 ∷ 3 ∷ 0 ∷ 1 ∷ 0 ∷ 1 ∷ []) ≡ opened.WrongLines)
-    × (open_of version1 (65 ∷ 10 ∷ 0 ∷ 0 ∷ 0 ∷ 2 ∷ 0 ∷ 0 ∷ 0 ∷ 1 ∷ []) ≡ opened.WrongLines)
+told : (open_of version1 two ≡ Ok (record { lines = 2; start = 4 }))
+    × (open_of version1 (0 ∷ 0 ∷ 0 ∷ 0 ∷ 0 ∷ 0 ∷ 0 ∷ 1 ∷ []) ≡ Ok (record { lines = 0; start = 0 }))
+    × (open_of version1 (65 ∷ 66 ∷ 10 ∷ 10 ∷ 0 ∷ 0 ∷ 0 ∷ 0 ∷ 0 ∷ 0 ∷ 0 ∷ 3 ∷ 0 ∷ 0 ∷ 0 ∷ 4 ∷ 0 ∷ 2 ∷ 1 ∷ 0 ∷ []) ≡ Err UnknownVersion)
+    × (open_of version1 (65 ∷ 66 ∷ 10 ∷ 10 ∷ 0 ∷ 0 ∷ 0 ∷ 0 ∷ 0 ∷ 0 ∷ 0 ∷ 3 ∷ 4 ∷ 0 ∷ 0 ∷ 0 ∷ 0 ∷ 2 ∷ 0 ∷ 1 ∷ []) ≡ Err WrongLength)
+    × (open_of version1 (65 ∷ 66 ∷ 10 ∷ 10 ∷ 0 ∷ 0 ∷ 0 ∷ 0 ∷ 0 ∷ 0 ∷ 0 ∷ 3 ∷ 0 ∷ 0 ∷ 0 ∷ 4 ∷ 2 ∷ 0 ∷ 0 ∷ 1 ∷ []) ≡ Err WrongLength)
+    × (open_of version1 (255 ∷ 255 ∷ 255 ∷ 252 ∷ 0 ∷ 1 ∷ 0 ∷ 1 ∷ []) ≡ Err WrongLength)
+    × (open_of version1 (65 ∷ 66 ∷ 10 ∷ 10 ∷ 0 ∷ 0 ∷ 0 ∷ 0 ∷ 0 ∷ 0 ∷ 0 ∷ 2 ∷ 0 ∷ 0 ∷ 0 ∷ 4 ∷ 0 ∷ 2 ∷ 0 ∷ 1 ∷ []) ≡ Err WrongLines)
+    × (open_of version1 (65 ∷ 10 ∷ 66 ∷ 0 ∷ 0 ∷ 0 ∷ 0 ∷ 0 ∷ 0 ∷ 0 ∷ 3 ∷ 0 ∷ 1 ∷ 0 ∷ 1 ∷ []) ≡ Err WrongLines)
+    × (open_of version1 (65 ∷ 10 ∷ 0 ∷ 0 ∷ 0 ∷ 2 ∷ 0 ∷ 0 ∷ 0 ∷ 1 ∷ []) ≡ Err WrongLines)
 unfolding open_of open_by trailer_size value agree offsets_in same_numbers is_empty each_may_keep may_keep texts_of rest_of all_but_last last pieces starts_from has up_to
 told = (refl, refl, refl, refl, refl, refl, refl, refl, refl)
 
-pub refuses_two_lines : (κs : _) (a : _) (r : _) (s : _) → opening.Post κs a r s → a.0.now ≡ two → r ≡ opened.Day (record { lines = 2; start = 4 })
+pub refuses_two_lines : (κs : _) (a : _) (r : _) (s : _) → opening.Post κs a r s → a.0.now ≡ two → r ≡ Ok (record { lines = 2; start = 4 })
 refuses_two_lines κs a r s p e = p ∙ rw e told.0
 
 -- no line at all is a file of eight bytes
 pub refuses_no_line : (κs : _) (a : _) (r : _) (s : _) → opening.Post κs a r s → a.0.now ≡ 0 ∷ 0 ∷ 0 ∷ 0 ∷ 0 ∷ 0 ∷ 0 ∷ 1 ∷ []
-    → r ≡ opened.Day (record { lines = 0; start = 0 })
+    → r ≡ Ok (record { lines = 0; start = 0 })
 refuses_no_line κs a r s p e = p ∙ rw e told.1
 
 -- 20: seven bytes are none
-pub opens_seven_bytes : (κs : _) (a : _) (r : _) (s : _) → opening.Post κs a r s → length a.0.now ≡ 7 → r ≡ opened.TooShort
+pub opens_seven_bytes : (κs : _) (a : _) (r : _) (s : _) → opening.Post κs a r s → length a.0.now ≡ 7 → r ≡ Err TooShort
 unfolding open_of open_by trailer_size
 opens_seven_bytes κs a r s p e = p ∙ rw e
 
 -- 21: the version's two bytes exchanged
 pub version_exchanged : (κs : _) (a : _) (r : _) (s : _) → opening.Post κs a r s
-    → a.0.now ≡ 65 ∷ 66 ∷ 10 ∷ 10 ∷ 0 ∷ 0 ∷ 0 ∷ 0 ∷ 0 ∷ 0 ∷ 0 ∷ 3 ∷ 0 ∷ 0 ∷ 0 ∷ 4 ∷ 0 ∷ 2 ∷ 1 ∷ 0 ∷ [] → r ≡ opened.UnknownVersion
+    → a.0.now ≡ 65 ∷ 66 ∷ 10 ∷ 10 ∷ 0 ∷ 0 ∷ 0 ∷ 0 ∷ 0 ∷ 0 ∷ 0 ∷ 3 ∷ 0 ∷ 0 ∷ 0 ∷ 4 ∷ 0 ∷ 2 ∷ 1 ∷ 0 ∷ [] → r ≡ Err UnknownVersion
 version_exchanged κs a r s p e = p ∙ rw e told.2
 
 -- 22: the start, or the count, low byte first
 pub start_low_byte_first : (κs : _) (a : _) (r : _) (s : _) → opening.Post κs a r s
-    → a.0.now ≡ 65 ∷ 66 ∷ 10 ∷ 10 ∷ 0 ∷ 0 ∷ 0 ∷ 0 ∷ 0 ∷ 0 ∷ 0 ∷ 3 ∷ 4 ∷ 0 ∷ 0 ∷ 0 ∷ 0 ∷ 2 ∷ 0 ∷ 1 ∷ [] → r ≡ opened.WrongLength
+    → a.0.now ≡ 65 ∷ 66 ∷ 10 ∷ 10 ∷ 0 ∷ 0 ∷ 0 ∷ 0 ∷ 0 ∷ 0 ∷ 0 ∷ 3 ∷ 4 ∷ 0 ∷ 0 ∷ 0 ∷ 0 ∷ 2 ∷ 0 ∷ 1 ∷ [] → r ≡ Err WrongLength
 start_low_byte_first κs a r s p e = p ∙ rw e told.3
 
 pub count_low_byte_first : (κs : _) (a : _) (r : _) (s : _) → opening.Post κs a r s
-    → a.0.now ≡ 65 ∷ 66 ∷ 10 ∷ 10 ∷ 0 ∷ 0 ∷ 0 ∷ 0 ∷ 0 ∷ 0 ∷ 0 ∷ 3 ∷ 0 ∷ 0 ∷ 0 ∷ 4 ∷ 2 ∷ 0 ∷ 0 ∷ 1 ∷ [] → r ≡ opened.WrongLength
+    → a.0.now ≡ 65 ∷ 66 ∷ 10 ∷ 10 ∷ 0 ∷ 0 ∷ 0 ∷ 0 ∷ 0 ∷ 0 ∷ 0 ∷ 3 ∷ 0 ∷ 0 ∷ 0 ∷ 4 ∷ 2 ∷ 0 ∷ 0 ∷ 1 ∷ [] → r ≡ Err WrongLength
 count_low_byte_first κs a r s p e = p ∙ rw e told.4
 
 -- 22: a sum that wraps at 4,294,967,296 would be the length of the file
-pub sum_that_wraps : (κs : _) (a : _) (r : _) (s : _) → opening.Post κs a r s → a.0.now ≡ 255 ∷ 255 ∷ 255 ∷ 252 ∷ 0 ∷ 1 ∷ 0 ∷ 1 ∷ [] → r ≡ opened.WrongLength
+pub sum_that_wraps : (κs : _) (a : _) (r : _) (s : _) → opening.Post κs a r s → a.0.now ≡ 255 ∷ 255 ∷ 255 ∷ 252 ∷ 0 ∷ 1 ∷ 0 ∷ 1 ∷ [] → r ≡ Err WrongLength
 sum_that_wraps κs a r s p e = p ∙ rw e told.5
 
 -- 23: an index that is out by one
 pub index_out_by_one : (κs : _) (a : _) (r : _) (s : _) → opening.Post κs a r s
-    → a.0.now ≡ 65 ∷ 66 ∷ 10 ∷ 10 ∷ 0 ∷ 0 ∷ 0 ∷ 0 ∷ 0 ∷ 0 ∷ 0 ∷ 2 ∷ 0 ∷ 0 ∷ 0 ∷ 4 ∷ 0 ∷ 2 ∷ 0 ∷ 1 ∷ [] → r ≡ opened.WrongLines
+    → a.0.now ≡ 65 ∷ 66 ∷ 10 ∷ 10 ∷ 0 ∷ 0 ∷ 0 ∷ 0 ∷ 0 ∷ 0 ∷ 0 ∷ 2 ∷ 0 ∷ 0 ∷ 0 ∷ 4 ∷ 0 ∷ 2 ∷ 0 ∷ 1 ∷ [] → r ≡ Err WrongLines
 index_out_by_one κs a r s p e = p ∙ rw e told.6
 
 -- 23: a byte after the last line feed
 pub byte_after_last_feed : (κs : _) (a : _) (r : _) (s : _) → opening.Post κs a r s
-    → a.0.now ≡ 65 ∷ 10 ∷ 66 ∷ 0 ∷ 0 ∷ 0 ∷ 0 ∷ 0 ∷ 0 ∷ 0 ∷ 3 ∷ 0 ∷ 1 ∷ 0 ∷ 1 ∷ [] → r ≡ opened.WrongLines
+    → a.0.now ≡ 65 ∷ 10 ∷ 66 ∷ 0 ∷ 0 ∷ 0 ∷ 0 ∷ 0 ∷ 0 ∷ 0 ∷ 3 ∷ 0 ∷ 1 ∷ 0 ∷ 1 ∷ [] → r ≡ Err WrongLines
 byte_after_last_feed κs a r s p e = p ∙ rw e told.7
 
 -- 23: a count of 0 with a start over 0
-pub lines_not_counted : (κs : _) (a : _) (r : _) (s : _) → opening.Post κs a r s → a.0.now ≡ 65 ∷ 10 ∷ 0 ∷ 0 ∷ 0 ∷ 2 ∷ 0 ∷ 0 ∷ 0 ∷ 1 ∷ [] → r ≡ opened.WrongLines
+pub lines_not_counted : (κs : _) (a : _) (r : _) (s : _) → opening.Post κs a r s → a.0.now ≡ 65 ∷ 10 ∷ 0 ∷ 0 ∷ 0 ∷ 2 ∷ 0 ∷ 0 ∷ 0 ∷ 1 ∷ [] → r ≡ Err WrongLines
 lines_not_counted κs a r s p e = p ∙ rw e told.8
 
 -- 23: a line of 2,049 bytes, with its offset 0, the start 2,050 and the count 1
@@ -129,7 +130,7 @@ module _ (l : List ℕ) (long : length l ≡ 2049) (none : has 10 l ≡ false) w
       let g = (kept_line l (each_at (l ∷ []) (rw f at k.each) 0 (omega arith))).0 in
       omega arith
 
-  pub takes_2049 : (κs : _) (a : _) (r : _) (s : _) → opening.Post κs a r s → a.0.now ≡ l ++ (10 ∷ 0 ∷ 0 ∷ 0 ∷ 0 ∷ 0 ∷ 0 ∷ 8 ∷ 2 ∷ 0 ∷ 1 ∷ 0 ∷ 1 ∷ []) → r ≡ opened.WrongLines
+  pub takes_2049 : (κs : _) (a : _) (r : _) (s : _) → opening.Post κs a r s → a.0.now ≡ l ++ (10 ∷ 0 ∷ 0 ∷ 0 ∷ 0 ∷ 0 ∷ 0 ∷ 8 ∷ 2 ∷ 0 ∷ 1 ∷ 0 ∷ 1 ∷ []) → r ≡ Err WrongLines
   unfolding trailer_size value
   takes_2049 κs a r s p e =
       let file = l ++ after in
@@ -169,43 +170,43 @@ line_3 κs a r s p e n = p.0 ∙ rw (e, lines_of_two, n)
 -- its bytes and a line feed, and where it begins in the run
 pub keeps_without_line_feed : (κs : _) (a : _) (r : _) (s : _) → keep-line.Post κs a r s → a.0.now ≡ bytes "AB" → a.1.0.now ≡ 10 ∷ 0 ∷ 0 ∷ 0 ∷ 7 ∷ []
     → a.1.1.0.now ≡ 0 ∷ 9 ∷ [] → a.1.1.1.0 ≡ record { at = 1; count = 1 }
-    → (r ≡ kept.Next (record { at = 4; count = 2 })) × (s.1.0.now ≡ 10 ∷ 65 ∷ 66 ∷ 10 ∷ 7 ∷ []) × (s.1.1.0.now ≡ 0 ∷ 1 ∷ [])
+    → (r ≡ Ok (record { at = 4; count = 2 })) × (s.1.0.now ≡ 10 ∷ 65 ∷ 66 ∷ 10 ∷ 7 ∷ []) × (s.1.1.0.now ≡ 0 ∷ 1 ∷ [])
 unfolding kept_of is_full has_place has_room has up_to out_after run_after spliced
 keeps_without_line_feed κs a r s p l o f q =
-    let e : r ≡ kept.Next (record { at = 4; count = 2 }) = p.0 ∙ rw (l, o, f, q) in
+    let e : r ≡ Ok (record { at = 4; count = 2 }) = p.0 ∙ rw (l, o, f, q) in
     (e, p.1.0 ∙ rw (e, l, o, q), p.1.1 ∙ rw (e, f, q))
 
 -- 2: 2,049 bytes, also with a line feed among them
-pub keeps_2049 : (κs : _) (a : _) (r : _) (s : _) → keep-line.Post κs a r s → length a.0.now ≡ 2049 → (r ≡ kept.TooLong) × (s.1.0.now ≡ a.1.0.now)
+pub keeps_2049 : (κs : _) (a : _) (r : _) (s : _) → keep-line.Post κs a r s → length a.0.now ≡ 2049 → (r ≡ Err TooLong) × (s.1.0.now ≡ a.1.0.now)
 unfolding kept_of out_after
-keeps_2049 κs a r s p h = let e : r ≡ kept.TooLong = p.0 ∙ rw h in (e, p.1.0 ∙ rw e)
+keeps_2049 κs a r s p h = let e : r ≡ Err TooLong = p.0 ∙ rw h in (e, p.1.0 ∙ rw e)
 
 -- 25: a line feed
 pub keeps_a_line_feed : (κs : _) (a : _) (r : _) (s : _) → keep-line.Post κs a r s → a.0.now ≡ 65 ∷ 10 ∷ 66 ∷ []
-    → (r ≡ kept.LineFeed) × (s.1.0.now ≡ a.1.0.now) × (s.1.1.0.now ≡ a.1.1.0.now)
+    → (r ≡ Err LineFeed) × (s.1.0.now ≡ a.1.0.now) × (s.1.1.0.now ≡ a.1.1.0.now)
 unfolding kept_of has up_to out_after run_after
-keeps_a_line_feed κs a r s p l = let e : r ≡ kept.LineFeed = p.0 ∙ rw l in (e, p.1.0 ∙ rw e, p.1.1 ∙ rw e)
+keeps_a_line_feed κs a r s p l = let e : r ≡ Err LineFeed = p.0 ∙ rw l in (e, p.1.0 ∙ rw e, p.1.1 ∙ rw e)
 
 -- 24: a line after 65,535, also where there is no room for it
-pub keeps_65536 : (κs : _) (a : _) (r : _) (s : _) → keep-line.Post κs a r s → a.0.now ≡ [] → a.1.0.now ≡ [] → a.1.1.1.0 ≡ record { at = 65535; count = 65535 } → r ≡ kept.TooMany
+pub keeps_65536 : (κs : _) (a : _) (r : _) (s : _) → keep-line.Post κs a r s → a.0.now ≡ [] → a.1.0.now ≡ [] → a.1.1.1.0 ≡ record { at = 65535; count = 65535 } → r ≡ Err TooMany
 unfolding kept_of is_full has up_to
 keeps_65536 κs a r s p l o q = p.0 ∙ rw (l, q)
 
 -- 24: an empty line after 4,294,967,295 bytes
-pub starts_too_far : (κs : _) (a : _) (r : _) (s : _) → keep-line.Post κs a r s → a.0.now ≡ [] → a.1.1.1.0 ≡ record { at = 4294967295; count = 1 } → r ≡ kept.TooMany
+pub starts_too_far : (κs : _) (a : _) (r : _) (s : _) → keep-line.Post κs a r s → a.0.now ≡ [] → a.1.1.1.0 ≡ record { at = 4294967295; count = 1 } → r ≡ Err TooMany
 unfolding kept_of is_full has up_to
 starts_too_far κs a r s p l q = p.0 ∙ rw (l, q)
 
 -- 15: an offset is not written where the line has no room, nor the line where the run is full
 pub offset_without_its_line : (κs : _) (a : _) (r : _) (s : _) → keep-line.Post κs a r s → a.0.now ≡ bytes "AB" → a.1.0.now ≡ 0 ∷ 0 ∷ [] → a.1.1.0.now ≡ 9 ∷ []
-    → a.1.1.1.0 ≡ record { at = 0; count = 0 } → (r ≡ kept.NoRoom) × (s.1.0.now ≡ 0 ∷ 0 ∷ []) × (s.1.1.0.now ≡ 9 ∷ [])
+    → a.1.1.1.0 ≡ record { at = 0; count = 0 } → (r ≡ Err NoRoom) × (s.1.0.now ≡ 0 ∷ 0 ∷ []) × (s.1.1.0.now ≡ 9 ∷ [])
 unfolding kept_of is_full has_place has_room has up_to out_after run_after
-offset_without_its_line κs a r s p l o f q = let e : r ≡ kept.NoRoom = p.0 ∙ rw (l, o, f, q) in (e, p.1.0 ∙ rw (e, o), p.1.1 ∙ rw (e, f))
+offset_without_its_line κs a r s p l o f q = let e : r ≡ Err NoRoom = p.0 ∙ rw (l, o, f, q) in (e, p.1.0 ∙ rw (e, o), p.1.1 ∙ rw (e, f))
 
 pub line_without_its_offset : (κs : _) (a : _) (r : _) (s : _) → keep-line.Post κs a r s → a.0.now ≡ bytes "AB" → a.1.0.now ≡ 0 ∷ 0 ∷ 0 ∷ [] → a.1.1.0.now ≡ []
-    → a.1.1.1.0 ≡ record { at = 0; count = 0 } → (r ≡ kept.NoRoom) × (s.1.0.now ≡ 0 ∷ 0 ∷ 0 ∷ [])
+    → a.1.1.1.0 ≡ record { at = 0; count = 0 } → (r ≡ Err NoRoom) × (s.1.0.now ≡ 0 ∷ 0 ∷ 0 ∷ [])
 unfolding kept_of is_full has_place has_room has up_to out_after
-line_without_its_offset κs a r s p l o f q = let e : r ≡ kept.NoRoom = p.0 ∙ rw (l, o, f, q) in (e, p.1.0 ∙ rw (e, o))
+line_without_its_offset κs a r s p l o f q = let e : r ≡ Err NoRoom = p.0 ∙ rw (l, o, f, q) in (e, p.1.0 ∙ rw (e, o))
 
 -- ---- the file ended
 
@@ -214,21 +215,21 @@ room = 65 ∷ 66 ∷ 10 ∷ 10 ∷ 9 ∷ 9 ∷ 9 ∷ 9 ∷ 9 ∷ 9 ∷ 9 ∷ 9 �
 
 -- index and trailer, high byte first
 pub writes_low_byte_first : (κs : _) (a : _) (r : _) (s : _) → end-file.Post κs a r s → a.0.now ≡ room → a.1.0.now ≡ 0 ∷ 3 ∷ [] → a.1.1.0 ≡ record { at = 4; count = 2 }
-    → (r ≡ ended.Whole 20) × (s.0.now ≡ two)
+    → (r ≡ Ok 20) × (s.0.now ≡ two)
 unfolding ended_of is_agreed agree same_numbers is_empty each_may_keep may_keep texts_of rest_of all_but_last last pieces starts_from has up_to is_over has_room closing index_of trailer_of places out_ended spliced
-writes_low_byte_first κs a r s p o f q = let e : r ≡ ended.Whole 20 = p.0 ∙ rw (o, f, q) in (e, p.1 ∙ rw (e, o, f, q))
+writes_low_byte_first κs a r s p o f q = let e : r ≡ Ok 20 = p.0 ∙ rw (o, f, q) in (e, p.1 ∙ rw (e, o, f, q))
 
 -- 13: an offset changed
 pub ends_with_an_offset_changed : (κs : _) (a : _) (r : _) (s : _) → end-file.Post κs a r s → a.0.now ≡ room → a.1.0.now ≡ 0 ∷ 2 ∷ [] → a.1.1.0 ≡ record { at = 4; count = 2 }
-    → (r ≡ ended.Disagree) × (s.0.now ≡ room)
+    → (r ≡ Err Disagree) × (s.0.now ≡ room)
 unfolding ended_of is_agreed agree same_numbers is_empty each_may_keep may_keep texts_of rest_of all_but_last last pieces starts_from has up_to out_ended
-ends_with_an_offset_changed κs a r s p o f q = let e : r ≡ ended.Disagree = p.0 ∙ rw (o, f, q) in (e, p.1 ∙ rw (e, o))
+ends_with_an_offset_changed κs a r s p o f q = let e : r ≡ Err Disagree = p.0 ∙ rw (o, f, q) in (e, p.1 ∙ rw (e, o))
 
 -- 13: a line that no line feed ends
 pub ends_inside_a_line : (κs : _) (a : _) (r : _) (s : _) → end-file.Post κs a r s → a.0.now ≡ room → a.1.0.now ≡ 0 ∷ [] → a.1.1.0 ≡ record { at = 2; count = 1 }
-    → (r ≡ ended.Disagree) × (s.0.now ≡ room)
+    → (r ≡ Err Disagree) × (s.0.now ≡ room)
 unfolding ended_of is_agreed agree is_empty rest_of last pieces out_ended
-ends_inside_a_line κs a r s p o f q = let e : r ≡ ended.Disagree = p.0 ∙ rw (o, f, q) in (e, p.1 ∙ rw (e, o))
+ends_inside_a_line κs a r s p o f q = let e : r ≡ Err Disagree = p.0 ∙ rw (o, f, q) in (e, p.1 ∙ rw (e, o))
 
 -- 13 before 24: 65,536 offsets that disagree
 no_bytes_no_lines : (os : List ℕ) → length os ≡ 65536 → AreLines [] (take 65536 os) → ⊥
@@ -238,15 +239,15 @@ no_bytes_no_lines os h k =
     let all : length (take 65536 os) ≡ 65536 = length-take-le 65536 os (omega arith) in
     omega (arith, ap length k.starts, length-starts 0 k.run, ap length none)
 
-pub many_that_disagree : (κs : _) (a : _) (r : _) (s : _) → end-file.Post κs a r s → length a.1.0.now ≡ 65536 → a.1.1.0 ≡ record { at = 0; count = 65536 } → r ≡ ended.Disagree
+pub many_that_disagree : (κs : _) (a : _) (r : _) (s : _) → end-file.Post κs a r s → length a.1.0.now ≡ 65536 → a.1.1.0 ≡ record { at = 0; count = 65536 } → r ≡ Err Disagree
 many_that_disagree κs a r s p h q =
     p.0 ∙ rw q (disagree_is version1 a.0.now a.1.0.now (record { at = 0; count = 65536 }) (λ g. no_bytes_no_lines a.1.0.now h g.2))
 
 -- 15: one byte too few for the trailer
 pub ends_without_room : (κs : _) (a : _) (r : _) (s : _) → end-file.Post κs a r s → a.0.now ≡ 65 ∷ 10 ∷ 9 ∷ 9 ∷ 9 ∷ 9 ∷ 9 ∷ 9 ∷ 9 ∷ 9 ∷ 9 ∷ 9 ∷ 9 ∷ [] → a.1.0.now ≡ 0 ∷ []
-    → a.1.1.0 ≡ record { at = 2; count = 1 } → (r ≡ ended.NoRoom) × (s.0.now ≡ a.0.now)
+    → a.1.1.0 ≡ record { at = 2; count = 1 } → (r ≡ Err NoRoom) × (s.0.now ≡ a.0.now)
 unfolding ended_of is_agreed agree same_numbers is_empty each_may_keep may_keep texts_of rest_of all_but_last last pieces starts_from has up_to is_over has_room closing index_of trailer_of places out_ended
-ends_without_room κs a r s p o f q = let e : r ≡ ended.NoRoom = p.0 ∙ rw (o, f, q) in (e, p.1 ∙ rw e)
+ends_without_room κs a r s p o f q = let e : r ≡ Err NoRoom = p.0 ∙ rw (o, f, q) in (e, p.1 ∙ rw e)
 
 -- ---- `least`
 

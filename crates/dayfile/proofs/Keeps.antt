@@ -1,4 +1,5 @@
 -- What each way through `keep_from` and `end_as`, and through what they ask, answers and writes is what its definition says. Assumes nothing.
+use Rattle.std.specs.Prelude.{Err, Ok, Result}
 use mathlib.Core.Path.{◌≡◌, refl, sym, ap, ◌∙◌}
 use mathlib.Core.Bool.{Bool, true, false, not, and-false}
 use mathlib.Core.List.{List, []}
@@ -25,14 +26,14 @@ use Rattle.dayfile.specs.Walk.{Walks}
 use Rattle.dayfile.specs.declared.walking.Walked.{Walked}
 use Rattle.dayfile.specs.declared.Trailer.{Trailer}
 use Rattle.dayfile.specs.declared.Place.{Place}
-use Rattle.dayfile.specs.declared.Kept.{Kept}
-use Rattle.dayfile.specs.declared.Kept.TheVariants as kept
-use Rattle.dayfile.specs.declared.Ended.{Ended}
-use Rattle.dayfile.specs.declared.Ended.TheVariants as ended
 use Rattle.dayfile.proofs.Bytes.{length_index}
 use Rattle.dayfile.proofs.Walks.{walked_agree, fewer_lines, fewer_bytes}
 use Rattle.dayfile.proofs.KeptCases.{fed_length, full_is, is_full_lem, long_is, feed_is, many_is, room_is, taken_is, agreed_is, is_agreed_lem, over_is, is_over_lem, disagree_is, closing_length, over_answer, short_answer, whole_answer}
 use Rattle.dayfile.proofs.Puts.{then_put}
+use Rattle.dayfile.specs.declared.NotEnded.TheVariants.{Disagree, NoRoom, TooMany}
+use Rattle.dayfile.specs.declared.NotKept.TheVariants.{LineFeed, NoRoom, TooLong, TooMany}
+use Rattle.dayfile.specs.declared.NotEnded.{NotEnded}
+use Rattle.dayfile.specs.declared.NotKept.{NotKept}
 
 -- ---- `is_full`
 
@@ -54,15 +55,15 @@ module _ (most : ℕ) (p : Place) (l : List ℕ) where
 -- ---- `keep_from`
 
 module _ (most base : ℕ) (l out offsets : List ℕ) (p : Place) where
-  abbrev Keeps : Kept → List ℕ → List ℕ → Type 0
+  abbrev Keeps : Result Place NotKept → List ℕ → List ℕ → Type 0
   Keeps r out' offsets' = (r ≡ kept_of most base l out offsets p) × ((out' ≡ out_after r base l out p) × (offsets' ≡ run_after r offsets p))
 
-  pub kept_long : longest_line < length l → Keeps kept.TooLong out offsets
+  pub kept_long : longest_line < length l → Keeps (Err TooLong) out offsets
   unfolding out_after run_after
   kept_long h = (sym (long_is most base l out offsets p h), (refl, refl))
 
   module _ (short : length l ≤ longest_line) {i : ℕ} (first : i ≡ up_to line_feed l) where
-    pub kept_feed : i < length l → Keeps kept.LineFeed out offsets
+    pub kept_feed : i < length l → Keeps (Err LineFeed) out offsets
     unfolding out_after run_after
     kept_feed h = (sym (feed_is most base l out offsets p short (is_cut line_feed l i first h)), (refl, refl))
 
@@ -70,7 +71,7 @@ module _ (most base : ℕ) (l out offsets : List ℕ) (p : Place) where
       may : IsKeepable most base l out offsets p
       may = (short, not_cut line_feed l i first none)
 
-      pub kept_many : full ≡ true → Keeps kept.TooMany out offsets
+      pub kept_many : full ≡ true → Keeps (Err TooMany) out offsets
       unfolding out_after run_after
       kept_many h = (sym (many_is most base l out offsets p may (is_full_lem most base l out offsets p (sym told ∙ h))), (refl, refl))
 
@@ -78,19 +79,19 @@ module _ (most base : ℕ) (l out offsets : List ℕ) (p : Place) where
         not_many : IsTooMany most base l out offsets p → ⊥
         not_many m = true_false (full_is most base l out offsets p m) (sym told ∙ few)
 
-        pub no_run : length offsets ≤ p.count → Keeps kept.NoRoom out offsets
+        pub no_run : length offsets ≤ p.count → Keeps (Err NoRoom) out offsets
         unfolding out_after run_after
         no_run h = (sym (room_is most base l out offsets p may not_many (inr h)), (refl, refl))
 
         module _ {room : Bool} (asked : room ≡ leb (p.at - base + (length l + 1)) (length out)) where
-          pub no_place : not room ≡ true → Keeps kept.NoRoom out offsets
+          pub no_place : not room ≡ true → Keeps (Err NoRoom) out offsets
           unfolding out_after run_after
           no_place h =
               let k = leb-false (p.at - base + (length l + 1)) (length out) (not_so asked h) in
               (sym (room_is most base l out offsets p may not_many (inl (omega arith))), (refl, refl))
 
           pub kept_next : not room ≡ false → p.count < length offsets → {w : List ℕ} → w ≡ written_bytes true l out (p.at - base)
-              → Keeps (kept.Next (record { at = p.at + length l + 1; count = p.count + 1 })) (set w (p.at - base + length l) line_feed) (set offsets p.count p.at)
+              → Keeps (Ok (record { at = p.at + length l + 1; count = p.count + 1 })) (set w (p.at - base + length l) line_feed) (set offsets p.count p.at)
           unfolding out_after run_after
           kept_next some h e =
               let k = leb-true (p.at - base + (length l + 1)) (length out) (so asked some) in
@@ -148,11 +149,11 @@ module _ (out offsets : List ℕ) (p : Place) where
 -- ---- `end_as`
 
 module _ (t : Trailer) (out offsets : List ℕ) (p : Place) where
-  abbrev Ends : Ended → List ℕ → Type 0
+  abbrev Ends : Result ℕ NotEnded → List ℕ → Type 0
   Ends r out' = (r ≡ ended_of t out offsets p) × (out' ≡ out_ended r t out offsets p)
 
   module _ {agreed : Bool} (told : agreed ≡ is_agreed out offsets p) where
-    pub not_agreed : not agreed ≡ true → Ends ended.Disagree out
+    pub not_agreed : not agreed ≡ true → Ends (Err Disagree) out
     unfolding out_ended
     not_agreed h = (sym (disagree_is t out offsets p (λ a. true_false (is_agreed_lem t out offsets p a) (not_so told h))), refl)
 
@@ -160,7 +161,7 @@ module _ (t : Trailer) (out offsets : List ℕ) (p : Place) where
       agrees : Agrees t out offsets p
       agrees = agreed_is t out offsets p (so told is)
 
-      pub ended_over : over ≡ true → Ends ended.TooMany out
+      pub ended_over : over ≡ true → Ends (Err TooMany) out
       unfolding out_ended
       ended_over h = (sym (over_answer t out offsets p agrees (over_is t out offsets p (sym asked ∙ h))), refl)
 
@@ -168,16 +169,16 @@ module _ (t : Trailer) (out offsets : List ℕ) (p : Place) where
         no_more : IsOverfull t out offsets p → ⊥
         no_more m = true_false (is_over_lem t out offsets p m) (sym asked ∙ few)
 
-        pub ended_full : length out < p.at + 4 * p.count + n → Ends ended.NoRoom out
+        pub ended_full : length out < p.at + 4 * p.count + n → Ends (Err NoRoom) out
         unfolding out_ended
         ended_full h = (sym (short_answer t out offsets p agrees no_more (omega arith)), refl)
 
         pub ended_whole : p.at + 4 * p.count + n ≤ length out → {a b : List ℕ} → a ≡ spliced out p.at (index_of (take p.count offsets))
-            → b ≡ spliced a (p.at + 4 * p.count) (trailer_of t p.at p.count) → Ends (ended.Whole (p.at + 4 * p.count + n)) b
+            → b ≡ spliced a (p.at + 4 * p.count) (trailer_of t p.at p.count) → Ends (Ok (p.at + 4 * p.count + n)) b
         unfolding out_ended closing
         ended_whole h e f =
             let i = index_of (take p.count offsets) in
             let l : p.at + 4 * p.count ≡ p.at + length i = omega (arith, length_index (take p.count offsets), length-take-le p.count offsets agrees.1) in (
-              sym (whole_answer t out offsets p agrees no_more (omega arith) ∙ ap ended.Whole (omega (arith, closing_length t out offsets p agrees))),
+              sym (whole_answer t out offsets p agrees no_more (omega arith) ∙ ap Ok (omega (arith, closing_length t out offsets p agrees))),
               then_put out i (trailer_of t p.at p.count) p.at (p.at + 4 * p.count) l (omega arith) e f,
             )

@@ -1,5 +1,6 @@
 -- `keep_line` AND `end_file`: each number exactly in its case, what is known of a call that was taken, and that a refused one writes nothing. Over any trailer.
 -- Assumes nothing.
+use Rattle.std.specs.Prelude.{Err, Ok, Result}
 use mathlib.Core.Path.{◌≡◌, refl, sym, ◌∙◌}
 use mathlib.Core.Bool.{Bool, true, false, ◌&&◌, or-true, and-false}
 use mathlib.Core.List.{List, [], ◌∷◌}
@@ -21,12 +22,12 @@ use Rattle.dayfile.specs.Keeping.{fed, is_full, has_place, kept_of, out_after, r
 use Rattle.dayfile.specs.Cases.{IsKeepable, IsTooMany, KeepCase, Long, Feed, Many, Room, Taken, Agrees, IsOverfull, EndCase}
 use Rattle.dayfile.specs.declared.Trailer.{Trailer}
 use Rattle.dayfile.specs.declared.Place.{Place}
-use Rattle.dayfile.specs.declared.Kept.{Kept}
-use Rattle.dayfile.specs.declared.Kept.TheVariants as kept
-use Rattle.dayfile.specs.declared.Ended.{Ended}
-use Rattle.dayfile.specs.declared.Ended.TheVariants as ended
 use Rattle.dayfile.proofs.Bytes.{length_index}
 use Rattle.dayfile.proofs.Files.{length_trailer, line_kept, agree_lines, lines_agree}
+use Rattle.dayfile.specs.declared.NotEnded.TheVariants.{Disagree, NoRoom, TooMany}
+use Rattle.dayfile.specs.declared.NotKept.TheVariants.{LineFeed, NoRoom, TooLong, TooMany}
+use Rattle.dayfile.specs.declared.NotEnded.{NotEnded}
+use Rattle.dayfile.specs.declared.NotKept.{NotKept}
 
 -- ---- `keep_line`: each number exactly in its case
 
@@ -34,7 +35,7 @@ pub fed_length : (l : List ℕ) → length (fed l) ≡ length l + 1
 fed_length l = length-append l (line_feed ∷ [])
 
 module _ (most base : ℕ) (l out offsets : List ℕ) (p : Place) where
-  abbrev answer : Kept
+  abbrev answer : Result Place NotKept
   answer = kept_of most base l out offsets p
 
   -- the place after the line
@@ -89,16 +90,16 @@ module _ (most base : ℕ) (l out offsets : List ℕ) (p : Place) where
   place_not (inl h) = rw (lt-leb (p.at - base + length (fed l)) (length out) (omega (arith, fed_length l)))
   place_not (inr h) = rw (le-ltb p.count (length offsets) h) (and-false roomy)
 
-  pub long_is : 2048 < length l → answer ≡ kept.TooLong
+  pub long_is : 2048 < length l → answer ≡ Err TooLong
   unfolding kept_of
   long_is h = rw (lt-ltb longest_line (length l) h)
 
-  pub feed_is : length l ≤ 2048 → has 10 l ≡ true → answer ≡ kept.LineFeed
+  pub feed_is : length l ≤ 2048 → has 10 l ≡ true → answer ≡ Err LineFeed
   unfolding kept_of
   feed_is h e = rw (le-ltb longest_line (length l) h, e)
 
   module _ (k : IsKeepable most base l out offsets p) where
-    pub many_is : IsTooMany most base l out offsets p → answer ≡ kept.TooMany
+    pub many_is : IsTooMany most base l out offsets p → answer ≡ Err TooMany
     unfolding kept_of
     many_is m = rw (le-ltb longest_line (length l) k.0, k.1, full_is m)
 
@@ -106,11 +107,11 @@ module _ (most base : ℕ) (l out offsets : List ℕ) (p : Place) where
       not_full : is_full most p l ≡ false
       not_full = not_holds (is_full most p l) (λ q. few (is_full_lem q))
 
-      pub room_is : FitsNot → answer ≡ kept.NoRoom
+      pub room_is : FitsNot → answer ≡ Err NoRoom
       unfolding kept_of
       room_is n = rw (le-ltb longest_line (length l) k.0, k.1, not_full, place_not n)
 
-      pub taken_is : Fits → answer ≡ kept.Next next
+      pub taken_is : Fits → answer ≡ Ok next
       unfolding kept_of
       taken_is f = rw (le-ltb longest_line (length l) k.0, k.1, not_full, place_has f)
 
@@ -154,7 +155,7 @@ module _ (most base : ℕ) (l out offsets : List ℕ) (p : Place) where
     pub one : p.count < length offsets
     pub place : q ≡ next
 
-  pub is_taken_lem : (q : Place) → kept_of most base l out offsets p ≡ kept.Next q → IsTaken q
+  pub is_taken_lem : (q : Place) → kept_of most base l out offsets p ≡ Ok q → IsTaken q
   unfolding kept_number
   is_taken_lem q e = go keep_case (rw e)
     where
@@ -164,7 +165,7 @@ module _ (most base : ℕ) (l out offsets : List ℕ) (p : Place) where
       go (Many k m) z = absurd (omega arith)
       go (Room k few n) z = absurd (omega arith)
       go (Taken k few h g) z =
-          let d : kept.Next next ≡ kept.Next q = sym (taken_is k few (h, g)) ∙ e in
+          let d : Ok next ≡ Ok q = sym (taken_is k few (h, g)) ∙ e in
           record {
             line = line_kept l k.0 k.1;
             fewer = lt_of_not-le (λ m. few (inl m));
@@ -175,20 +176,20 @@ module _ (most base : ℕ) (l out offsets : List ℕ) (p : Place) where
           }
 
 -- A REFUSED CALL WRITES NOTHING, in the buffer and in the run
-pub refused_keeps : (r : Kept) (base : ℕ) (l out offsets : List ℕ) (p : Place) → (kept_number r ≡ 0 → ⊥) → (out_after r base l out p ≡ out) × (run_after r offsets p ≡ offsets)
+pub refused_keeps : (r : Result Place NotKept) (base : ℕ) (l out offsets : List ℕ) (p : Place) → (kept_number r ≡ 0 → ⊥) → (out_after r base l out p ≡ out) × (run_after r offsets p ≡ offsets)
 unfolding kept_number out_after run_after
-refused_keeps (kept.Next q) base l out offsets p n = absurd (n refl)
-refused_keeps kept.TooLong base l out offsets p n = (refl, refl)
-refused_keeps kept.LineFeed base l out offsets p n = (refl, refl)
-refused_keeps kept.TooMany base l out offsets p n = (refl, refl)
-refused_keeps kept.NoRoom base l out offsets p n = (refl, refl)
+refused_keeps (Ok q) base l out offsets p n = absurd (n refl)
+refused_keeps (Err TooLong) base l out offsets p n = (refl, refl)
+refused_keeps (Err LineFeed) base l out offsets p n = (refl, refl)
+refused_keeps (Err TooMany) base l out offsets p n = (refl, refl)
+refused_keeps (Err NoRoom) base l out offsets p n = (refl, refl)
 
-pub refused_ends : (r : Ended) (t : Trailer) (out offsets : List ℕ) (p : Place) → (ended_number r ≡ 0 → ⊥) → out_ended r t out offsets p ≡ out
+pub refused_ends : (r : Result ℕ NotEnded) (t : Trailer) (out offsets : List ℕ) (p : Place) → (ended_number r ≡ 0 → ⊥) → out_ended r t out offsets p ≡ out
 unfolding ended_number out_ended
-refused_ends (ended.Whole m) t out offsets p n = absurd (n refl)
-refused_ends ended.Disagree t out offsets p n = refl
-refused_ends ended.TooMany t out offsets p n = refl
-refused_ends ended.NoRoom t out offsets p n = refl
+refused_ends (Ok m) t out offsets p n = absurd (n refl)
+refused_ends (Err Disagree) t out offsets p n = refl
+refused_ends (Err TooMany) t out offsets p n = refl
+refused_ends (Err NoRoom) t out offsets p n = refl
 
 -- ---- `end_file`: each number exactly in its case
 
@@ -225,7 +226,7 @@ module _ (t : Trailer) (out offsets : List ℕ) (p : Place) where
   is_over_lem (inl h) = rw (lt-ltb t.most p.count h)
   is_over_lem (inr h) = rw (le-leb too_far p.at h) (or-true (ltb t.most p.count))
 
-  pub disagree_is : (Agrees t out offsets p → ⊥) → ended_of t out offsets p ≡ ended.Disagree
+  pub disagree_is : (Agrees t out offsets p → ⊥) → ended_of t out offsets p ≡ Err Disagree
   unfolding ended_of
   disagree_is n = rw (not_holds (is_agreed out offsets p) (λ q. n (agreed_is q)))
 
@@ -235,7 +236,7 @@ module _ (t : Trailer) (out offsets : List ℕ) (p : Place) where
     unfolding closing
     closing_length = simp (length-append, length_index, length_trailer) (omega (arith, length-take-le p.count offsets a.1))
 
-    pub over_answer : IsOverfull t out offsets p → ended_of t out offsets p ≡ ended.TooMany
+    pub over_answer : IsOverfull t out offsets p → ended_of t out offsets p ≡ Err TooMany
     unfolding ended_of
     over_answer o = rw (is_agreed_lem a, is_over_lem o)
 
@@ -243,11 +244,11 @@ module _ (t : Trailer) (out offsets : List ℕ) (p : Place) where
       not_over : is_over t p ≡ false
       not_over = not_holds (is_over t p) (λ q. few (over_is q))
 
-      pub short_answer : length out < p.at + 4 * p.count + trailer_size t → ended_of t out offsets p ≡ ended.NoRoom
+      pub short_answer : length out < p.at + 4 * p.count + trailer_size t → ended_of t out offsets p ≡ Err NoRoom
       unfolding ended_of has_room
       short_answer h = rw (is_agreed_lem a, not_over, lt-leb (p.at + length (closing t offsets p)) (length out) (omega (arith, closing_length)))
 
-      pub whole_answer : p.at + 4 * p.count + trailer_size t ≤ length out → ended_of t out offsets p ≡ ended.Whole (p.at + length (closing t offsets p))
+      pub whole_answer : p.at + 4 * p.count + trailer_size t ≤ length out → ended_of t out offsets p ≡ Ok (p.at + length (closing t offsets p))
       unfolding ended_of has_room
       whole_answer h = rw (is_agreed_lem a, not_over, le-leb (p.at + length (closing t offsets p)) (length out) (omega (arith, closing_length)))
 
@@ -283,7 +284,7 @@ module _ (t : Trailer) (out offsets : List ℕ) (p : Place) where
     pub fits : p.at + length (closing t offsets p) ≤ length out
     pub size : n ≡ p.at + length (closing t offsets p)
 
-  pub is_ended : (n : ℕ) → ended_of t out offsets p ≡ ended.Whole n → IsEnded n
+  pub is_ended : (n : ℕ) → ended_of t out offsets p ≡ Ok n → IsEnded n
   unfolding ended_number
   is_ended n e = go end_case (rw e)
     where
@@ -292,5 +293,5 @@ module _ (t : Trailer) (out offsets : List ℕ) (p : Place) where
       go (EndCase.Overfull a o) z = absurd (omega arith)
       go (EndCase.NoRoom a few h) z = absurd (omega arith)
       go (EndCase.Whole a few h) z =
-          let d : ended.Whole (p.at + length (closing t offsets p)) ≡ ended.Whole n = sym (whole_answer a few h) ∙ e in
+          let d : Ok (p.at + length (closing t offsets p)) ≡ Ok n = sym (whole_answer a few h) ∙ e in
           record { agrees = a; fits = omega (arith, closing_length a); size = (cc) }

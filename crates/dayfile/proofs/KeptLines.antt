@@ -1,5 +1,6 @@
 -- LINES KEPT ONE BY ONE: after any calls, taken or refused, the buffer and the run are the lines that were taken; ended, they are the file of these, which opens
 -- and gives these. Over any trailer. Assumes nothing.
+use Rattle.std.specs.Prelude.{Err, Ok, Result}
 use mathlib.Core.Path.{◌≡◌, refl, sym, ap, ◌∙◌}
 use mathlib.Core.Bool.{true}
 use mathlib.Core.List.{List, [], ◌∷◌, ◌++◌, append-nil}
@@ -19,14 +20,12 @@ use Rattle.dayfile.specs.Cases.{Agrees, IsOverfull, EndCase}
 use Rattle.dayfile.specs.Run.{Keeps, Ends, place_after, taken_by, Run, begun, called}
 use Rattle.dayfile.specs.declared.Trailer.{Trailer}
 use Rattle.dayfile.specs.declared.Place.{Place}
-use Rattle.dayfile.specs.declared.Kept.{Kept}
-use Rattle.dayfile.specs.declared.Kept.TheVariants as kept
-use Rattle.dayfile.specs.declared.Ended.{Ended}
-use Rattle.dayfile.specs.declared.Ended.TheVariants as ended
-use Rattle.dayfile.specs.declared.Opened.TheVariants.{Day}
 use Rattle.dayfile.proofs.Files.{lines_append, starts_append, each_append, run_parts, parts_run}
 use Rattle.dayfile.proofs.Opens.{opens_file, lines_file}
 use Rattle.dayfile.proofs.KeptCases.{IsTaken, is_taken_lem, end_case, is_ended}
+use Rattle.dayfile.specs.declared.NotKept.TheVariants.{LineFeed, NoRoom, TooLong, TooMany}
+use Rattle.dayfile.specs.declared.NotEnded.{NotEnded}
+use Rattle.dayfile.specs.declared.NotKept.{NotKept}
 
 -- what was written to the left stays there, and what was written follows it
 pub take-written : (l vs : List ℕ) (i n : ℕ) → n ≡ i + length vs → n ≤ length l → take n (spliced l i vs) ≡ take i l ++ vs
@@ -80,13 +79,13 @@ module _ (t : Trailer) where
           run = parts_run t ms (each_more ls l (run_parts t ls k.run).0 i.line) (omega (arith, i.fewer)) (omega (arith, i.near));
         }
 
-    called_on : {out' offsets' : List ℕ} (r : Kept) → Keeps t.most l out offsets p r out' offsets' → AreKept t out' offsets' (place_after r p) (ls ++ taken_by r l)
+    called_on : {out' offsets' : List ℕ} (r : Result Place NotKept) → Keeps t.most l out offsets p r out' offsets' → AreKept t out' offsets' (place_after r p) (ls ++ taken_by r l)
     unfolding out_after run_after place_after taken_by
-    called_on (kept.Next q) c = rw (c.1, c.2) (on q (is_taken_lem t.most 0 l out offsets p q (sym c.0)))
-    called_on kept.TooLong c = rw (c.1, c.2, append-nil ls) k
-    called_on kept.LineFeed c = rw (c.1, c.2, append-nil ls) k
-    called_on kept.TooMany c = rw (c.1, c.2, append-nil ls) k
-    called_on kept.NoRoom c = rw (c.1, c.2, append-nil ls) k
+    called_on (Ok q) c = rw (c.1, c.2) (on q (is_taken_lem t.most 0 l out offsets p q (sym c.0)))
+    called_on (Err TooLong) c = rw (c.1, c.2, append-nil ls) k
+    called_on (Err LineFeed) c = rw (c.1, c.2, append-nil ls) k
+    called_on (Err TooMany) c = rw (c.1, c.2, append-nil ls) k
+    called_on (Err NoRoom) c = rw (c.1, c.2, append-nil ls) k
 
   -- AFTER ANY CALLS, TAKEN OR REFUSED, THE LINES TAKEN STAND IN THE BUFFER, AND WHERE THEY BEGIN IN THE RUN
   pub are_kept : {out offsets : List ℕ} {p : Place} {ls : List (List ℕ)} → Run t.most out offsets p ls → AreKept t out offsets p ls
@@ -109,14 +108,14 @@ module _ (t : Trailer) where
     in_case (EndCase.NoRoom a few h) = omega arith
     in_case (EndCase.Whole a few h) = omega arith
 
-    pub never_13 : (r : Ended) (out' : List ℕ) → Ends t out offsets p r out' → ended_number r ≡ 13 → ⊥
+    pub never_13 : (r : Result ℕ NotEnded) (out' : List ℕ) → Ends t out offsets p r out' → ended_number r ≡ 13 → ⊥
     never_13 r out' e z = (in_case (end_case t out offsets p)).0 (rw (← e.0) z)
 
-    pub never_24 : (r : Ended) (out' : List ℕ) → Ends t out offsets p r out' → ended_number r ≡ 24 → ⊥
+    pub never_24 : (r : Result ℕ NotEnded) (out' : List ℕ) → Ends t out offsets p r out' → ended_number r ≡ 24 → ⊥
     never_24 r out' e z = (in_case (end_case t out offsets p)).1 (rw (← e.0) z)
 
     -- READING WHAT WAS WRITTEN GIVES THE LINES
-    module _ (sound : Sound t) (n : ℕ) (out' : List ℕ) (e : Ends t out offsets p (ended.Whole n) out') where
+    module _ (sound : Sound t) (n : ℕ) (out' : List ℕ) (e : Ends t out offsets p (Ok n) out') where
       pub kept_file : take n out' ≡ file_of t ls
       unfolding out_ended file_of closing
       kept_file =
@@ -131,7 +130,7 @@ module _ (t : Trailer) where
           let k = are_kept run in
           (is_ended t out offsets p n (sym e.0)).size ∙ rw (k.starts, k.far, k.many) (sym (length-append (lines_text ls) (index_of (starts_from 0 ls) ++ trailer_of t (length (lines_text ls)) (length ls))))
 
-      pub kept_opens : open_of t (take n out') ≡ Day (record { lines = length ls; start = length (lines_text ls) })
+      pub kept_opens : open_of t (take n out') ≡ Ok (record { lines = length ls; start = length (lines_text ls) })
       kept_opens = rw kept_file (opens_file t sound ls (are_kept run).run)
 
       pub kept_lines : lines_in t (take n out') ≡ ls

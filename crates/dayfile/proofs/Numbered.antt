@@ -1,4 +1,5 @@
 -- The line with a number: found by its offset in the index of a file that opened, or none, an empty part at the start. Assumes nothing.
+use Rattle.std.specs.Prelude.{Err, Ok, Result}
 use mathlib.Core.Path.{◌≡◌, refl, sym, ap, ◌∙◌}
 use mathlib.Core.Bool.{true}
 use mathlib.Core.List.{List, [], ◌∷◌, ◌++◌, append_assoc}
@@ -20,14 +21,14 @@ use Rattle.dayfile.specs.Walk.{line_size}
 use Rattle.dayfile.specs.Cases.{AreLines}
 use Rattle.dayfile.specs.declared.Trailer.{Trailer}
 use Rattle.dayfile.specs.declared.Contents.{Contents}
-use Rattle.dayfile.specs.declared.Opened.{Opened}
-use Rattle.dayfile.specs.declared.Opened.TheVariants.{Day, TooShort, UnknownVersion, WrongLength, WrongLines}
 use Rattle.dayfile.proofs.Bytes.{value_take, length-offsets}
 use Rattle.dayfile.proofs.Files.{length-starts, start_at, lines_at, from_line, lines_run}
 use Rattle.dayfile.proofs.Opens.{is_day, is_told}
 use Rattle.dayfile.specs.contracts.Opened.{the_type}
 use Rattle.dayfile.proofs.Walks.{number_at, size_of}
 use Rattle.dayfile.proofs.Opening.{front_long, front_number}
+use Rattle.dayfile.specs.declared.NotOpened.TheVariants.{TooShort, UnknownVersion, WrongLength, WrongLines}
+use Rattle.dayfile.specs.declared.NotOpened.{NotOpened}
 
 -- each of lines that may be kept
 each_at : (ls : List (List ℕ)) (k : ℕ) → k < length ls → each_may_keep ls ≡ true → may_keep (get_or ls k []) ≡ true
@@ -39,7 +40,7 @@ each_at (l ∷ ls) (suc k) h e = each_at ls k (omega arith) (and_right (may_keep
 -- ---- a file that opened
 
 pub record IsOpen (t : Trailer) (file : List ℕ) (day : Contents) : Type 0 where
-  pub told : open_of t file ≡ Day day
+  pub told : open_of t file ≡ Ok day
 
 module _ {t : Trailer} {file : List ℕ} {day : Contents} (o : IsOpen t file day) where
   abbrev index : List ℕ
@@ -93,15 +94,15 @@ no_lines : (p : ℕ × ℕ) (n : ℕ) → AtFront p [] n
 no_lines p zero = number_0 [] 0 refl
 no_lines p (suc n) = past p [] (suc n) (omega arith)
 
-none_of : (o : Opened) (file : List ℕ) → OneOf (1 ∷ 2 ∷ 3 ∷ 4 ∷ []) (tag_of the_type o) → lines_by o file ≡ []
+none_of : (o : Result Contents NotOpened) (file : List ℕ) → OneOf (1 ∷ 2 ∷ 3 ∷ 4 ∷ []) (tag_of the_type o) → lines_by o file ≡ []
 unfolding lines_by
-none_of (Day c) file h = absurd (miss (1 ∷ 2 ∷ 3 ∷ 4 ∷ []) 0 tt h)
-none_of TooShort file h = refl
-none_of UnknownVersion file h = refl
-none_of WrongLength file h = refl
-none_of WrongLines file h = refl
+none_of (Ok c) file h = absurd (miss (1 ∷ 2 ∷ 3 ∷ 4 ∷ []) 0 tt h)
+none_of (Err TooShort) file h = refl
+none_of (Err UnknownVersion) file h = refl
+none_of (Err WrongLength) file h = refl
+none_of (Err WrongLines) file h = refl
 
-pub not_opened : {p : ℕ × ℕ} (t : Trailer) (file : List ℕ) (told : Opened) (n : ℕ) → told ≡ open_of t file → OneOf (1 ∷ 2 ∷ 3 ∷ 4 ∷ []) (tag_of the_type told)
+pub not_opened : {p : ℕ × ℕ} (t : Trailer) (file : List ℕ) (told : Result Contents NotOpened) (n : ℕ) → told ≡ open_of t file → OneOf (1 ∷ 2 ∷ 3 ∷ 4 ∷ []) (tag_of the_type told)
     → AtFront p (lines_in t file) n
 not_opened {p = p} t file told n e h = rw (← e, none_of told file h) (no_lines p n)
 

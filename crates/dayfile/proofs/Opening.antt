@@ -1,4 +1,5 @@
 -- The laws of opening a file: the numbers in its last bytes, 20 to 22 by them, and 23 by what a walk over its lines tells. Assumes nothing.
+use Rattle.std.specs.Prelude.{Err, Ok, Result}
 use mathlib.Core.Path.{◌≡◌, refl, sym, ap, ◌∙◌}
 use mathlib.Core.Bool.{Bool, true, false, cond}
 use mathlib.Core.List.{List, [], ◌∷◌}
@@ -17,12 +18,12 @@ use Rattle.dayfile.specs.Opening.{start_by, count_by, version_by, offsets_in, op
 use Rattle.dayfile.specs.Walk.{Walks}
 use Rattle.dayfile.specs.declared.Trailer.{Trailer}
 use Rattle.dayfile.specs.declared.Contents.{Contents}
-use Rattle.dayfile.specs.declared.Opened.{Opened}
-use Rattle.dayfile.specs.declared.Opened.TheVariants.{Day, TooShort, UnknownVersion, WrongLength, WrongLines}
 use Rattle.dayfile.specs.declared.walking.Walked.{Walked}
 use Rattle.dayfile.proofs.Bytes.{value_take, length-offsets}
 use Rattle.dayfile.specs.contracts.Opened.{the_type}
 use Rattle.dayfile.proofs.Walks.{walked_agree, fewer_lines, fewer_bytes}
+use Rattle.dayfile.specs.declared.NotOpened.TheVariants.{TooShort, UnknownVersion, WrongLength, WrongLines}
+use Rattle.dayfile.specs.declared.NotOpened.{NotOpened}
 
 -- ---- numbers in a part
 
@@ -44,7 +45,7 @@ below_four w n h b = let p : 256 ^ w ≤ 256 ^ 4 = pow-le-pow_right (omega arith
 
 -- ---- 20 to 22
 
-pub too_short : (t : Trailer) (size : ℕ) (tail : List ℕ) (width : ℕ) → width ≡ trailer_size t → size < width → TooShort ≡ open_by t size tail
+pub too_short : (t : Trailer) (size : ℕ) (tail : List ℕ) (width : ℕ) → width ≡ trailer_size t → size < width → Err TooShort ≡ open_by t size tail
 unfolding open_by
 too_short t size tail width e h = rw (lt-ltb size (trailer_size t) (omega arith))
 
@@ -99,7 +100,7 @@ module _ {t : Trailer} {size : ℕ} {tail : List ℕ} (v : LongEnough t size tai
   count_read n e = e ∙ front_number _ t.wide (drop 4 tail) count_at.0 count_at.1
 
   module _ (n : ℕ) (read : n ≡ value 256 (length version_part) version_part) where
-    pub unknown_version : (n ≡ t.version → ⊥) → UnknownVersion ≡ open_by t size tail
+    pub unknown_version : (n ≡ t.version → ⊥) → Err UnknownVersion ≡ open_by t size tail
     unfolding open_by
     unknown_version h = rw (le-ltb size (trailer_size t) v.least, ne_eqb (version_by t tail) t.version (λ e. h (version_read n read ∙ e)))
 
@@ -111,7 +112,7 @@ module _ {t : Trailer} {size : ℕ} {tail : List ℕ} (v : LongEnough t size tai
       is_known : version_by t tail ≡ t.version
       is_known = sym (version_read n read) ∙ known
 
-      pub wrong_length : (start + 4 * count + width ≡ size → ⊥) → WrongLength ≡ open_by t size tail
+      pub wrong_length : (start + 4 * count + width ≡ size → ⊥) → Err WrongLength ≡ open_by t size tail
       unfolding open_by
       wrong_length h =
           rw (
@@ -120,7 +121,7 @@ module _ {t : Trailer} {size : ℕ} {tail : List ℕ} (v : LongEnough t size tai
             ne_eqb (start_by tail + 4 * count_by t tail + trailer_size t) size (λ e. h (sum ∙ e)),
           )
 
-      pub day_told : start + 4 * count + width ≡ size → Day (record { lines = count; start = start }) ≡ open_by t size tail
+      pub day_told : start + 4 * count + width ≡ size → Ok (record { lines = count; start = start }) ≡ open_by t size tail
       unfolding open_by
       day_told h =
           rw (
@@ -133,35 +134,35 @@ module _ {t : Trailer} {size : ℕ} {tail : List ℕ} (v : LongEnough t size tai
 
 -- ---- what a day says of the size: "start plus index plus trailer" is the file's length
 
-pub day_size : (t : Trailer) (size : ℕ) (tail : List ℕ) (c : Contents) → Day c ≡ open_by t size tail → c.start + 4 * c.lines + trailer_size t ≡ size
+pub day_size : (t : Trailer) (size : ℕ) (tail : List ℕ) (c : Contents) → Ok c ≡ open_by t size tail → c.start + 4 * c.lines + trailer_size t ≡ size
 unfolding open_by
 day_size t size tail c =
     go (ltb size (trailer_size t)) refl (eqb (version_by t tail) t.version) refl (eqb (start_by tail + 4 * count_by t tail + trailer_size t) size) refl
   where
     go : (a : Bool) → ltb size (trailer_size t) ≡ a → (b : Bool) → eqb (version_by t tail) t.version ≡ b
-        → (d : Bool) → eqb (start_by tail + 4 * count_by t tail + trailer_size t) size ≡ d → Day c ≡ open_by t size tail → c.start + 4 * c.lines + trailer_size t ≡ size
-    go true p b q d r e = let z : Day c ≡ TooShort = rw p at e in cc
-    go false p false q d r e = let z : Day c ≡ UnknownVersion = rw (p, q) at e in cc
-    go false p true q false r e = let z : Day c ≡ WrongLength = rw (p, q, r) at e in cc
+        → (d : Bool) → eqb (start_by tail + 4 * count_by t tail + trailer_size t) size ≡ d → Ok c ≡ open_by t size tail → c.start + 4 * c.lines + trailer_size t ≡ size
+    go true p b q d r e = let z : Ok c ≡ Err TooShort = rw p at e in cc
+    go false p false q d r e = let z : Ok c ≡ Err UnknownVersion = rw (p, q) at e in cc
+    go false p true q false r e = let z : Ok c ≡ Err WrongLength = rw (p, q, r) at e in cc
     go false p true q true r e =
-        let z : Day c ≡ Day (record { lines = count_by t tail; start = start_by tail }) = rw (p, q, r) at e in
+        let z : Ok c ≡ Ok (record { lines = count_by t tail; start = start_by tail }) = rw (p, q, r) at e in
         let k : c ≡ record { lines = count_by t tail; start = start_by tail } = cc in
         rw k (eqb-true (start_by tail + 4 * count_by t tail + trailer_size t) size r)
 
 -- ---- a whole file
 
 -- what 20 to 22 tell of it
-pub record Told (t : Trailer) (file : List ℕ) (told : Opened) : Type 0 where
+pub record Told (t : Trailer) (file : List ℕ) (told : Result Contents NotOpened) : Type 0 where
   pub by : told ≡ open_by t (length file) (tail_of t file)
 
 module _ (t : Trailer) (file tail : List ℕ) (width : ℕ) (w : width ≡ trailer_size t) (at : tail ≡ drop (length file - width) file) where
   pub tail_long : trailer_size t ≤ length file → length tail ≡ trailer_size t
   tail_long h = omega (arith, ap length at, length-drop (length file - width) file)
 
-  pub by_tail : {told : Opened} → told ≡ open_by t (length file) tail → Told t file told
+  pub by_tail : {told : (Result Contents NotOpened)} → told ≡ open_by t (length file) tail → Told t file told
   by_tail e = record { by = rw (at, w) at e }
 
-module _ {t : Trailer} {file : List ℕ} {told : Opened} (v : Told t file told) where
+module _ {t : Trailer} {file : List ℕ} {told : (Result Contents NotOpened)} (v : Told t file told) where
   whole : open_of t file ≡ or_wrong_lines told file
   unfolding open_of
   whole = rw (← v.by)
@@ -169,14 +170,14 @@ module _ {t : Trailer} {file : List ℕ} {told : Opened} (v : Told t file told) 
   pub no_day : OneOf (1 ∷ 2 ∷ 3 ∷ 4 ∷ []) (tag_of the_type told) → told ≡ open_of t file
   no_day h = go told h ∙ sym whole
     where
-      go : (o : Opened) → OneOf (1 ∷ 2 ∷ 3 ∷ 4 ∷ []) (tag_of the_type o) → o ≡ or_wrong_lines o file
-      go (Day c) h = absurd (miss (1 ∷ 2 ∷ 3 ∷ 4 ∷ []) 0 tt h)
-      go TooShort h = refl
-      go UnknownVersion h = refl
-      go WrongLength h = refl
-      go WrongLines h = refl
+      go : (o : Result Contents NotOpened) → OneOf (1 ∷ 2 ∷ 3 ∷ 4 ∷ []) (tag_of the_type o) → o ≡ or_wrong_lines o file
+      go (Ok c) h = absurd (miss (1 ∷ 2 ∷ 3 ∷ 4 ∷ []) 0 tt h)
+      go (Err TooShort) h = refl
+      go (Err UnknownVersion) h = refl
+      go (Err WrongLength) h = refl
+      go (Err WrongLines) h = refl
 
-  module _ (c : Contents) (day : told ≡ Day c) where
+  module _ (c : Contents) (day : told ≡ Ok c) where
     abbrev index : List ℕ
     index = take (c.start + 4 * c.lines - c.start) (drop c.start file)
 
@@ -192,15 +193,15 @@ module _ {t : Trailer} {file : List ℕ} {told : Opened} (v : Told t file told) 
     start_long : length (take c.start file) ≡ c.start
     start_long = length-take-le c.start file (omega (arith, day_inside))
 
-    by_lines : open_of t file ≡ cond (agree (take c.start file) (offsets_in index)) (Day c) WrongLines
+    by_lines : open_of t file ≡ cond (agree (take c.start file) (offsets_in index)) (Ok c) (Err WrongLines)
     by_lines = rw measured (whole ∙ rw day)
 
     module _ {r : Walked} (k : Walks 0 (take c.start file) (offsets_in index) r) where
-      pub other_lines : (r.lines ≡ c.lines → ⊥) → WrongLines ≡ open_of t file
+      pub other_lines : (r.lines ≡ c.lines → ⊥) → Err WrongLines ≡ open_of t file
       other_lines n = sym (by_lines ∙ rw (fewer_lines k (λ q. n (q ∙ lines_long))))
 
-      pub other_used : (r.used ≡ c.start → ⊥) → WrongLines ≡ open_of t file
+      pub other_used : (r.used ≡ c.start → ⊥) → Err WrongLines ≡ open_of t file
       other_used n = sym (by_lines ∙ rw (fewer_bytes k (λ q. n (q ∙ start_long))))
 
-      pub same_lines : r.lines ≡ c.lines → r.used ≡ c.start → Day c ≡ open_of t file
+      pub same_lines : r.lines ≡ c.lines → r.used ≡ c.start → Ok c ≡ open_of t file
       same_lines p q = sym (by_lines ∙ rw (walked_agree k (p ∙ sym lines_long) (q ∙ sym start_long)))

@@ -1,4 +1,5 @@
 -- WHAT OPENS: a file opens exactly if it is the file of a run of lines that may be kept, and its lines are these. Over any trailer. Assumes nothing.
+use Rattle.std.specs.Prelude.{Err, Ok, Result}
 use mathlib.Core.Path.{◌≡◌, refl, sym, ap, ◌∙◌}
 use mathlib.Core.Bool.{Bool, true, false}
 use mathlib.Core.List.{List, [], ◌∷◌, ◌++◌, append_assoc}
@@ -16,10 +17,10 @@ use Rattle.dayfile.specs.Opening.{start_by, count_by, version_by, offsets_in, op
 use Rattle.dayfile.specs.Cases.{IsVersioned, IsMeasured, IsLined, OpenCase, Short, Version, Length, Lines}
 use Rattle.dayfile.specs.declared.Trailer.{Trailer}
 use Rattle.dayfile.specs.declared.Contents.{Contents}
-use Rattle.dayfile.specs.declared.Opened.{Opened}
-use Rattle.dayfile.specs.declared.Opened.TheVariants.{Day, TooShort, UnknownVersion, WrongLength, WrongLines}
 use Rattle.dayfile.proofs.Bytes.{value_front, bytes_take, bytes_drop, number_of, number_below, length_index, offsets_index, index_offsets, length-offsets, index_at}
 use Rattle.dayfile.proofs.Files.{length-starts, starts_in, lines_at, start_at, from_line, length-file, texts_lines, run_parts, parts_run, agree_lines, lines_agree, lines_run, start_trailer, count_trailer, version_trailer, trailer_tail}
+use Rattle.dayfile.specs.declared.NotOpened.TheVariants.{TooShort, UnknownVersion, WrongLength, WrongLines}
+use Rattle.dayfile.specs.declared.NotOpened.{NotOpened}
 
 -- ---- each number exactly in its case
 
@@ -41,28 +42,28 @@ module _ (t : Trailer) (file : List ℕ) where
   abbrev pub contents : Contents
   contents = record { lines = count_by t tail; start = start_by tail }
 
-  short_is : length file < trailer_size t → open_of t file ≡ TooShort
+  short_is : length file < trailer_size t → open_of t file ≡ Err TooShort
   unfolding open_of open_by
   short_is h = rw (lt-ltb (length file) (trailer_size t) h)
 
-  version_is : trailer_size t ≤ length file → (version_by t tail ≡ t.version → ⊥) → open_of t file ≡ UnknownVersion
+  version_is : trailer_size t ≤ length file → (version_by t tail ≡ t.version → ⊥) → open_of t file ≡ Err UnknownVersion
   unfolding open_of open_by
   version_is h n = rw (le-ltb (length file) (trailer_size t) h, ne_eqb (version_by t tail) t.version n)
 
-  length_is : IsVersioned t file → (IsMeasured t file → ⊥) → open_of t file ≡ WrongLength
+  length_is : IsVersioned t file → (IsMeasured t file → ⊥) → open_of t file ≡ Err WrongLength
   unfolding open_of open_by
   length_is v n =
       rw (le-ltb (length file) (trailer_size t) v.0, eq-eqb (version_by t tail) t.version v.1, ne_eqb sum (length file) n)
 
   -- past 22, it is 23 that decides
   module _ (v : IsVersioned t file) (m : IsMeasured t file) where
-    pub lines_is : (IsLined t file → ⊥) → open_of t file ≡ WrongLines
+    pub lines_is : (IsLined t file → ⊥) → open_of t file ≡ Err WrongLines
     unfolding open_of open_by
     lines_is n =
         rw (le-ltb (length file) (trailer_size t) v.0, eq-eqb (version_by t tail) t.version v.1, eq-eqb sum (length file) m)
         (rw (not_holds (agree front offsets) (λ q. n (agree_lines front offsets q))))
 
-    pub day_is : IsLined t file → open_of t file ≡ Day contents
+    pub day_is : IsLined t file → open_of t file ≡ Ok contents
     unfolding open_of open_by
     day_is l =
         rw (le-ltb (length file) (trailer_size t) v.0, eq-eqb (version_by t tail) t.version v.1, eq-eqb sum (length file) m)
@@ -108,7 +109,7 @@ module _ (t : Trailer) (file : List ℕ) where
     pub measured : IsMeasured t file
     pub lined : IsLined t file
 
-  pub is_day : (c : Contents) → open_of t file ≡ Day c → IsDay
+  pub is_day : (c : Contents) → open_of t file ≡ Ok c → IsDay
   unfolding open_number
   is_day c e = go open_case (rw e)
     where
@@ -119,10 +120,10 @@ module _ (t : Trailer) (file : List ℕ) where
       go (Lines v m n) z = absurd (omega arith)
       go (OpenCase.Day v m l) z = record { versioned = v; measured = m; lined = l }
 
-  pub is_told : (c : Contents) → open_of t file ≡ Day c → c ≡ contents
+  pub is_told : (c : Contents) → open_of t file ≡ Ok c → c ≡ contents
   is_told c e =
       let d = is_day c e in
-      let z : Day contents ≡ Day c = sym (day_is d.versioned d.measured d.lined) ∙ e in
+      let z : Ok contents ≡ Ok c = sym (day_is d.versioned d.measured d.lined) ∙ e in
       cc
 
 -- ---- THE FILE OF A RUN OPENS, and its lines are these
@@ -171,7 +172,7 @@ module _ (t : Trailer) (sound : Sound t) (ls : List (List ℕ)) (run : is_run t 
       rw (start_is, count_is, file_text, file_index)
       record { run = ls; text = refl; each = (run_parts t ls run).0; starts = offsets_index (starts_from 0 ls) (starts_in 0 4294967295 ls (omega (arith, (run_parts t ls run).2))) }
 
-  pub opens_file : open_of t file ≡ Day (record { lines = length ls; start = length text })
+  pub opens_file : open_of t file ≡ Ok (record { lines = length ls; start = length text })
   opens_file =
       let v : IsVersioned t file = (omega (arith, length-file t ls), rw file_tail (version_trailer t sound (length text) (length ls))) in
       let m : IsMeasured t file = rw (start_is, count_is) (sym (length-file t ls)) in
@@ -240,19 +241,19 @@ pub record IsFile (t : Trailer) (file : List ℕ) (c : Contents) : Type 0 where
   pub start : c.start ≡ length (lines_text (lines_in t file))
 
 module _ (t : Trailer) (sound : Sound t) where
-  pub opened_file : (file : List ℕ) → is_bytes file ≡ true → (c : Contents) → open_of t file ≡ Day c → IsFile t file c
+  pub opened_file : (file : List ℕ) → is_bytes file ≡ true → (c : Contents) → open_of t file ≡ Ok c → IsFile t file c
   opened_file file b c e =
       let d = is_day t file c e in
       let ls = lines_in t file in
       let l : ls ≡ d.lined.run = day_lines t sound file b d in
       let run : is_run t ls ≡ true = rw l (day_run t sound file b d) in
       let whole : file ≡ file_of t ls = day_file t sound file b d ∙ ap (file_of t) (sym l) in
-      let o : Day c ≡ Day (record { lines = length ls; start = length (lines_text ls) }) = sym e ∙ ap (open_of t) whole ∙ opens_file t sound ls run in
+      let o : Ok c ≡ Ok (record { lines = length ls; start = length (lines_text ls) }) = sym e ∙ ap (open_of t) whole ∙ opens_file t sound ls run in
       let z : c ≡ record { lines = length ls; start = length (lines_text ls) } = cc in
       record { run = run; whole = whole; lines = ap (λ (x : Contents). x.lines) z; start = ap (λ (x : Contents). x.start) z }
 
   -- TWO DIFFERENT FILES NEVER GIVE THE SAME LINES
-  pub same_file : (file other : List ℕ) → is_bytes file ≡ true → is_bytes other ≡ true → (c d : Contents) → open_of t file ≡ Day c → open_of t other ≡ Day d
+  pub same_file : (file other : List ℕ) → is_bytes file ≡ true → is_bytes other ≡ true → (c d : Contents) → open_of t file ≡ Ok c → open_of t other ≡ Ok d
       → lines_in t file ≡ lines_in t other → file ≡ other
   same_file file other b b' c d e e' same = (opened_file file b c e).whole ∙ ap (file_of t) same ∙ sym (opened_file other b' d e').whole
 
@@ -261,13 +262,13 @@ module _ (t : Trailer) (sound : Sound t) where
   one_run ls ms r r' same = sym (lines_file t sound ls r) ∙ ap (lines_in t) same ∙ lines_file t sound ms r'
 
 -- what does not open has no lines
-pub no_lines : (o : Opened) (file : List ℕ) → (open_number o ≡ 0 → ⊥) → lines_by o file ≡ []
+pub no_lines : (o : Result Contents NotOpened) (file : List ℕ) → (open_number o ≡ 0 → ⊥) → lines_by o file ≡ []
 unfolding open_number lines_by
-no_lines (Day c) file n = absurd (n refl)
-no_lines TooShort file n = refl
-no_lines UnknownVersion file n = refl
-no_lines WrongLength file n = refl
-no_lines WrongLines file n = refl
+no_lines (Ok c) file n = absurd (n refl)
+no_lines (Err TooShort) file n = refl
+no_lines (Err UnknownVersion) file n = refl
+no_lines (Err WrongLength) file n = refl
+no_lines (Err WrongLines) file n = refl
 
 -- ---- at its offset a line stands, and its offset stands in the index
 

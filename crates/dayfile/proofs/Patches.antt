@@ -1,4 +1,5 @@
 -- Bytes put in the place of others, and a file in which windows were put: it is swept as far, and shows them. So some file shows any windows. Assumes nothing.
+use Rattle.std.specs.Prelude.{Ok}
 use mathlib.Core.Path.{◌≡◌, sym, ap, ◌∙◌}
 use mathlib.Core.List.{List, ◌++◌, append_assoc}
 use Prim.Native.Nat.{ℕ, ◌+◌, ◌*◌, ◌-◌, ◌≤◌}
@@ -14,7 +15,6 @@ use Rattle.dayfile.specs.Opening.{offsets_in, open_by, index_part, tail_of}
 use Rattle.dayfile.specs.Windows.{Swept, Shows}
 use Rattle.dayfile.specs.declared.Trailer.{Trailer}
 use Rattle.dayfile.specs.declared.Contents.{Contents}
-use Rattle.dayfile.specs.declared.Opened.TheVariants.{Day}
 use Rattle.dayfile.specs.declared.walking.Sweep.{Sweep}
 use Rattle.dayfile.proofs.Windows.{file_size, first_offsets}
 
@@ -81,7 +81,7 @@ module _ {t : Trailer} {file : List ℕ} {c : Contents} {w : Sweep} (v : Swept t
   same_after : (j : ℕ) → c.start + 4 * c.lines ≤ j → drop j patched ≡ drop j file
   same_after j h = part_after halfway index place then_fits j (omega arith) ∙ part_after file s w.at first_fits j (omega arith)
 
-  same_told : open_by t (length patched) (tail_of t patched) ≡ Day c
+  same_told : open_by t (length patched) (tail_of t patched) ≡ Ok c
   same_told = rw (patched_size, same_after (length file - trailer_size t) (omega (arith, sum))) v.told
 
   same_text : take w.at patched ≡ take w.at file

@@ -1,5 +1,6 @@
 -- THE THEOREMS OF THE DAY FILE, about the promises (`Post`) of `open`, `line`, `keep_line` and `end_file` as they stand in the source. The numbers in the
 -- statements are document 02's. Assumes nothing.
+use Rattle.std.specs.Prelude.{Ok}
 use mathlib.Core.Path.{◌≡◌, refl, sym, ap, ◌∙◌}
 use mathlib.Core.Bool.{true, false}
 use mathlib.Core.List.{List, [], ◌∷◌, ◌++◌}
@@ -17,8 +18,6 @@ use Rattle.dayfile.specs.Cases.{OpenCase, KeepCase, EndCase}
 use Rattle.dayfile.specs.Run.{Keeps, Ends, Run}
 use Rattle.dayfile.specs.declared.Contents.{Contents}
 use Rattle.dayfile.specs.declared.Place.{Place}
-use Rattle.dayfile.specs.declared.Opened.TheVariants.{Day}
-use Rattle.dayfile.specs.declared.Ended.TheVariants.{Whole}
 use Rattle.dayfile.proofs.«open».Reads as opening
 use Rattle.dayfile.proofs.line.Reads as line
 use Rattle.dayfile.proofs.keep_line.Reads as keep-line
@@ -49,14 +48,14 @@ which_runs ls = (
 
 -- ---- A FILE OPENS EXACTLY IF IT IS THE FILE OF A RUN OF LINES THAT MAY BE KEPT
 
-pub opens_only_files : (κs : _) (a : _) (r : _) (s : _) → opening.Post κs a r s → is_bytes a.0.now ≡ true → (c : Contents) → r ≡ Day c
+pub opens_only_files : (κs : _) (a : _) (r : _) (s : _) → opening.Post κs a r s → is_bytes a.0.now ≡ true → (c : Contents) → r ≡ Ok c
     → (ls : List (List ℕ)) × (is_run version1 ls ≡ true) × (a.0.now ≡ file_of version1 ls) × (c.lines ≡ length ls) × (c.start ≡ length (lines_text ls))
 opens_only_files κs a r s p b c e =
     let f = opened_file version1 sound_1 a.0.now b c (sym p ∙ e) in
     (lines_in version1 a.0.now, f.run, f.whole, f.lines, f.start)
 
 pub opens_each_file : (κs : _) (a : _) (r : _) (s : _) → opening.Post κs a r s → (ls : List (List ℕ)) → is_run version1 ls ≡ true → a.0.now ≡ file_of version1 ls
-    → r ≡ Day (record { lines = length ls; start = length (lines_text ls) })
+    → r ≡ Ok (record { lines = length ls; start = length (lines_text ls) })
 opens_each_file κs a r s p ls run e = p ∙ rw e (opens_file version1 sound_1 ls run)
 
 -- ---- AND THEN THE LINES HANDED BACK, ONE BY ONE, ARE THESE: the line with the number k + 1 is the k-th, and lies in the file after those before it
@@ -91,8 +90,8 @@ hands_nothing_of_no_file κs a r s p n κs' b q u w e =
 -- ---- TWO DIFFERENT FILES NEVER GIVE THE SAME LINES, AND TWO RUNS OF LINES NEVER HAVE THE SAME FILE
 
 -- two files that open, with as many lines, of which `line` hands back the same for every number
-pub two_files : (κs : _) (a : _) (r : _) (s : _) → opening.Post κs a r s → is_bytes a.0.now ≡ true → (c : Contents) → r ≡ Day c
-    → (κs' : _) (b : _) (r' : _) (s' : _) → opening.Post κs' b r' s' → is_bytes b.0.now ≡ true → (d : Contents) → r' ≡ Day d
+pub two_files : (κs : _) (a : _) (r : _) (s : _) → opening.Post κs a r s → is_bytes a.0.now ≡ true → (c : Contents) → r ≡ Ok c
+    → (κs' : _) (b : _) (r' : _) (s' : _) → opening.Post κs' b r' s' → is_bytes b.0.now ≡ true → (d : Contents) → r' ≡ Ok d
     → c.lines ≡ d.lines → ((n : ℕ) → 0 < n → n ≤ c.lines → numbered (lines_in version1 a.0.now) n ≡ numbered (lines_in version1 b.0.now) n)
     → a.0.now ≡ b.0.now
 two_files κs a r s p x c e κs' b r' s' q y d e' many each =
@@ -119,15 +118,15 @@ module _ {out offsets : List ℕ} {p : Place} {ls : List (List ℕ)} (run : Run 
       (never_13 version1 run r s.0.now e, never_24 version1 run r s.0.now e)
 
   -- and where it is taken, the bytes it tells of are the file of the lines that were taken
-  module _ (κs : _) (a : _) (r : _) (s : _) (w : end-file.Post κs a r s) (x : a.0.now ≡ out) (y : a.1.0.now ≡ offsets) (z : a.1.1.0 ≡ p) (n : ℕ) (e : r ≡ Whole n) where
-    ends : Ends version1 out offsets p (Whole n) s.0.now
+  module _ (κs : _) (a : _) (r : _) (s : _) (w : end-file.Post κs a r s) (x : a.0.now ≡ out) (y : a.1.0.now ≡ offsets) (z : a.1.1.0 ≡ p) (n : ℕ) (e : r ≡ Ok n) where
+    ends : Ends version1 out offsets p (Ok n) s.0.now
     ends = rw (← x, ← y, ← z, ← e) w
 
     pub writes_the_file : (take n s.0.now ≡ file_of version1 ls) × (n ≡ length (file_of version1 ls)) × (is_run version1 ls ≡ true)
     writes_the_file = (kept_file version1 run sound_1 n s.0.now ends, kept_size version1 run sound_1 n s.0.now ends, (are_kept version1 run).run)
 
     pub opens_again : (κs' : _) (b : _) (q : _) (u : _) → opening.Post κs' b q u → b.0.now ≡ take n s.0.now
-        → q ≡ Day (record { lines = length ls; start = length (lines_text ls) })
+        → q ≡ Ok (record { lines = length ls; start = length (lines_text ls) })
     opens_again κs' b q u o t = opens_each_file κs' b q u o ls writes_the_file.2 (t ∙ writes_the_file.0)
 
     pub reads_again : (κs' : _) (b : _) (q : _) (u : _) → line.Post κs' b q u → b.0.now ≡ take n s.0.now → (k : ℕ) → k < length ls → b.1.0 ≡ k + 1
@@ -160,7 +159,7 @@ end_by_case κs a r s p n c = case_end version1 a.0.now a.1.0.now a.1.1.0 c ∙ 
 
 -- ---- IN BYTES: "start of index (4), number of lines (2), version 1 (2), all high byte first", and "four-byte offsets of the lines' first bytes"
 
-pub opened_in_bytes : (κs : _) (a : _) (r : _) (s : _) → opening.Post κs a r s → (c : Contents) → r ≡ Day c
+pub opened_in_bytes : (κs : _) (a : _) (r : _) (s : _) → opening.Post κs a r s → (c : Contents) → r ≡ Ok c
     → (8 ≤ length a.0.now) × (two_at a.0.now (length a.0.now - 2) ≡ 1) × (c.start ≡ four_at a.0.now (length a.0.now - 8))
     × (c.lines ≡ two_at a.0.now (length a.0.now - 4)) × (c.start + 4 * c.lines + 8 ≡ length a.0.now)
 unfolding trailer_size
@@ -179,7 +178,7 @@ pub file_in_bytes : (ls : List (List ℕ)) → is_run version1 ls ≡ true → (
 unfolding trailer_size file_of
 file_in_bytes ls run file e =
     let c : Contents = record { lines = length ls; start = length (lines_text ls) } in
-    let o : open_of version1 file ≡ Day c = rw e (opens_file version1 sound_1 ls run) in
+    let o : open_of version1 file ≡ Ok c = rw e (opens_file version1 sound_1 ls run) in
     let d = is_day version1 file c o in
     let told : c ≡ contents version1 file = is_told version1 file c o in
     let size : length file ≡ length (lines_text ls) + 4 * length ls + 8 = rw e (length-file version1 ls) in

@@ -1,4 +1,5 @@
 -- A file judged by windows: what the next windows say of any file that shows them, and where a sweep begins and ends. Assumes nothing.
+use Rattle.std.specs.Prelude.{Err, Ok}
 use mathlib.Core.Path.{◌≡◌, refl, sym, ap, ◌∙◌}
 use mathlib.Core.Bool.{Bool, true, false, cond}
 use mathlib.Core.List.{List, [], ◌∷◌, ◌++◌}
@@ -19,13 +20,13 @@ use Rattle.dayfile.specs.Walk.{line_size, Stops, Walks}
 use Rattle.dayfile.specs.Windows.{Swept, Shows, Wide, Sweeps}
 use Rattle.dayfile.specs.declared.Trailer.{Trailer}
 use Rattle.dayfile.specs.declared.Contents.{Contents}
-use Rattle.dayfile.specs.declared.Opened.TheVariants.{Day, WrongLines}
 use Rattle.dayfile.specs.declared.walking.Walked.{Walked}
 use Rattle.dayfile.specs.declared.walking.Sweep.{Sweep}
 use Rattle.dayfile.proofs.Bytes.{length-offsets, offsets_append}
 use Rattle.dayfile.proofs.Files.{lines_append, starts_append, each_append, kept_line}
 use Rattle.dayfile.proofs.Walks.{sized, size_of, walked_agree, fewer_lines, fewer_bytes}
 use Rattle.dayfile.proofs.Opening.{day_size}
+use Rattle.dayfile.specs.declared.NotOpened.TheVariants.{WrongLines}
 
 -- ---- whole numbers of an index, before and after a place
 
@@ -47,7 +48,7 @@ module _ (x : List ℕ) (m : ℕ) (there : 4 * m ≤ length x) where
 
 -- ---- what the last bytes tell measures the file
 
-module _ (t : Trailer) (file : List ℕ) (c : Contents) (told : open_by t (length file) (tail_of t file) ≡ Day c) where
+module _ (t : Trailer) (file : List ℕ) (c : Contents) (told : open_by t (length file) (tail_of t file) ≡ Ok c) where
   pub file_size : c.start + 4 * c.lines + trailer_size t ≡ length file
   file_size = day_size t (length file) (tail_of t file) c (sym told)
 
@@ -80,7 +81,7 @@ module _ {t : Trailer} {file : List ℕ} {c : Contents} {w : Sweep} (v : Swept t
   swept_text : take w.at (lines_part c file) ≡ lines_text v.run
   swept_text = take-take w.at c.start file v.inside ∙ v.text
 
-  pub swept_opens : open_of t file ≡ cond (agree (lines_part c file) (offsets_in (index_part c file))) (Day c) WrongLines
+  pub swept_opens : open_of t file ≡ cond (agree (lines_part c file) (offsets_in (index_part c file))) (Ok c) (Err WrongLines)
   unfolding open_of
   swept_opens = rw v.told
 
@@ -99,7 +100,7 @@ module _ {t : Trailer} {file : List ℕ} {c : Contents} {w : Sweep} (v : Swept t
   }
 
   -- AT THE LAST OFFSET it opens exactly if the lines end at the index
-  pub swept_all : w.lines ≡ c.lines → open_of t file ≡ cond (eqb w.at c.start) (Day c) WrongLines
+  pub swept_all : w.lines ≡ c.lines → open_of t file ≡ cond (eqb w.at c.start) (Ok c) (Err WrongLines)
   swept_all e = swept_opens ∙ go (eqb w.at c.start) refl
     where
       s : List ℕ
@@ -111,12 +112,12 @@ module _ {t : Trailer} {file : List ℕ} {c : Contents} {w : Sweep} (v : Swept t
       walks : Walks 0 s os (record { lines = w.lines; used = w.at })
       walks = swept_walks (inl (omega (arith, length-drop w.lines os, how_many_lem)))
 
-      go : (b : Bool) → eqb w.at c.start ≡ b → cond (agree s os) (Day c) WrongLines ≡ cond (eqb w.at c.start) (Day c) WrongLines
+      go : (b : Bool) → eqb w.at c.start ≡ b → cond (agree s os) (Ok c) (Err WrongLines) ≡ cond (eqb w.at c.start) (Ok c) (Err WrongLines)
       go true q = rw (q, walked_agree walks (e ∙ sym how_many_lem) (eqb-true w.at c.start q ∙ sym line_bytes))
       go false q = rw (q, fewer_bytes walks (λ z. eqb-false w.at c.start q (z ∙ line_bytes)))
 
 -- WHERE A SWEEP BEGINS
-pub swept_first : (t : Trailer) (file : List ℕ) (c : Contents) → open_by t (length file) (tail_of t file) ≡ Day c → Swept t file c (record { at = 0; lines = 0 })
+pub swept_first : (t : Trailer) (file : List ℕ) (c : Contents) → open_by t (length file) (tail_of t file) ≡ Ok c → Swept t file c (record { at = 0; lines = 0 })
 unfolding feed_of each_may_keep starts_from
 swept_first t file c e = record { told = e; run = []; inside = omega arith; text = refl; each = refl; many = refl; fewer = omega arith; starts = refl }
 
@@ -207,7 +208,7 @@ module _ (c : Contents) (w : Sweep) (s index : List ℕ) (wide : Wide c w s inde
           let here : Stops w.at s (offsets_in index) = rw (none, nothing_used, add-zero) at k.stops in
           ⊎_elim (λ z. absurd (omega (arith, in_window, wide.some))) (⊎_elim (λ q. inr (inl (λ e. q (sym first_offset ∙ e)))) (λ e. inr (inr (no_line e)))) here
 
-      refused : open_of t file ≡ WrongLines
+      refused : open_of t file ≡ Err WrongLines
       refused = swept_opens v ∙ rw (fewer_lines (swept_walks v stops) (λ e. omega (arith, how_many_lem v, wide.there, wide.some)))
 
   pub sweeps : Sweeps c w s index w'

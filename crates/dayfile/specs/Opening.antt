@@ -1,12 +1,12 @@
 -- What `open` and `line` answer: document 02's 20 to 23, in that order. Assumes nothing.
-use Rattle.std.specs.Prelude.{ℕ, ◌+◌, ◌*◌, ◌-◌, Bool, true, false, cond, ◌&&◌, not, List, [], ◌∷◌, eqb, ltb, length, take, drop, get_or}
+use Rattle.std.specs.Prelude.{ℕ, ◌+◌, ◌*◌, ◌-◌, Bool, true, false, cond, ◌&&◌, not, List, [], ◌∷◌, eqb, ltb, length, take, drop, get_or, Err, Ok, Result}
 use Rattle.text.specs.Place.{value}
 use Rattle.cutter.specs.Feed.{texts_of, rest_of}
 use Rattle.dayfile.specs.DayFile.{trailer_size, starts_from, each_may_keep}
 use Rattle.dayfile.specs.declared.Trailer.{Trailer}
 use Rattle.dayfile.specs.declared.Contents.{Contents}
-use Rattle.dayfile.specs.declared.Opened.{Opened}
-use Rattle.dayfile.specs.declared.Opened.TheVariants.{Day, TooShort, UnknownVersion, WrongLength, WrongLines}
+use Rattle.dayfile.specs.declared.NotOpened.TheVariants.{TooShort, UnknownVersion, WrongLength, WrongLines}
+use Rattle.dayfile.specs.declared.NotOpened.{NotOpened}
 
 -- ---- the numbers in a file, high byte first
 
@@ -30,12 +30,12 @@ offsets_in (a ∷ (b ∷ (c ∷ (d ∷ s)))) = value 256 4 (a ∷ (b ∷ (c ∷ 
 
 -- ---- 20 to 22, by the size of a file and its last bytes
 
-unfoldable pub open_by : Trailer → ℕ → List ℕ → Opened
+unfoldable pub open_by : Trailer → ℕ → List ℕ → Result Contents NotOpened
 open_by t size tail =
-    cond (ltb size (trailer_size t)) TooShort
-    (cond (not (eqb (version_by t tail) t.version)) UnknownVersion
-    (cond (not (eqb (start_by tail + 4 * count_by t tail + trailer_size t) size)) WrongLength
-    (Day (record { lines = count_by t tail; start = start_by tail }))))
+    cond (ltb size (trailer_size t)) (Err TooShort)
+    (cond (not (eqb (version_by t tail) t.version)) (Err UnknownVersion)
+    (cond (not (eqb (start_by tail + 4 * count_by t tail + trailer_size t) size)) (Err WrongLength)
+    (Ok (record { lines = count_by t tail; start = start_by tail }))))
 
 -- ---- 23: lines and offsets
 
@@ -60,12 +60,12 @@ lines_part c file = take c.start file
 abbrev pub index_part : Contents → List ℕ → List ℕ
 index_part c file = take (4 * c.lines) (drop c.start file)
 
-abbrev pub or_wrong_lines : Opened → List ℕ → Opened
-or_wrong_lines (Day c) file = cond (agree (lines_part c file) (offsets_in (index_part c file))) (Day c) WrongLines
-or_wrong_lines TooShort file = TooShort
-or_wrong_lines UnknownVersion file = UnknownVersion
-or_wrong_lines WrongLength file = WrongLength
-or_wrong_lines WrongLines file = WrongLines
+abbrev pub or_wrong_lines : Result Contents NotOpened → List ℕ → Result Contents NotOpened
+or_wrong_lines (Ok c) file = cond (agree (lines_part c file) (offsets_in (index_part c file))) (Ok c) (Err WrongLines)
+or_wrong_lines (Err TooShort) file = Err TooShort
+or_wrong_lines (Err UnknownVersion) file = Err UnknownVersion
+or_wrong_lines (Err WrongLength) file = Err WrongLength
+or_wrong_lines (Err WrongLines) file = Err WrongLines
 
 -- ---- `open`
 
@@ -73,25 +73,25 @@ or_wrong_lines WrongLines file = WrongLines
 abbrev pub tail_of : Trailer → List ℕ → List ℕ
 tail_of t file = drop (length file - trailer_size t) file
 
-unfoldable pub open_of : Trailer → List ℕ → Opened
+unfoldable pub open_of : Trailer → List ℕ → Result Contents NotOpened
 open_of t file = or_wrong_lines (open_by t (length file) (tail_of t file)) file
 
-unfoldable pub open_number : Opened → ℕ
-open_number (Day c) = 0
-open_number TooShort = 20
-open_number UnknownVersion = 21
-open_number WrongLength = 22
-open_number WrongLines = 23
+unfoldable pub open_number : Result Contents NotOpened → ℕ
+open_number (Ok c) = 0
+open_number (Err TooShort) = 20
+open_number (Err UnknownVersion) = 21
+open_number (Err WrongLength) = 22
+open_number (Err WrongLines) = 23
 
 -- ---- `line`
 
 -- the lines of a file that was opened; of one that was not, none
-unfoldable pub lines_by : Opened → List ℕ → List (List ℕ)
-lines_by (Day c) file = texts_of (lines_part c file)
-lines_by TooShort file = []
-lines_by UnknownVersion file = []
-lines_by WrongLength file = []
-lines_by WrongLines file = []
+unfoldable pub lines_by : Result Contents NotOpened → List ℕ → List (List ℕ)
+lines_by (Ok c) file = texts_of (lines_part c file)
+lines_by (Err TooShort) file = []
+lines_by (Err UnknownVersion) file = []
+lines_by (Err WrongLength) file = []
+lines_by (Err WrongLines) file = []
 
 abbrev pub lines_in : Trailer → List ℕ → List (List ℕ)
 lines_in t file = lines_by (open_of t file) file

@@ -1,16 +1,16 @@
 -- A file judged by windows, its lines and its index side by side, as far as a sweep has come. Whatever file shows these windows is judged as `open` judges it
 -- whole. Assumes nothing.
-use Rattle.std.specs.Prelude.{ℕ, ◌+◌, ◌*◌, ◌-◌, ◌^◌, ◌≤◌, ◌<◌, ◌≡◌, true, List, ◌⊎◌, length, take, drop}
+use Rattle.std.specs.Prelude.{ℕ, ◌+◌, ◌*◌, ◌-◌, ◌^◌, ◌≤◌, ◌<◌, ◌≡◌, true, List, ◌⊎◌, length, take, drop, Err, Ok}
 use Rattle.dayfile.specs.DayFile.{lines_text, starts_from, each_may_keep}
 use Rattle.dayfile.specs.Opening.{offsets_in, open_by, index_part, tail_of, open_of}
 use Rattle.dayfile.specs.declared.Trailer.{Trailer}
 use Rattle.dayfile.specs.declared.Contents.{Contents}
-use Rattle.dayfile.specs.declared.Opened.TheVariants.{Day, WrongLines}
 use Rattle.dayfile.specs.declared.walking.Sweep.{Sweep}
+use Rattle.dayfile.specs.declared.NotOpened.TheVariants.{WrongLines}
 
 -- the file's last bytes tell these contents, and its first bytes are so many lines, each beginning at its offset
 pub record Swept (t : Trailer) (file : List ℕ) (c : Contents) (w : Sweep) : Type 0 where
-  pub told : open_by t (length file) (tail_of t file) ≡ Day c
+  pub told : open_by t (length file) (tail_of t file) ≡ Ok c
   pub run : List (List ℕ)
   pub inside : w.at ≤ c.start
   pub text : take w.at file ≡ lines_text run
@@ -45,4 +45,4 @@ pub record Sweeps (c : Contents) (w : Sweep) (s index : List ℕ) (w' : Sweep) :
   pub each : each_may_keep run ≡ true
   -- WHATEVER FILE SHOWS THESE WINDOWS is judged so far; and where no line more was found, it is refused (23)
   pub judged : (t : Trailer) (file : List ℕ) → Swept t file c w → Shows file w.at s → Shows file (c.start + 4 * w.lines) index
-      → Swept t file c w' × (w'.lines ≡ w.lines → open_of t file ≡ WrongLines)
+      → Swept t file c w' × (w'.lines ≡ w.lines → open_of t file ≡ Err WrongLines)

@@ -6,7 +6,7 @@ ghost use Rattle.dayfile.specs.Keeping.{is_agreed, is_over, ended_of, out_ended}
 
 use crate::numbers::{put_index, put_number};
 use crate::walking::walk_run;
-use crate::{Ended, Place, TOO_FAR, Trailer, trailer_size, version_1};
+use crate::{NotEnded, Place, TOO_FAR, Trailer, trailer_size, version_1};
 
 // Whether what was kept is so many lines, each beginning at its offset.
 fn is_agreed(out: &[u8], offsets: &[u32], place: Place) -> bool
@@ -51,31 +51,36 @@ pub fn put_trailer(trailer: Trailer, place: Place, out: &mut [u8], from: usize)
 }
 
 // Ends a file with this trailer.
-fn end_as(trailer: Trailer, out: &mut [u8], offsets: &[u32], place: Place) -> Ended
+fn end_as(
+    trailer: Trailer,
+    out: &mut [u8],
+    offsets: &[u32],
+    place: Place,
+) -> Result<usize, NotEnded>
     requires { Sound trailer }
     ensures value { result ≡ ended_of trailer out.old offsets.now place }
     ensures out_after { out.new ≡ out_ended result trailer out.old offsets.now place }
 {
     if !is_agreed(&out[..], offsets, place) {
-        return Ended::Disagree;
+        return Err(NotEnded::Disagree);
     }
     if is_over(trailer, place) {
-        return Ended::TooMany;
+        return Err(NotEnded::TooMany);
     }
     let at = place.at;
     let count = place.count;
     let after = at + 4 * count;
     let size = after + trailer_size(trailer);
     if size > out.len() {
-        return Ended::NoRoom;
+        return Err(NotEnded::NoRoom);
     }
     put_index(&offsets[..count], out, at);
     put_trailer(trailer, place, out, after);
-    Ended::Whole(size)
+    Ok(size)
 }
 
 // Ends the file: its index and its trailer from the given place on; where it refuses it writes nothing.
-pub fn end_file(out: &mut [u8], offsets: &[u32], place: Place) -> Ended
+pub fn end_file(out: &mut [u8], offsets: &[u32], place: Place) -> Result<usize, NotEnded>
     ensures value { result ≡ ended_of version1 out.old offsets.now place }
     ensures out_after { out.new ≡ out_ended result version1 out.old offsets.now place }
 {

@@ -7,10 +7,9 @@ pub mod ending;
 pub mod numbers;
 pub mod walking;
 
-ghost use Rattle.std.specs.Prelude.{◌≡◌, ◌-◌, ◌≤◌, ◌<◌, length, drop};
+ghost use Rattle.std.specs.Prelude.{◌≡◌, ◌-◌, ◌≤◌, ◌<◌, length, drop, Ok};
 ghost use Rattle.shapes.specs.Picture.{starts_at};
 ghost use Rattle.dayfile.specs.DayFile.{version1, Sound, trailer_size};
-ghost use Rattle.dayfile.specs.declared.Opened.TheVariants.{Day};
 ghost use Rattle.dayfile.specs.Opening.{open_by, open_of, lines_in, numbered, place_of};
 ghost use Rattle.dayfile.specs.Keeping.{is_full, kept_of, out_after, run_after};
 
@@ -42,9 +41,8 @@ pub struct Contents {
 }
 
 // What `open` answers: 0, 20, 21, 22, 23.
-#[derive(Clone, Copy)]
-pub enum Opened {
-    Day(Contents),
+#[derive(Clone, Copy, PartialEq, Eq)]
+pub enum NotOpened {
     TooShort,
     UnknownVersion,
     WrongLength,
@@ -59,9 +57,8 @@ pub struct Place {
 }
 
 // What `keep_line` answers: 0 with the place after the line, 2, 25, 24, 15.
-#[derive(Clone, Copy)]
-pub enum Kept {
-    Next(Place),
+#[derive(Clone, Copy, PartialEq, Eq)]
+pub enum NotKept {
     TooLong,
     LineFeed,
     TooMany,
@@ -69,9 +66,8 @@ pub enum Kept {
 }
 
 // What `end_file` answers: 0 with the file's length, 13, 24, 15.
-#[derive(Clone, Copy)]
-pub enum Ended {
-    Whole(usize),
+#[derive(Clone, Copy, PartialEq, Eq)]
+pub enum NotEnded {
     Disagree,
     TooMany,
     NoRoom,
@@ -97,26 +93,26 @@ pub fn trailer_size(trailer: Trailer) -> usize
 }
 
 // 20 to 22: what the size of a file and its last bytes tell.
-pub fn open_tail(trailer: Trailer, size: usize, tail: &[u8]) -> Opened
+pub fn open_tail(trailer: Trailer, size: usize, tail: &[u8]) -> Result<Contents, NotOpened>
     requires sound { Sound trailer }
     requires tail_len { trailer_size trailer ≤ size → length tail.now ≡ trailer_size trailer }
     ensures { result ≡ open_by trailer size tail.now }
 {
     let width = trailer_size(trailer);
     if size < width {
-        return Opened::TooShort;
+        return Err(NotOpened::TooShort);
     }
     let wide = trailer.wide;
     let after = 4 + wide;
     if read_number(&tail[after..]) != trailer.version {
-        return Opened::UnknownVersion;
+        return Err(NotOpened::UnknownVersion);
     }
     let start = read_number(&tail[..4]);
     let lines = read_number(&tail[4..after]);
     if start + 4 * lines + width != size {
-        return Opened::WrongLength;
+        return Err(NotOpened::WrongLength);
     }
-    Opened::Day(Contents { lines, start })
+    Ok(Contents { lines, start })
 }
 
 // The last n bytes, or all where there are fewer.
@@ -131,29 +127,29 @@ fn last<'a>(n: usize, s: &'a [u8]) -> &'a [u8]
 }
 
 // A file with this trailer: 20 to 22, and then 23, in one pass over its lines beside its index.
-fn open_as(trailer: Trailer, file: &[u8]) -> Opened
+fn open_as(trailer: Trailer, file: &[u8]) -> Result<Contents, NotOpened>
     requires { Sound trailer }
     ensures { result ≡ open_of trailer file.now }
 {
     let width = trailer_size(trailer);
     let told = open_tail(trailer, file.len(), last(width, file));
-    let Opened::Day(day) = told else {
+    let Ok(day) = told else {
         return told;
     };
     let start = day.start;
     let end = start + 4 * day.lines;
     let walked = walk(0, &file[..start], &file[start..end]);
     if walked.lines != day.lines {
-        return Opened::WrongLines;
+        return Err(NotOpened::WrongLines);
     }
     if walked.used != start {
-        return Opened::WrongLines;
+        return Err(NotOpened::WrongLines);
     }
     told
 }
 
 // How many lines a file has and where its index starts, whatever its bytes are.
-pub fn open(file: &[u8]) -> Opened
+pub fn open(file: &[u8]) -> Result<Contents, NotOpened>
     ensures { result ≡ open_of version1 file.now }
 {
     open_as(version_1(), file)
@@ -161,7 +157,7 @@ pub fn open(file: &[u8]) -> Opened
 
 // The line with this number, of a file that was opened and has it: only its offset and its bytes are looked at.
 pub fn known_line<'a>(file: &'a [u8], day: Contents, number: usize) -> &'a [u8]
-    requires file_value { open_of version1 file.now ≡ Day day }
+    requires file_value { open_of version1 file.now ≡ Ok day }
     requires number_nonzero { 0 < number }
     requires number_le_lines { number ≤ day.lines }
     ensures result_value { result.now ≡ numbered (lines_in version1 file.now) number }
@@ -182,7 +178,7 @@ pub fn line<'a>(file: &'a [u8], number: usize) -> &'a [u8]
     ensures ref_ptr_value { result.ref_ptr ≡ starts_at file.entry.ref_ptr (place_of (lines_in version1 file.now) number) }
 {
     let told = open(file);
-    let Opened::Day(day) = told else {
+    let Ok(day) = told else {
         return &file[..0];
     };
     if number == 0 {
@@ -216,41 +212,46 @@ pub fn keep_from(
     out: &mut [u8],
     offsets: &mut [u32],
     place: Place,
-) -> Kept
+) -> Result<Place, NotKept>
     requires { base ≤ place.at }
     ensures value { result ≡ kept_of most base line.now out.old offsets.old place }
     ensures out_after { out.new ≡ out_after result base line.now out.old place }
     ensures offsets_after { offsets.new ≡ run_after result offsets.old place }
 {
     if line.len() > LONGEST_LINE {
-        return Kept::TooLong;
+        return Err(NotKept::TooLong);
     }
     if find_far(LINE_FEED, line) < line.len() {
-        return Kept::LineFeed;
+        return Err(NotKept::LineFeed);
     }
     if is_full(most, place, line) {
-        return Kept::TooMany;
+        return Err(NotKept::TooMany);
     }
     let at = place.at - base;
     let n = line.len();
     if !has_room(n + 1, out.len(), at) {
-        return Kept::NoRoom;
+        return Err(NotKept::NoRoom);
     }
     let count = place.count;
     if count >= offsets.len() {
-        return Kept::NoRoom;
+        return Err(NotKept::NoRoom);
     }
     put_bytes(line, out, at);
     out[at + n] = LINE_FEED;
     offsets[count] = place.at as u32;
-    Kept::Next(Place {
+    Ok(Place {
         at: place.at + n + 1,
         count: count + 1,
     })
 }
 
 // Keeps a line from the given place on, and its offset in the run; where it refuses it writes nothing.
-pub fn keep_line(line: &[u8], out: &mut [u8], offsets: &mut [u32], place: Place) -> Kept
+pub fn keep_line(
+    line: &[u8],
+    out: &mut [u8],
+    offsets: &mut [u32],
+    place: Place,
+) -> Result<Place, NotKept>
     ensures value { result ≡ kept_of 65535 0 line.now out.old offsets.old place }
     ensures out_after { out.new ≡ out_after result 0 line.now out.old place }
     ensures offsets_after { offsets.new ≡ run_after result offsets.old place }

@@ -6,7 +6,7 @@ use checks::Asked;
 use intake::arguments::{is_there, word_at};
 use intake::ends::{Source, Target};
 use intake::files::open;
-use intake::words::{OptionRead, is_help, is_option, option};
+use intake::words::{is_help, is_option, option};
 use intake::{STANDARD_OUTPUT, say};
 use rules::Rule;
 
@@ -75,17 +75,15 @@ fn check_word(rt: &HostRuntime, word: &[u8], last: bool, asked: Asked) {
 }
 
 // The word at a place after 'check': what is asked for with it, or nothing where it was the last to be looked at.
-fn take_word(rt: &HostRuntime, asked: Asked, place: usize, last: bool) -> OptionRead {
+fn take_word(rt: &HostRuntime, asked: Asked, place: usize, last: bool) -> Option<Asked> {
     let mut word = io::buffer();
-    let Some(n) = word_at(rt, place, b"a word after check", &mut word) else {
-        return OptionRead::Nothing;
-    };
+    let n = word_at(rt, place, b"a word after check", &mut word)?;
     let read = option(asked, &word[..n]);
     match read {
-        OptionRead::Asks(more) => OptionRead::Asks(more),
-        OptionRead::Nothing => {
+        Some(more) => Some(more),
+        None => {
             check_word(rt, &word[..n], last, asked);
-            OptionRead::Nothing
+            None
         }
     }
 }
@@ -101,7 +99,7 @@ fn check(rt: &HostRuntime) {
             break;
         }
         let read = take_word(rt, asked, place, !is_there(rt, place + 1));
-        let OptionRead::Asks(more) = read else {
+        let Some(more) = read else {
             return;
         };
         asked = more;

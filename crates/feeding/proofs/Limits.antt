@@ -1,5 +1,6 @@
 -- ONE LIMIT for cutter and reader (document 01: 2, "line over 2,048 bytes"): the lines that the cutter calls overlong are those that the reader answers
 -- with 2, so that to the board an overlong line is what the reader would have made of it. Assumes nothing.
+use Rattle.std.specs.Prelude.{Err}
 use mathlib.Core.Logic.{◌↔◌}
 use mathlib.Core.Path.{◌≡◌, refl, ap}
 use mathlib.Core.Bool.{Bool, true, false}
@@ -14,7 +15,6 @@ use Rattle.rules.specs.declared.Rule.TheVariants.{New}
 use Rattle.cutter.specs.Feed.{Whole, TooLong, line_of}
 use Rattle.line.specs.Read.{newly, read_of, line_number}
 use Rattle.line.specs.Cases.{Case, Taken, Short, Long, Unprintable, NoSequence, NoStamp, NoFacility, NoType, Spacing, Field, Number, LongPlan}
-use Rattle.line.specs.declared.LineRead.TheVariants as read
 use Rattle.line.specs.declared.Refusal.TheVariants as refusal
 use Rattle.line.proofs.Cases.{answer_case, answer_only}
 use Rattle.line.proofs.Ways.{line_long}
@@ -49,7 +49,7 @@ overlong_exactly s = go (leb (length s) longest_line) refl
     go false q = let k = leb-false (length s) longest_line q in (λ e. (answer_only New s 2 0 (Long k)).0, λ e. rw q)
 
 -- what the reader makes of a line over the limit
-reads_long : (s : List ℕ) → longest_line < length s → read.Refused refusal.Long ≡ read_of s
+reads_long : (s : List ℕ) → longest_line < length s → Err refusal.Long ≡ read_of s
 unfolding read_of
 reads_long s k = ap newly (line_long New s (omega arith) k)
 

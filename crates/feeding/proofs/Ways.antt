@@ -1,4 +1,5 @@
 -- What each way through the code answers, but for the loop, is what its definition says. Assumes nothing.
+use Rattle.std.specs.Prelude.{Err, Ok, Result}
 use mathlib.Core.Path.{◌≡◌, refl, sym, ap, ◌∙◌}
 use mathlib.Core.Bool.{Bool, true, false, cond}
 use mathlib.Core.List.{List, [], ◌∷◌}
@@ -16,8 +17,6 @@ use Rattle.planner.specs.Asked.{asked_of}
 use Rattle.planner.specs.declared.asks.Asked.{Asked}
 use Rattle.planner.specs.declared.asks.Asked.TheVariants as asked
 use Rattle.planner.specs.Apply.{event_of as asked_event, line_event, room, answer_to, Entered}
-use Rattle.planner.specs.declared.LineAnswer.{LineAnswer}
-use Rattle.planner.specs.declared.LineAnswer.TheVariants as line
 use Rattle.cutter.specs.State.{is_allowed}
 use Rattle.cutter.specs.Calls.{line_in}
 use Rattle.cutter.specs.Cases.{told_by}
@@ -28,6 +27,8 @@ use Rattle.cutter.specs.contracts.CutAnswer.{the_type as the-cut}
 use Rattle.feeding.specs.Tally.{event_of, one, rows_by, taken_by}
 use Rattle.feeding.specs.Fed.{refused_with, fed_of, board_fed, held_after}
 use Rattle.feeding.specs.declared.AfterFeed.{AfterFeed}
+use Rattle.planner.specs.declared.NotTaken.TheVariants.{Full, Line, NotAllowed}
+use Rattle.planner.specs.declared.NotTaken.{NotTaken}
 
 -- ---- `ended`
 
@@ -55,11 +56,11 @@ module _ (a : CutAnswer) where
 -- ---- `apply_line`
 
 -- 1 for a line that is taken
-abbrev pub counted : LineAnswer → ℕ
-counted line.Taken = 1
-counted (line.Line x) = 0
-counted line.NotAllowed = 0
-counted line.Full = 0
+abbrev pub counted : Result (Unit {0}) NotTaken → ℕ
+counted (Ok tt) = 1
+counted (Err (Line x)) = 0
+counted (Err NotAllowed) = 0
+counted (Err Full) = 0
 
 count_room : (b : Bool) → counted (room b) ≡ one (cond b Took NoRoom)
 count_room true = refl
@@ -73,7 +74,7 @@ count_line rs (asked.Tz k x) = count_room (fits rs k.0)
 count_line rs asked.Other = refl
 count_line rs (asked.Refused x) = refl
 
-module _ (l s : List ℕ) (r : LineAnswer) (l' : List ℕ) (w : Entered l (asked_of s) r l') where
+module _ (l s : List ℕ) (r : Result (Unit {0}) NotTaken) (l' : List ℕ) (w : Entered l (asked_of s) r l') where
   heard : counted r ≡ one (answer (rows_of l) (line_event s))
   unfolding line_event
   heard = ap counted w.answered ∙ count_line (rows_of l) (asked_of s)
@@ -82,7 +83,7 @@ module _ (l s : List ℕ) (r : LineAnswer) (l' : List ℕ) (w : Entered l (asked
   unfolding line_event
   shown = w.words
 
-  pub line_as : (x : LineAnswer) → r ≡ x → (counted x ≡ one (answer (rows_of l) (line_event s))) × (l' ≡ words_of (rows_after (rows_of l) (line_event s)))
+  pub line_as : (x : Result (Unit {0}) NotTaken) → r ≡ x → (counted x ≡ one (answer (rows_of l) (line_event s))) × (l' ≡ words_of (rows_after (rows_of l) (line_event s)))
   line_as x e = (sym (ap counted e) ∙ heard, shown)
 
 -- ---- `enter`

@@ -1,4 +1,5 @@
 -- That each answer number of a field is given exactly in its case, with the numbers as document 01 has them. Assumes nothing.
+use Rattle.std.specs.Prelude.{Option, Some}
 use Prim.Native.Nat.{ℕ}
 use mathlib.Core.Bool.{Bool, true, false, cond}
 use mathlib.Core.List.{List}
@@ -17,14 +18,10 @@ use Rattle.fields.specs.Ident.{ident_from, ident_of, tz_ident_of, ident_answer}
 use Rattle.fields.specs.MessageType.{type_text, type_of, type_answer}
 use Rattle.fields.specs.Pair.{is_pair_form, pair_of}
 use Rattle.fields.specs.Word.{word_of}
-use Rattle.fields.specs.declared.aircraft.AircraftRead.{AircraftRead}
-use Rattle.fields.specs.declared.aircraft.AircraftRead.TheVariants.{Read as aircraft-Read, Nothing as aircraft-Nothing}
 use Rattle.fields.specs.declared.heads.MessageType.{MessageType}
-use Rattle.fields.specs.declared.heads.TypeRead.{TypeRead}
-use Rattle.fields.specs.declared.heads.TypeRead.TheVariants.{Read as head-Read, Nothing as head-Nothing}
-use Rattle.fields.specs.declared.idents.IdentRead.TheVariants.{Read, Nothing}
 use Rattle.fields.proofs.Single.{aircraft_one_by, aircraft_none_by}
 use Rattle.fields.proofs.TypeLaws.{type_sound, type_complete}
+use Rattle.fields.specs.declared.aircraft.Aircraft.{Aircraft}
 
 -- ---- fields held as their text
 
@@ -69,7 +66,7 @@ write_answer_lem true vs out at = go (has_room vs out at) refl
 
 -- ---- idents
 
-chosen : (b : Bool) (s : List ℕ) → ident_answer (cond b (Read (ident_from s)) Nothing) ≡ cond b 0 9
+chosen : (b : Bool) (s : List ℕ) → ident_answer (cond b (Some (ident_from s)) None) ≡ cond b 0 9
 chosen true s = refl
 chosen false s = refl
 
@@ -87,9 +84,9 @@ tz_answer s = chosen (is_tz_ident s) s
 pub aircraft_answer_lem : (ρ : Rule) (s : List ℕ) → Case ρ s (aircraft_answer (aircraft_by ρ s))
 aircraft_answer_lem ρ s = go (aircraft_by ρ s) refl
   where
-    go : (r : AircraftRead) → aircraft_by ρ s ≡ r → Case ρ s (aircraft_answer r)
-    go (aircraft-Read a) q = let p = aircraft_one_by ρ s a q in One a p.0 p.1
-    go aircraft-Nothing q = None (aircraft_none_by ρ s q)
+    go : (r : Option Aircraft) → aircraft_by ρ s ≡ r → Case ρ s (aircraft_answer r)
+    go (Some a) q = let p = aircraft_one_by ρ s a q in One a p.0 p.1
+    go None q = None (aircraft_none_by ρ s q)
 
 -- ---- facility and type
 
@@ -105,6 +102,6 @@ facility_answer_lem s = go (is_facility s) refl
 pub type_answer_lem : (s : List ℕ) → ((t : MessageType) × (type_text t ≡ s) × (type_answer (type_of s) ≡ 0)) ⊎ (((t : MessageType) → type_text t ≡ s → ⊥) × (type_answer (type_of s) ≡ 7))
 type_answer_lem s = go (type_of s) refl
   where
-    go : (r : TypeRead) → type_of s ≡ r → ((t : MessageType) × (type_text t ≡ s) × (type_answer (type_of s) ≡ 0)) ⊎ (((t : MessageType) → type_text t ≡ s → ⊥) × (type_answer (type_of s) ≡ 7))
-    go (head-Read t) q = inl (t, type_sound s t q, ap type_answer q)
-    go head-Nothing q = inr ((λ t e. let z : head-Read t ≡ head-Nothing = sym (type_complete t) ∙ ap type_of e ∙ q in let y : ◌≡◌ {A = ℕ} 0 1 = cc in omega arith), ap type_answer q)
+    go : (r : Option MessageType) → type_of s ≡ r → ((t : MessageType) × (type_text t ≡ s) × (type_answer (type_of s) ≡ 0)) ⊎ (((t : MessageType) → type_text t ≡ s → ⊥) × (type_answer (type_of s) ≡ 7))
+    go (Some t) q = inl (t, type_sound s t q, ap type_answer q)
+    go None q = inr ((λ t e. let z : Some t ≡ None = sym (type_complete t) ∙ ap type_of e ∙ q in let y : ◌≡◌ {A = ℕ} 0 1 = cc in omega arith), ap type_answer q)

@@ -1,5 +1,6 @@
 -- What the promises of `fields` require on texts written out, so that named wrong answers are none of theirs: of each, `Post` is the
 -- function's `ensures` as it stands in the source, r any result that meets it, s any state at exit. Assumes nothing.
+use Rattle.std.specs.Prelude.{Err, None, Some}
 use mathlib.Core.Path.{◌≡◌, refl, ◌∙◌}
 use mathlib.Core.Bool.{true, false}
 use Rattle.text.specs.Bytes.{bytes}
@@ -8,18 +9,12 @@ use Rattle.text.specs.Code.{code_of, byte_of}
 use Rattle.text.specs.Place.{value, digits, tight}
 use Rattle.text.specs.Number.{is_digit_to, digit_of, is_numeral, number_of}
 use Rattle.text.specs.Text.{packed, text_of, is_packed, spliced, has_room, written_next, written_bytes}
-use Rattle.text.specs.declared.Packed.TheVariants as word
-use Rattle.text.specs.declared.Written.TheVariants.{NoText}
 use Rattle.shapes.specs.Pieces.{pieces}
 use Rattle.shapes.specs.Picture.{is_of, fits, fits_any, one_of, run, within}
 use Rattle.rules.specs.Form.{is_stamp, is_key, is_clock, is_time, is_arrival, is_position}
 use Rattle.rules.specs.Kind.{SEQUENCE, STAMP, KEY, POINT, TIME, GROUND_SPEED, TRACK_LEVEL, POSITION, ARRIVAL, is_form}
 use Rattle.rules.specs.declared.Rule.TheVariants.{New, Old}
 use Rattle.fields.specs.Word.{word_of, is_word}
-use Rattle.fields.specs.declared.frame.SequenceRead.TheVariants as sequence
-use Rattle.fields.specs.declared.frame.StampRead.TheVariants as stamp
-use Rattle.fields.specs.declared.flight.KeyRead.TheVariants as key
-use Rattle.fields.specs.declared.plan.TimeRead.TheVariants as time
 use Rattle.fields.proofs.flight.Key.read.Reads as key-read
 use Rattle.fields.proofs.flight.Key.holds.Reads as key-holds
 use Rattle.fields.proofs.frame.body_at.Reads as body_at
@@ -35,6 +30,7 @@ use Rattle.fields.proofs.track.GroundSpeed.holds.Reads as ground-speed-holds
 use Rattle.fields.proofs.track.TrackLevel.holds.Reads as track-level-holds
 use Rattle.fields.proofs.track.Position.holds.Reads as position-holds
 use Rattle.fields.proofs.track.ArrivalClock.holds.Reads as arrival-holds
+use Rattle.text.specs.declared.NotWritten.TheVariants.{NoText}
 
 -- the body of a line begins after 18 bytes, and that of an old line after nine
 pub body_after_17 : (κs : _) (r : _) (s : _) → body_at.Post κs (New, tt) r s → r ≡ 18
@@ -47,48 +43,48 @@ old_body_after_18 κs r s p = p
 
 -- what is read of each text; antt computes it
 read :
-    (word_of SEQUENCE (bytes "00G1") ≡ word.Nothing) × (word_of SEQUENCE (bytes "00FF") ≡ word.Text (packed (bytes "00FF"))) ×
-    (word_of STAMP (bytes "00081500") ≡ word.Nothing) × (word_of STAMP (bytes "31235959") ≡ word.Text (packed (bytes "31235959"))) ×
-    (word_of KEY (bytes "12Z") ≡ word.Nothing) × (word_of KEY (bytes "N5") ≡ word.Text (packed (bytes "N5"))) ×
-    (word_of TIME (bytes "A0810") ≡ word.Nothing) × (word_of TIME (bytes "P2359") ≡ word.Text (packed (bytes "P2359")))
+    (word_of SEQUENCE (bytes "00G1") ≡ None) × (word_of SEQUENCE (bytes "00FF") ≡ Some (packed (bytes "00FF"))) ×
+    (word_of STAMP (bytes "00081500") ≡ None) × (word_of STAMP (bytes "31235959") ≡ Some (packed (bytes "31235959"))) ×
+    (word_of KEY (bytes "12Z") ≡ None) × (word_of KEY (bytes "N5") ≡ Some (packed (bytes "N5"))) ×
+    (word_of TIME (bytes "A0810") ≡ None) × (word_of TIME (bytes "P2359") ≡ Some (packed (bytes "P2359")))
 unfolding word_of packed is_form is_stamp is_key is_time is_clock fits is_of run within is_numeral number_of is_digit_to digit_of code_of value all
     is_digit is_letter is_alnum
 read = (refl, refl, refl, refl, refl, refl, refl, refl)
 
 -- G is no character of a sequence number
-pub sequence_with_a_g : (κs : _) (a : _) (r : _) (s : _) → sequence-read.Post κs a r s → a.0.now ≡ bytes "00G1" → r ≡ sequence.Nothing
+pub sequence_with_a_g : (κs : _) (a : _) (r : _) (s : _) → sequence-read.Post κs a r s → a.0.now ≡ bytes "00G1" → r ≡ None
 sequence_with_a_g κs a r s p e = p ∙ rw (e, read.0)
 
 -- letters to F are characters of one, and both zeros are kept
 pub sequence_f_refused : (κs : _) (a : _) (r : _) (s : _) → sequence-read.Post κs a r s
-    → a.0.now ≡ bytes "00FF" → r ≡ sequence.Read (record { 0 = packed (bytes "00FF") })
+    → a.0.now ≡ bytes "00FF" → r ≡ Some (record { 0 = packed (bytes "00FF") })
 sequence_f_refused κs a r s p e = p ∙ rw (e, read.1)
 
 -- no month has a day 00
-pub stamp_day_00 : (κs : _) (a : _) (r : _) (s : _) → stamp-read.Post κs a r s → a.0.now ≡ bytes "00081500" → r ≡ stamp.Nothing
+pub stamp_day_00 : (κs : _) (a : _) (r : _) (s : _) → stamp-read.Post κs a r s → a.0.now ≡ bytes "00081500" → r ≡ None
 stamp_day_00 κs a r s p e = p ∙ rw (e, read.2)
 
 -- the last second of a 31st is a stamp
 pub stamp_day_31_refused : (κs : _) (a : _) (r : _) (s : _) → stamp-read.Post κs a r s
-    → a.0.now ≡ bytes "31235959" → r ≡ stamp.Read (record { 0 = packed (bytes "31235959") })
+    → a.0.now ≡ bytes "31235959" → r ≡ Some (record { 0 = packed (bytes "31235959") })
 stamp_day_31_refused κs a r s p e = p ∙ rw (e, read.3)
 
 -- a computer number is no key
-pub key_by_the_number_rule : (κs : _) (a : _) (r : _) (s : _) → key-read.Post κs a r s → a.0.now ≡ bytes "12Z" → r ≡ key.Nothing
+pub key_by_the_number_rule : (κs : _) (a : _) (r : _) (s : _) → key-read.Post κs a r s → a.0.now ≡ bytes "12Z" → r ≡ None
 key_by_the_number_rule κs a r s p e = p ∙ rw (e, read.4)
 
 -- a letter and one more are a key
 pub key_of_two_refused : (κs : _) (a : _) (r : _) (s : _) → key-read.Post κs a r s
-    → a.0.now ≡ bytes "N5" → r ≡ key.Read (record { 0 = packed (bytes "N5") })
+    → a.0.now ≡ bytes "N5" → r ≡ Some (record { 0 = packed (bytes "N5") })
 key_of_two_refused κs a r s p e = p ∙ rw (e, read.5)
 
 -- an arrival clock is no time
-pub time_as_arrival : (κs : _) (a : _) (r : _) (s : _) → time-read.Post κs a r s → a.0.now ≡ bytes "A0810" → r ≡ time.Nothing
+pub time_as_arrival : (κs : _) (a : _) (r : _) (s : _) → time-read.Post κs a r s → a.0.now ≡ bytes "A0810" → r ≡ None
 time_as_arrival κs a r s p e = p ∙ rw (e, read.6)
 
 -- P and the last minute of a day are a time
 pub time_2359_refused : (κs : _) (a : _) (r : _) (s : _) → time-read.Post κs a r s
-    → a.0.now ≡ bytes "P2359" → r ≡ time.Read (record { 0 = packed (bytes "P2359") })
+    → a.0.now ≡ bytes "P2359" → r ≡ Some (record { 0 = packed (bytes "P2359") })
 time_2359_refused κs a r s p e = p ∙ rw (e, read.7)
 
 -- ---- tests: the word of a text passes exactly where the text has the form
@@ -181,7 +177,7 @@ unfolding is_word is_packed tight packed text_of digits byte_of is_form is_stamp
 shown = (refl, refl, refl, refl, refl, refl)
 
 -- what is no sequence number is not written
-pub sequence_any_word : (κs : _) (a : _) (r : _) (s : _) → sequence-put.Post κs a r s → a.0.0 ≡ packed (bytes "N5") → r ≡ NoText
+pub sequence_any_word : (κs : _) (a : _) (r : _) (s : _) → sequence-put.Post κs a r s → a.0.0 ≡ packed (bytes "N5") → r ≡ Err NoText
 unfolding written_next
 sequence_any_word κs a r s p e = p.0 ∙ rw (e, shown.0)
 
@@ -192,7 +188,7 @@ unfolding written_bytes has_room spliced
 sequence_from_0 κs a r s p e o i = p.1 ∙ rw (e, o, i, shown.1, shown.2)
 
 -- what is no stamp is not written
-pub stamp_any_word : (κs : _) (a : _) (r : _) (s : _) → stamp-put.Post κs a r s → a.0.0 ≡ packed (bytes "06240000") → r ≡ NoText
+pub stamp_any_word : (κs : _) (a : _) (r : _) (s : _) → stamp-put.Post κs a r s → a.0.0 ≡ packed (bytes "06240000") → r ≡ Err NoText
 unfolding written_next
 stamp_any_word κs a r s p e = p.0 ∙ rw (e, shown.3)
 

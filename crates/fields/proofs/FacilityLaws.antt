@@ -1,4 +1,5 @@
 -- THE LAWS of facilities: reading is sound and complete; the ways of the functions. Assumes nothing.
+use Rattle.std.specs.Prelude.{None, Some}
 use mathlib.Core.Path.{◌≡◌, refl, ap, ◌∙◌}
 use mathlib.Core.Bool.{Bool, true, false, ◌&&◌, ◌||◌}
 use mathlib.Core.List.{List, [], ◌∷◌}
@@ -19,7 +20,6 @@ use Rattle.shapes.proofs.Laws.{fits_length}
 use Rattle.rules.specs.Form.{is_facility}
 use Rattle.fields.specs.Facility.{facility_of, facility_text, is_facility_value}
 use Rattle.fields.specs.declared.heads.Facility.{Facility}
-use Rattle.fields.specs.declared.heads.FacilityRead.TheVariants.{Read, Nothing}
 
 -- ---- its bytes are bytes
 
@@ -83,24 +83,24 @@ facility_value s e =
     (t, rw (t, e, lt-ltb (value 256 4 s) (256 ^ 4) (value_lt 256 255 (lit≤ tt) 0 4 s b)))
 
 -- what reads has the form, its text is what was read, and it is a value that some text gives
-pub facility_sound : (s : List ℕ) (f : Facility) → facility_of s ≡ Read f → (is_facility s ≡ true) × (facility_text f.0 ≡ s) × (is_facility_value f.0 ≡ true)
+pub facility_sound : (s : List ℕ) (f : Facility) → facility_of s ≡ Some f → (is_facility s ≡ true) × (facility_text f.0 ≡ s) × (is_facility_value f.0 ≡ true)
 unfolding facility_of
 facility_sound s f e = go (is_facility s) refl
   where
     go : (t : Bool) → is_facility s ≡ t → (is_facility s ≡ true) × (facility_text f.0 ≡ s) × (is_facility_value f.0 ≡ true)
     go true q =
-        let z : Read (record { 0 = value 256 4 s }) ≡ Read f = rw q at e in
+        let z : Some (record { 0 = value 256 4 s }) ≡ Some f = rw q at e in
         let y : value 256 4 s ≡ f.0 = ap (λ (g : Facility). g.0) (cc) in
         let h = facility_value s q in
         (q, rw (← y) h.0, rw (← y) h.1)
-    go false q = let z : Nothing ≡ Read f = rw q at e in ((cc), (cc), (cc))
+    go false q = let z : None ≡ Some f = rw q at e in ((cc), (cc), (cc))
 
 pub facility_small : (n : ℕ) → is_facility_value n ≡ true → n < 256 ^ 4
 unfolding is_facility_value
 facility_small n e = ltb-true n (256 ^ 4) (and_left (ltb n (256 ^ 4)) (is_facility (facility_text n)) e)
 
 -- the text of every such value reads as it
-pub facility_complete : (f : Facility) → is_facility_value f.0 ≡ true → facility_of (facility_text f.0) ≡ Read f
+pub facility_complete : (f : Facility) → is_facility_value f.0 ≡ true → facility_of (facility_text f.0) ≡ Some f
 unfolding facility_of is_facility_value facility_text
 facility_complete f e =
     rw (and_right (ltb f.0 (256 ^ 4)) (is_facility (facility_text f.0)) e, value_places 256 255 (lit≤ tt) 4 f.0 (facility_small f.0 e))

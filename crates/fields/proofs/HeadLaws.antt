@@ -1,5 +1,6 @@
 -- THE LAWS of a head's parts, once for every part of either rule: a text of its form and the number that it is kept as give each other, it is as long
 -- as the part, and printable. Assumes nothing.
+use Rattle.std.specs.Prelude.{Some}
 use mathlib.Core.Path.{◌≡◌, refl, sym, ap, ◌∙◌}
 use mathlib.Core.Bool.{Bool, true, false, ◌||◌}
 use mathlib.Core.List.{List, [], ◌∷◌}
@@ -27,7 +28,6 @@ use Rattle.fields.specs.Facility.{facility_of, facility_text, is_facility_value}
 use Rattle.fields.specs.Head.{Part, sequence_in, stamp_in, facility_in}
 use Rattle.fields.specs.Word.{is_word}
 use Rattle.fields.specs.declared.heads.Facility.{Facility}
-use Rattle.fields.specs.declared.heads.FacilityRead.TheVariants as facility
 use Rattle.fields.proofs.FacilityLaws.{facility_sound, facility_complete, facility_length}
 use Rattle.fields.proofs.WordLaws.{form_word, word_form, word_packed}
 
@@ -130,7 +130,7 @@ unfolding facility_of is_facility_value
 facility_back f e =
     let h = and_right (ltb f (256 ^ 4)) (is_facility (facility_text f)) e in
     let r = facility_complete (record { 0 = f }) e in
-    let z : facility.Read (record { 0 = value 256 4 (facility_text f) }) ≡ facility.Read (record { 0 = f }) = rw h at r in
+    let z : Some (record { 0 = value 256 4 (facility_text f) }) ≡ Some (record { 0 = f }) = rw h at r in
     (h, ap (λ (g : Facility). g.0) (cc))
 
 -- ---- what is not there

@@ -1,4 +1,5 @@
 -- THE LAWS of message types: the reader finds the type whose letters were given; the ways of the functions. Assumes nothing.
+use Rattle.std.specs.Prelude.{None, Option, Some}
 use mathlib.Core.Path.{◌≡◌, refl, sym, ◌∙◌}
 use mathlib.Core.Bool.{Bool, true, false, cond, ◌&&◌}
 use mathlib.Core.List.{List, [], ◌∷◌}
@@ -14,22 +15,20 @@ use Rattle.shapes.proofs.Laws.{fits_apart}
 use Rattle.fields.specs.MessageType.{type_text, type_number, type_of}
 use Rattle.fields.specs.declared.heads.MessageType.{MessageType}
 use Rattle.fields.specs.declared.heads.MessageType.TheVariants.{Af, Az, Dz, Fz, Rz, Tz, Uz, Rt, To, Hb}
-use Rattle.fields.specs.declared.heads.TypeRead.{TypeRead}
-use Rattle.fields.specs.declared.heads.TypeRead.TheVariants.{Read, Nothing}
 
 -- the type with that number
-abbrev pub type_by : ℕ → TypeRead
+abbrev pub type_by : ℕ → Option MessageType
 type_by n =
-    cond (eqb n (type_number Af)) (Read Af)
-    (cond (eqb n (type_number Az)) (Read Az)
-    (cond (eqb n (type_number Dz)) (Read Dz)
-    (cond (eqb n (type_number Fz)) (Read Fz)
-    (cond (eqb n (type_number Rz)) (Read Rz)
-    (cond (eqb n (type_number Tz)) (Read Tz)
-    (cond (eqb n (type_number Uz)) (Read Uz)
-    (cond (eqb n (type_number Rt)) (Read Rt)
-    (cond (eqb n (type_number To)) (Read To)
-    (cond (eqb n (type_number Hb)) (Read Hb) Nothing)))))))))
+    cond (eqb n (type_number Af)) (Some Af)
+    (cond (eqb n (type_number Az)) (Some Az)
+    (cond (eqb n (type_number Dz)) (Some Dz)
+    (cond (eqb n (type_number Fz)) (Some Fz)
+    (cond (eqb n (type_number Rz)) (Some Rz)
+    (cond (eqb n (type_number Tz)) (Some Tz)
+    (cond (eqb n (type_number Uz)) (Some Uz)
+    (cond (eqb n (type_number Rt)) (Some Rt)
+    (cond (eqb n (type_number To)) (Some To)
+    (cond (eqb n (type_number Hb)) (Some Hb) None)))))))))
 
 -- two bytes are two letters exactly if their number is the letters' number
 two_eq : (a b x y : ℕ) → b < 256 → y < 256 → (eqb a x && (eqb b y && true)) ≡ eqb (a * 256 + b) (x * 256 + y)
@@ -61,7 +60,7 @@ type_at (a ∷ b ∷ []) e h n z =
     rw (z, f Af, f Az, f Dz, f Fz, f Rz, f Tz, f Uz, f Rt, f To, f Hb)
 type_at (a ∷ b ∷ c ∷ s) e h n z = absurd (omega arith)
 
-pub type_apart : (s : List ℕ) → (length s ≡ 2 → ⊥) → Nothing ≡ type_of s
+pub type_apart : (s : List ℕ) → (length s ≡ 2 → ⊥) → None ≡ type_of s
 unfolding type_of
 type_apart s h =
     let f : (t : MessageType) → length (type_text t) ≡ 2 → fits (type_text t) s ≡ false = λ t l. fits_apart (type_text t) s (λ e. h (sym e ∙ l)) in
@@ -70,7 +69,7 @@ type_apart s h =
 -- ---- THE LAWS
 
 -- the letters of every type read as that type
-pub type_complete : (t : MessageType) → type_of (type_text t) ≡ Read t
+pub type_complete : (t : MessageType) → type_of (type_text t) ≡ Some t
 unfolding type_of fits is_of
 type_complete Af = refl
 type_complete Az = refl
@@ -108,18 +107,18 @@ type_same To = letters_same 84 79 (λ b. refl) (λ b. refl)
 type_same Hb = letters_same 72 66 (λ b. refl) (λ b. refl)
 
 -- what reads has the letters of the type that was read
-pub type_sound : (s : List ℕ) (t : MessageType) → type_of s ≡ Read t → type_text t ≡ s
+pub type_sound : (s : List ℕ) (t : MessageType) → type_of s ≡ Some t → type_text t ≡ s
 unfolding type_of
 type_sound s t = one Af (one Az (one Dz (one Fz (one Rz (one Tz (one Uz (one Rt (one To (one Hb (λ e. none e))))))))))
   where
-    none : Nothing ≡ Read t → type_text t ≡ s
+    none : None ≡ Some t → type_text t ≡ s
     none e = absurd (let z : ◌≡◌ {A = ℕ} 0 1 = cc in omega arith)
 
-    pass : (b : Bool) (x : MessageType) (r : TypeRead) → (b ≡ true → type_text x ≡ s) → (r ≡ Read t → type_text t ≡ s) → cond b (Read x) r ≡ Read t → type_text t ≡ s
+    pass : (b : Bool) (x : MessageType) (r : Option MessageType) → (b ≡ true → type_text x ≡ s) → (r ≡ Some t → type_text t ≡ s) → cond b (Some x) r ≡ Some t → type_text t ≡ s
     pass true x r f g e = let z : x ≡ t = cc in rw (← z) (f refl)
     pass false x r f g e = g e
 
-    one : (x : MessageType) {r : TypeRead} → (r ≡ Read t → type_text t ≡ s) → cond (fits (type_text x) s) (Read x) r ≡ Read t → type_text t ≡ s
+    one : (x : MessageType) {r : (Option MessageType)} → (r ≡ Some t → type_text t ≡ s) → cond (fits (type_text x) s) (Some x) r ≡ Some t → type_text t ≡ s
     one x {r} g e = pass (fits (type_text x) s) x r (type_same x s) g e
 
 -- ---- writing

@@ -1,9 +1,7 @@
 -- The aircraft (document 01, "Fields"): "optional prefix and slash; type of 2 to 4 alnum; optional slash and letter".
 -- Assumes nothing.
-use Rattle.std.specs.Prelude.{ℕ, ◌≡◌, Bool, true, cond, ◌&&◌, ◌||◌, List, [], ◌⊎◌, eqb, length}
+use Rattle.std.specs.Prelude.{ℕ, ◌≡◌, Bool, true, cond, ◌&&◌, ◌||◌, List, [], ◌⊎◌, eqb, length, None, Option, Some}
 use Rattle.text.specs.Text.{packed, text_of, slashed, join_of}
-use Rattle.text.specs.declared.Packed.{Packed}
-use Rattle.text.specs.declared.Packed.TheVariants as word
 use Rattle.shapes.specs.Cut.{has, before, after}
 use Rattle.rules.specs.Form.{is_prefix, is_model, is_one_letter}
 use Rattle.rules.specs.Kind.{PREFIX, MODEL, LETTER, is_form}
@@ -11,11 +9,7 @@ use Rattle.rules.specs.declared.Rule.{Rule}
 use Rattle.rules.specs.declared.Rule.TheVariants.{New, Old}
 use Rattle.fields.specs.Word.{is_word}
 use Rattle.fields.specs.Pair.{slash, pair_of, pair_text, is_pair, pair_word}
-use Rattle.fields.specs.declared.words.Pair.{Pair}
-use Rattle.fields.specs.declared.words.Pair.TheVariants as pair
 use Rattle.fields.specs.declared.aircraft.Aircraft.{Aircraft}
-use Rattle.fields.specs.declared.aircraft.AircraftRead.{AircraftRead}
-use Rattle.fields.specs.declared.aircraft.AircraftRead.TheVariants.{Read, Nothing}
 
 -- ---- the rule
 
@@ -34,9 +28,9 @@ pub record CutInto (s prefix type letter : List ℕ) : Type 0 where
   pub text : leading prefix (trailing type letter) ≡ s
 
 -- what may be told of s: its parts where it is cut so, and nothing where no way cuts it
-pub data Told (s : List ℕ) : AircraftRead → Type 0 where
-  Parts : (a : Aircraft) → CutInto s (text_of a.prefix) (text_of a.model) (text_of a.letter) → Told s (Read a)
-  Uncut : ((prefix type letter : List ℕ) → CutInto s prefix type letter → ⊥) → Told s Nothing
+pub data Told (s : List ℕ) : Option Aircraft → Type 0 where
+  Parts : (a : Aircraft) → CutInto s (text_of a.prefix) (text_of a.model) (text_of a.letter) → Told s (Some a)
+  Uncut : ((prefix type letter : List ℕ) → CutInto s prefix type letter → ⊥) → Told s None
 
 -- ---- the same of the words that are kept; a prefix or a letter of 0 is none
 
@@ -69,41 +63,41 @@ pub data Case (ρ : Rule) (s : List ℕ) : ℕ → Type 0 where
 
 -- ---- what the reader answers: the reading without a prefix, or else the one with a prefix
 
-abbrev pub with_prefix : ℕ → Pair → AircraftRead
-with_prefix p (pair.Both m l) = Read (record { prefix = p; model = m; letter = l })
-with_prefix p pair.Nothing = Nothing
+abbrev pub with_prefix : ℕ → Option (ℕ × ℕ) → Option Aircraft
+with_prefix p (Some (m, l)) = Some (record { prefix = p; model = m; letter = l })
+with_prefix p None = None
 
-unfoldable pub plain_of : List ℕ → AircraftRead
+unfoldable pub plain_of : List ℕ → Option Aircraft
 plain_of s = with_prefix 0 (pair_of MODEL LETTER s)
 
-unfoldable pub prefixed_of : List ℕ → AircraftRead
-prefixed_of s = cond (has slash s && is_form PREFIX (before slash s)) (with_prefix (packed (before slash s)) (pair_of MODEL LETTER (after slash s))) Nothing
+unfoldable pub prefixed_of : List ℕ → Option Aircraft
+prefixed_of s = cond (has slash s && is_form PREFIX (before slash s)) (with_prefix (packed (before slash s)) (pair_of MODEL LETTER (after slash s))) None
 
-abbrev pub or_else : AircraftRead → AircraftRead → AircraftRead
-or_else (Read a) y = Read a
-or_else Nothing y = y
+abbrev pub or_else : Option Aircraft → Option Aircraft → Option Aircraft
+or_else (Some a) y = Some a
+or_else None y = y
 
-unfoldable pub aircraft_of : List ℕ → AircraftRead
+unfoldable pub aircraft_of : List ℕ → Option Aircraft
 aircraft_of s = or_else (plain_of s) (prefixed_of s)
 
 -- by the rule: "an aircraft field with a last letter .. has no reading there"
-abbrev pub lettered : Rule → AircraftRead → AircraftRead
-lettered ρ (Read a) = cond (is_letter_by ρ a.letter) (Read a) Nothing
-lettered ρ Nothing = Nothing
+abbrev pub lettered : Rule → Option Aircraft → Option Aircraft
+lettered ρ (Some a) = cond (is_letter_by ρ a.letter) (Some a) None
+lettered ρ None = None
 
-unfoldable pub aircraft_by : Rule → List ℕ → AircraftRead
+unfoldable pub aircraft_by : Rule → List ℕ → Option Aircraft
 aircraft_by ρ s = lettered ρ (aircraft_of s)
 
 -- document 01's answer number
-abbrev pub aircraft_answer : AircraftRead → ℕ
-aircraft_answer (Read a) = 0
-aircraft_answer Nothing = 9
+abbrev pub aircraft_answer : Option Aircraft → ℕ
+aircraft_answer (Some a) = 0
+aircraft_answer None = 9
 
 -- ---- the word of the whole text
 
-abbrev pub after_prefix : ℕ → Packed → Packed
-after_prefix p (word.Text t) = cond (eqb p 0) (word.Text t) (join_of p t)
-after_prefix p word.Nothing = word.Nothing
+abbrev pub after_prefix : ℕ → Option ℕ → Option ℕ
+after_prefix p (Some t) = cond (eqb p 0) (Some t) (join_of p t)
+after_prefix p None = None
 
-unfoldable pub aircraft_word : Aircraft → Packed
+unfoldable pub aircraft_word : Aircraft → Option ℕ
 aircraft_word a = after_prefix a.prefix (pair_word a.model a.letter)

@@ -1,14 +1,12 @@
 -- A field of a kind that is held as its text: the word of a text, the words of a kind, and what writing one does.
 -- Assumes nothing.
-use Rattle.std.specs.Prelude.{ℕ, Bool, cond, ◌&&◌, List}
+use Rattle.std.specs.Prelude.{ℕ, Bool, cond, ◌&&◌, List, None, Option, Some}
 use Rattle.text.specs.Text.{packed, text_of, is_packed}
-use Rattle.text.specs.declared.Packed.{Packed}
-use Rattle.text.specs.declared.Packed.TheVariants.{Text, Nothing}
 use Rattle.rules.specs.Kind.{is_form}
 
 -- what is read of s as a field of the kind k
-unfoldable pub word_of : ℕ → List ℕ → Packed
-word_of k s = cond (is_form k s) (Text (packed s)) Nothing
+unfoldable pub word_of : ℕ → List ℕ → Option ℕ
+word_of k s = cond (is_form k s) (Some (packed s)) None
 
 -- t is the word of some text of the kind k
 unfoldable pub is_word : ℕ → ℕ → Bool

@@ -5,9 +5,8 @@ ghost use Rattle.rules.specs.Kind.{MODEL, LETTER};
 ghost use Rattle.fields.specs.Pair.{pair_of};
 ghost use Rattle.fields.specs.Aircraft.{Told, with_prefix, prefixed_of, aircraft_of, aircraft_text, is_aircraft_value, aircraft_word};
 
-use crate::words::Pair;
 use crate::{pairs, words};
-use text::{Packed, Written, writing};
+use text::{NotWritten, writing};
 
 // The model is document 01's type. A prefix or a letter of 0 is none.
 #[derive(Clone, Copy)]
@@ -17,65 +16,55 @@ pub struct Aircraft {
     pub letter: u64,
 }
 
-#[derive(Clone, Copy)]
-pub enum AircraftRead {
-    Read(Aircraft),
-    Nothing,
-}
-
 // The type, and optionally a slash and a letter, after this prefix.
-fn read_after(prefix: u64, s: &[u8]) -> AircraftRead
+fn read_after(prefix: u64, s: &[u8]) -> Option<Aircraft>
     ensures { result ≡ with_prefix prefix (pair_of MODEL LETTER s.now) }
 {
     let pair = pairs::read_pair(rules::MODEL, rules::LETTER, s);
     match pair {
-        Pair::Both(model, letter) => AircraftRead::Read(Aircraft {
+        Some((model, letter)) => Some(Aircraft {
             prefix,
             model,
             letter,
         }),
-        Pair::Nothing => AircraftRead::Nothing,
+        None => None,
     }
 }
 
 // The reading with a prefix.
-fn read_prefixed(s: &[u8]) -> AircraftRead
+fn read_prefixed(s: &[u8]) -> Option<Aircraft>
     ensures { result ≡ prefixed_of s.now }
 {
     let i = shapes::find(b'/', s);
     if i >= s.len() {
-        return AircraftRead::Nothing;
+        return None;
     }
-    let Packed::Text(prefix) = words::read(rules::PREFIX, &s[..i]) else {
-        return AircraftRead::Nothing;
-    };
+    let prefix = words::read(rules::PREFIX, &s[..i])?;
     let j = i + 1;
     read_after(prefix, &s[j..])
 }
 
 // The word of the whole text.
-fn word(a: Aircraft) -> Packed
+fn word(a: Aircraft) -> Option<u64>
     ensures { result ≡ aircraft_word a }
 {
-    let Packed::Text(tail) = pairs::pair_word(a.model, a.letter) else {
-        return Packed::Nothing;
-    };
+    let tail = pairs::pair_word(a.model, a.letter)?;
     if a.prefix == 0 {
-        return Packed::Text(tail);
+        return Some(tail);
     }
     writing::join(a.prefix, tail)
 }
 
 impl Aircraft {
     // No text has two different readings (`proofs/Single.one_reading`), so the one that is found is enough.
-    pub fn read(s: &[u8]) -> AircraftRead
+    pub fn read(s: &[u8]) -> Option<Aircraft>
         ensures value { result ≡ aircraft_of s.now }
         ensures told { Told s.now result }
     {
-        let AircraftRead::Read(plain) = read_after(0, s) else {
+        let Some(plain) = read_after(0, s) else {
             return read_prefixed(s);
         };
-        AircraftRead::Read(plain)
+        Some(plain)
     }
 
     pub fn holds(self) -> bool
@@ -90,17 +79,17 @@ impl Aircraft {
         words::holds(rules::PREFIX, self.prefix)
     }
 
-    pub fn put(self, out: &mut [u8], at: usize) -> Written
+    pub fn put(self, out: &mut [u8], at: usize) -> Result<usize, NotWritten>
         ensures value { result ≡ written_next (is_aircraft_value self) (aircraft_text self) out.old at }
         ensures out_after { out.new ≡ written_bytes (is_aircraft_value self) (aircraft_text self) out.old at }
     {
         if !self.holds() {
-            return Written::NoText;
+            return Err(NotWritten::NoText);
         }
         let whole = word(self);
         match whole {
-            Packed::Text(t) => writing::put(t, out, at),
-            Packed::Nothing => Written::NoText,
+            Some(t) => writing::put(t, out, at),
+            None => Err(NotWritten::NoText),
         }
     }
 }

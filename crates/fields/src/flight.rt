@@ -5,26 +5,17 @@ ghost use Rattle.fields.specs.Word.{word_of, is_word};
 ghost use Rattle.fields.specs.Typed.{as_key};
 
 use crate::words;
-use text::Packed;
 
 // A flight's key, the part of its ident before the slash: a letter and one to six alnum.
 #[derive(Clone, Copy)]
 pub struct Key(pub u64);
 
-#[derive(Clone, Copy)]
-pub enum KeyRead {
-    Read(Key),
-    Nothing,
-}
-
 impl Key {
-    pub fn read(s: &[u8]) -> KeyRead
+    pub fn read(s: &[u8]) -> Option<Key>
         ensures { result ≡ as_key (word_of KEY s.now) }
     {
-        let Packed::Text(t) = words::read(rules::KEY, s) else {
-            return KeyRead::Nothing;
-        };
-        KeyRead::Read(Key(t))
+        let t = words::read(rules::KEY, s)?;
+        Some(Key(t))
     }
 
     pub fn holds(self) -> bool

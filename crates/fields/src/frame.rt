@@ -8,7 +8,7 @@ ghost use Rattle.fields.specs.Typed.{as_sequence, as_stamp};
 
 use crate::words;
 use rules::{BODY_AT, OLD_BODY_AT, Rule};
-use text::{Packed, Written};
+use text::NotWritten;
 
 // The body begins after this many bytes.
 pub fn body_at(rule: Rule) -> usize
@@ -24,20 +24,12 @@ pub fn body_at(rule: Rule) -> usize
 #[derive(Clone, Copy)]
 pub struct Sequence(pub u64);
 
-#[derive(Clone, Copy)]
-pub enum SequenceRead {
-    Read(Sequence),
-    Nothing,
-}
-
 impl Sequence {
-    pub fn read(s: &[u8]) -> SequenceRead
+    pub fn read(s: &[u8]) -> Option<Sequence>
         ensures { result ≡ as_sequence (word_of SEQUENCE s.now) }
     {
-        let Packed::Text(t) = words::read(rules::SEQUENCE, s) else {
-            return SequenceRead::Nothing;
-        };
-        SequenceRead::Read(Sequence(t))
+        let t = words::read(rules::SEQUENCE, s)?;
+        Some(Sequence(t))
     }
 
     pub fn holds(self) -> bool
@@ -46,7 +38,7 @@ impl Sequence {
         words::holds(rules::SEQUENCE, self.0)
     }
 
-    pub fn put(self, out: &mut [u8], at: usize) -> Written
+    pub fn put(self, out: &mut [u8], at: usize) -> Result<usize, NotWritten>
         ensures value { result ≡ written_next (is_word SEQUENCE self.0) (text_of self.0) out.old at }
         ensures out_after { out.new ≡ written_bytes (is_word SEQUENCE self.0) (text_of self.0) out.old at }
     {
@@ -66,20 +58,12 @@ pub struct Center(pub u64);
 #[derive(Clone, Copy)]
 pub struct Stamp(pub u64);
 
-#[derive(Clone, Copy)]
-pub enum StampRead {
-    Read(Stamp),
-    Nothing,
-}
-
 impl Stamp {
-    pub fn read(s: &[u8]) -> StampRead
+    pub fn read(s: &[u8]) -> Option<Stamp>
         ensures { result ≡ as_stamp (word_of STAMP s.now) }
     {
-        let Packed::Text(t) = words::read(rules::STAMP, s) else {
-            return StampRead::Nothing;
-        };
-        StampRead::Read(Stamp(t))
+        let t = words::read(rules::STAMP, s)?;
+        Some(Stamp(t))
     }
 
     pub fn holds(self) -> bool
@@ -88,7 +72,7 @@ impl Stamp {
         words::holds(rules::STAMP, self.0)
     }
 
-    pub fn put(self, out: &mut [u8], at: usize) -> Written
+    pub fn put(self, out: &mut [u8], at: usize) -> Result<usize, NotWritten>
         ensures value { result ≡ written_next (is_word STAMP self.0) (text_of self.0) out.old at }
         ensures out_after { out.new ≡ written_bytes (is_word STAMP self.0) (text_of self.0) out.old at }
     {

@@ -4,7 +4,7 @@ ghost use Rattle.text.specs.Text.{written_next, written_bytes};
 ghost use Rattle.fields.specs.Facility.{facility_of, facility_text, is_facility_value};
 ghost use Rattle.fields.specs.MessageType.{type_of, type_text, type_number};
 
-use text::Written;
+use text::NotWritten;
 use text::writing::put_bytes;
 
 // Four bytes as one number to the base 256.
@@ -21,20 +21,14 @@ const LAST_FACILITY: u64 = 0xFFFFFFFF;
 #[derive(Clone, Copy)]
 pub struct Facility(pub u64);
 
-#[derive(Clone, Copy)]
-pub enum FacilityRead {
-    Read(Facility),
-    Nothing,
-}
-
 impl Facility {
-    pub fn read(s: &[u8]) -> FacilityRead
+    pub fn read(s: &[u8]) -> Option<Facility>
         ensures { result ≡ facility_of s.now }
     {
         if !rules::is_facility(s) {
-            return FacilityRead::Nothing;
+            return None;
         }
-        FacilityRead::Read(Facility(joined(s[0], s[1], s[2], s[3]) as u64))
+        Some(Facility(joined(s[0], s[1], s[2], s[3]) as u64))
     }
 
     // Its four bytes.
@@ -61,12 +55,12 @@ impl Facility {
         rules::is_facility(&room)
     }
 
-    pub fn put(self, out: &mut [u8], at: usize) -> Written
+    pub fn put(self, out: &mut [u8], at: usize) -> Result<usize, NotWritten>
         ensures value { result ≡ written_next (is_facility_value self.0) (facility_text self.0) out.old at }
         ensures out_after { out.new ≡ written_bytes (is_facility_value self.0) (facility_text self.0) out.old at }
     {
         if !self.holds() {
-            return Written::NoText;
+            return Err(NotWritten::NoText);
         }
         let bytes = self.bytes();
         put_bytes(&bytes, out, at)
@@ -86,12 +80,6 @@ pub enum MessageType {
     Rt,
     To,
     Hb,
-}
-
-#[derive(Clone, Copy)]
-pub enum TypeRead {
-    Read(MessageType),
-    Nothing,
 }
 
 // The two letters of each type, as a number to the base 256.
@@ -116,25 +104,25 @@ const TO: u32 = 0x544F;
 const HB: u32 = 0x4842;
 
 impl MessageType {
-    pub fn read(s: &[u8]) -> TypeRead
+    pub fn read(s: &[u8]) -> Option<MessageType>
         ensures { result ≡ type_of s.now }
     {
         if s.len() != 2 {
-            return TypeRead::Nothing;
+            return None;
         }
         let letters = joined(0, 0, s[0], s[1]);
         match letters {
-            AF => TypeRead::Read(MessageType::Af),
-            AZ => TypeRead::Read(MessageType::Az),
-            DZ => TypeRead::Read(MessageType::Dz),
-            FZ => TypeRead::Read(MessageType::Fz),
-            RZ => TypeRead::Read(MessageType::Rz),
-            TZ => TypeRead::Read(MessageType::Tz),
-            UZ => TypeRead::Read(MessageType::Uz),
-            RT => TypeRead::Read(MessageType::Rt),
-            TO => TypeRead::Read(MessageType::To),
-            HB => TypeRead::Read(MessageType::Hb),
-            _ => TypeRead::Nothing,
+            AF => Some(MessageType::Af),
+            AZ => Some(MessageType::Az),
+            DZ => Some(MessageType::Dz),
+            FZ => Some(MessageType::Fz),
+            RZ => Some(MessageType::Rz),
+            TZ => Some(MessageType::Tz),
+            UZ => Some(MessageType::Uz),
+            RT => Some(MessageType::Rt),
+            TO => Some(MessageType::To),
+            HB => Some(MessageType::Hb),
+            _ => None,
         }
     }
 
@@ -156,7 +144,7 @@ impl MessageType {
     }
 
     // Every type has a text, so only the room is asked.
-    pub fn put(self, out: &mut [u8], at: usize) -> Written
+    pub fn put(self, out: &mut [u8], at: usize) -> Result<usize, NotWritten>
         ensures value { result ≡ written_next true (type_text self) out.old at }
         ensures out_after { out.new ≡ written_bytes true (type_text self) out.old at }
     {

@@ -5,8 +5,7 @@ ghost use Rattle.fields.specs.Ident.{ident_of, tz_ident_of, ident_text, is_ident
 
 use crate::flight::{ComputerNumber, Key};
 use crate::pairs;
-use crate::words::Pair;
-use text::Written;
+use text::NotWritten;
 
 // A number of 0 is none.
 #[derive(Clone, Copy)]
@@ -15,42 +14,36 @@ pub struct Ident {
     pub number: ComputerNumber,
 }
 
-#[derive(Clone, Copy)]
-pub enum IdentRead {
-    Read(Ident),
-    Nothing,
-}
-
 impl Ident {
-    pub fn read(s: &[u8]) -> IdentRead
+    pub fn read(s: &[u8]) -> Option<Ident>
         ensures { result ≡ ident_of s.now }
     {
         let pair = pairs::read_pair(rules::KEY, rules::NUMBER, s);
         match pair {
-            Pair::Both(k, n) => IdentRead::Read(Ident {
+            Some((k, n)) => Some(Ident {
                 key: Key(k),
                 number: ComputerNumber(n),
             }),
-            Pair::Nothing => IdentRead::Nothing,
+            None => None,
         }
     }
 
     // In a TZ the number is required.
-    pub fn read_tz(s: &[u8]) -> IdentRead
+    pub fn read_tz(s: &[u8]) -> Option<Ident>
         ensures { result ≡ tz_ident_of s.now }
     {
         let pair = pairs::read_pair(rules::KEY, rules::NUMBER, s);
         match pair {
-            Pair::Both(k, n) => {
+            Some((k, n)) => {
                 if n == 0 {
-                    return IdentRead::Nothing;
+                    return None;
                 }
-                IdentRead::Read(Ident {
+                Some(Ident {
                     key: Key(k),
                     number: ComputerNumber(n),
                 })
             }
-            Pair::Nothing => IdentRead::Nothing,
+            None => None,
         }
     }
 
@@ -62,7 +55,7 @@ impl Ident {
         pairs::holds_pair(rules::KEY, rules::NUMBER, key.0, number.0)
     }
 
-    pub fn put(self, out: &mut [u8], at: usize) -> Written
+    pub fn put(self, out: &mut [u8], at: usize) -> Result<usize, NotWritten>
         ensures value { result ≡ written_next (is_ident_value self) (ident_text self) out.old at }
         ensures out_after { out.new ≡ written_bytes (is_ident_value self) (ident_text self) out.old at }
     {

@@ -5,7 +5,6 @@ ghost use Rattle.fields.specs.Word.{word_of, is_word};
 ghost use Rattle.fields.specs.Typed.{as_time};
 
 use crate::words;
-use text::Packed;
 
 // A filed speed: 2 to 4 digits, or a letter and 3 digits (Mach), or SC.
 #[derive(Clone, Copy)]
@@ -31,20 +30,12 @@ pub struct Fix(pub u64);
 #[derive(Clone, Copy)]
 pub struct Time(pub u64);
 
-#[derive(Clone, Copy)]
-pub enum TimeRead {
-    Read(Time),
-    Nothing,
-}
-
 impl Time {
-    pub fn read(s: &[u8]) -> TimeRead
+    pub fn read(s: &[u8]) -> Option<Time>
         ensures { result ≡ as_time (word_of TIME s.now) }
     {
-        let Packed::Text(t) = words::read(rules::TIME, s) else {
-            return TimeRead::Nothing;
-        };
-        TimeRead::Read(Time(t))
+        let t = words::read(rules::TIME, s)?;
+        Some(Time(t))
     }
 }
 

@@ -4,16 +4,16 @@ ghost use Rattle.std.specs.Prelude.{◌≡◌};
 ghost use Rattle.text.specs.Text.{text_of, written_next, written_bytes};
 ghost use Rattle.fields.specs.Word.{word_of, is_word};
 
-use text::{Packed, Written, writing};
+use text::{NotWritten, writing};
 
 // The word of s, where s has the form of the kind.
-pub fn read(kind: u8, s: &[u8]) -> Packed
+pub fn read(kind: u8, s: &[u8]) -> Option<u64>
     ensures { result ≡ word_of kind s.now }
 {
     if rules::is_form(kind, s) {
-        Packed::Text(text::pack_known(s))
+        Some(text::pack_known(s))
     } else {
-        Packed::Nothing
+        None
     }
 }
 
@@ -24,27 +24,19 @@ pub fn holds(kind: u8, t: u64) -> bool
     let mut room = [0u8; 12];
     let written = writing::put(t, &mut room, 0);
     match written {
-        Written::Next(n) => rules::is_form(kind, &room[..n]),
-        Written::NoRoom => false,
-        Written::NoText => false,
+        Ok(n) => rules::is_form(kind, &room[..n]),
+        Err(_) => false,
     }
 }
 
 // Writes the text of a word of the kind from place `at`.
-pub fn put(kind: u8, t: u64, out: &mut [u8], at: usize) -> Written
+pub fn put(kind: u8, t: u64, out: &mut [u8], at: usize) -> Result<usize, NotWritten>
     ensures value { result ≡ written_next (is_word kind t) (text_of t) out.old at }
     ensures out_after { out.new ≡ written_bytes (is_word kind t) (text_of t) out.old at }
 {
     if holds(kind, t) {
         writing::put(t, out, at)
     } else {
-        Written::NoText
+        Err(NotWritten::NoText)
     }
-}
-
-// What is read of two words in one field; the second is 0 where there is none.
-#[derive(Clone, Copy)]
-pub enum Pair {
-    Both(u64, u64),
-    Nothing,
 }

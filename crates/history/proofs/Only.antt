@@ -1,5 +1,6 @@
 -- The customer's words leave no choice: whatever has the meaning of 'taken' is what is answered 0, and rows that show
 -- what a history says are those after it. Assumes nothing.
+use Rattle.std.specs.Prelude.{None, Some}
 use Prim.Native.Nat.{ℕ}
 use mathlib.Core.Logic.{◌↔◌, ◌⊎◌, inl, inr}
 use mathlib.Core.Path.{◌≡◌, refl, sym, ap, ◌∙◌}
@@ -12,10 +13,6 @@ use Rattle.board.specs.Rows.{key_of, lookup, look_row}
 use Rattle.board.specs.declared.rows.Row.{Row}
 use Rattle.board.specs.declared.rows.Arrival.{Arrival}
 use Rattle.board.specs.declared.rows.Track.{Track}
-use Rattle.board.specs.declared.rows.ArrivalSlot.{ArrivalSlot}
-use Rattle.board.specs.declared.rows.ArrivalSlot.TheVariants as arrival
-use Rattle.board.specs.declared.rows.TrackSlot.{TrackSlot}
-use Rattle.board.specs.declared.rows.TrackSlot.TheVariants as track
 use Rattle.history.specs.Events.{Event, dz, az, tz, other, unread, strike, misnamed, History, start, ◌then◌}
 use Rattle.history.specs.Demand.{StrikeOf, TakenArrival, TakenTrack, TakenDz, Readable, read_dz, read_az, read_tz, read_other, no_reading, no_key, ◌⊑◌, whole, more, Stands, Listed, ArrivalOf, TrackOf, MeetsFull, Meaning}
 use Rattle.history.specs.Promise.{Shows, Taken}
@@ -95,15 +92,15 @@ key_shown k (x ∷ xs) r e = go (eqb (key_of x) k) refl e (key_shown k xs r)
     go true t q ih = let s : x ≡ r = cc in ap key_of (sym s) ∙ eqb-true (key_of x) k t
     go false t q ih = ih q
 
-same_arrival : (s t : ArrivalSlot) → ((a : Arrival) → s ≡ arrival.Entry a → t ≡ arrival.Entry a) → ((a : Arrival) → t ≡ arrival.Entry a → s ≡ arrival.Entry a) → s ≡ t
-same_arrival arrival.Empty arrival.Empty f g = refl
-same_arrival arrival.Empty (arrival.Entry a) f g = g a refl
-same_arrival (arrival.Entry a) t f g = sym (f a refl)
+same_arrival : (s t : Option Arrival) → ((a : Arrival) → s ≡ Some a → t ≡ Some a) → ((a : Arrival) → t ≡ Some a → s ≡ Some a) → s ≡ t
+same_arrival None None f g = refl
+same_arrival None (Some a) f g = g a refl
+same_arrival (Some a) t f g = sym (f a refl)
 
-same_track : (s t : TrackSlot) → ((u : Track) → s ≡ track.Entry u → t ≡ track.Entry u) → ((u : Track) → t ≡ track.Entry u → s ≡ track.Entry u) → s ≡ t
-same_track track.Empty track.Empty f g = refl
-same_track track.Empty (track.Entry u) f g = g u refl
-same_track (track.Entry u) t f g = sym (f u refl)
+same_track : (s t : Option Track) → ((u : Track) → s ≡ Some u → t ≡ Some u) → ((u : Track) → t ≡ Some u → s ≡ Some u) → s ≡ t
+same_track None None f g = refl
+same_track None (Some u) f g = g u refl
+same_track (Some u) t f g = sym (f u refl)
 
 same_row : (r s : Row) → key_of r ≡ key_of s → r.arrival ≡ s.arrival → r.track ≡ s.track → r ≡ s
 same_row r s p q w = λ x. record { key = record { 0 = p x }; arrival = q x; track = w x }

@@ -1,5 +1,6 @@
 -- After every history each key shows what the customer's words say of its flight: listed or not, its arrival entry, its
 -- track. Assumes nothing.
+use Rattle.std.specs.Prelude.{None, Some}
 use Prim.Native.Nat.{ℕ}
 use mathlib.Core.Logic.{◌↔◌, ◌⊎◌, inl, inr}
 use mathlib.Core.Path.{◌≡◌, refl, sym, ap, ◌∙◌}
@@ -9,10 +10,6 @@ use Rattle.board.specs.Rows.{lookup, look_row, is_listed}
 use Rattle.board.specs.declared.rows.Row.{Row}
 use Rattle.board.specs.declared.rows.Arrival.{Arrival}
 use Rattle.board.specs.declared.rows.Track.{Track}
-use Rattle.board.specs.declared.rows.ArrivalSlot.{ArrivalSlot}
-use Rattle.board.specs.declared.rows.ArrivalSlot.TheVariants as arrival
-use Rattle.board.specs.declared.rows.TrackSlot.{TrackSlot}
-use Rattle.board.specs.declared.rows.TrackSlot.TheVariants as track
 use Rattle.history.specs.Events.{Event, dz, az, tz, other, unread, strike, misnamed, History, ◌then◌}
 use Rattle.history.specs.Steps.{after}
 use Rattle.history.specs.Demand.{DzAz, a_dz, an_az, Dz, the_dz, Tz, the_tz, For, for_dz, for_az, for_tz, StrikeOf, TakenFor, TakenArrival, TakenTrack, TakenDz, Listed, ArrivalOf, TrackOf}
@@ -63,30 +60,30 @@ not_both o a p q = clash (cc)
 
 -- ---- what stands in a slot
 
-abbrev entry_in : ArrivalSlot → Option Arrival
-entry_in arrival.Empty = none
-entry_in (arrival.Entry a) = some a
+abbrev entry_in : Option Arrival → Option Arrival
+entry_in None = none
+entry_in (Some a) = some a
 
-abbrev spot_in : TrackSlot → Option Track
-spot_in track.Empty = none
-spot_in (track.Entry t) = some t
+abbrev spot_in : Option Track → Option Track
+spot_in None = none
+spot_in (Some t) = some t
 
-entry_is : (s : ArrivalSlot) (a : Arrival) → (s ≡ arrival.Entry a) ↔ (entry_in s ≡ some a)
-entry_is arrival.Empty a = (λ q. cc, λ q. cc)
-entry_is (arrival.Entry b) a = (λ q. cc, λ q. let s : b ≡ a = cc in ap arrival.Entry s)
+entry_is : (s : Option Arrival) (a : Arrival) → (s ≡ Some a) ↔ (entry_in s ≡ some a)
+entry_is None a = (λ q. cc, λ q. cc)
+entry_is (Some b) a = (λ q. cc, λ q. let s : b ≡ a = cc in ap Some s)
 
-spot_is : (s : TrackSlot) (t : Track) → (s ≡ track.Entry t) ↔ (spot_in s ≡ some t)
-spot_is track.Empty t = (λ q. cc, λ q. cc)
-spot_is (track.Entry u) t = (λ q. cc, λ q. let s : u ≡ t = cc in ap track.Entry s)
+spot_is : (s : Option Track) (t : Track) → (s ≡ Some t) ↔ (spot_in s ≡ some t)
+spot_is None t = (λ q. cc, λ q. cc)
+spot_is (Some u) t = (λ q. cc, λ q. let s : u ≡ t = cc in ap Some s)
 
 -- a slot is empty exactly if it has none of the entries that it can have
-empty_arrival : (P : Arrival → Type 0) (s : ArrivalSlot) → ((a : Arrival) → (s ≡ arrival.Entry a) ↔ P a) → (s ≡ arrival.Empty) ↔ ((a : Arrival) → P a → ⊥)
-empty_arrival P arrival.Empty f = (λ q a p. let e = (f a).1 p in clash (cc), λ n. refl)
-empty_arrival P (arrival.Entry b) f = (λ q. clash (cc), λ n. absurd (n b ((f b).0 refl)))
+empty_arrival : (P : Arrival → Type 0) (s : Option Arrival) → ((a : Arrival) → (s ≡ Some a) ↔ P a) → (s ≡ None) ↔ ((a : Arrival) → P a → ⊥)
+empty_arrival P None f = (λ q a p. let e = (f a).1 p in clash (cc), λ n. refl)
+empty_arrival P (Some b) f = (λ q. clash (cc), λ n. absurd (n b ((f b).0 refl)))
 
-empty_track : (P : Track → Type 0) (s : TrackSlot) → ((t : Track) → (s ≡ track.Entry t) ↔ P t) → (s ≡ track.Empty) ↔ ((t : Track) → P t → ⊥)
-empty_track P track.Empty f = (λ q t p. let e = (f t).1 p in clash (cc), λ n. refl)
-empty_track P (track.Entry u) f = (λ q. clash (cc), λ n. absurd (n u ((f u).0 refl)))
+empty_track : (P : Track → Type 0) (s : Option Track) → ((t : Track) → (s ≡ Some t) ↔ P t) → (s ≡ None) ↔ ((t : Track) → P t → ⊥)
+empty_track P None f = (λ q t p. let e = (f t).1 p in clash (cc), λ n. refl)
+empty_track P (Some u) f = (λ q. clash (cc), λ n. absurd (n u ((f u).0 refl)))
 
 -- ---- listed
 
@@ -181,13 +178,13 @@ module _ (k : ℕ) where
     again = λ h e a b p n. absurd (n (inr (b, p)));
   }
 
-  pub arrival_is : (h : History) (a : Arrival) → ((look_row k (after h)).arrival ≡ arrival.Entry a) ↔ ArrivalOf Taken k a h
+  pub arrival_is : (h : History) (a : Arrival) → ((look_row k (after h)).arrival ≡ Some a) ↔ ArrivalOf Taken k a h
   arrival_is h a =
       let s = entry_is (look_row k (after h)).arrival a in
       let t = stands (TakenArrival Taken k) ArrivalEnds entry_after arrival_follows h a in
       (λ q. t.0 (s.0 q), λ l. s.1 (t.1 l))
 
-  pub arrival_none : (h : History) → ((look_row k (after h)).arrival ≡ arrival.Empty) ↔ ((a : Arrival) → ArrivalOf Taken k a h → ⊥)
+  pub arrival_none : (h : History) → ((look_row k (after h)).arrival ≡ None) ↔ ((a : Arrival) → ArrivalOf Taken k a h → ⊥)
   arrival_none h = empty_arrival (λ a. ArrivalOf Taken k a h) (look_row k (after h)).arrival (arrival_is h)
 
   -- ---- the track
@@ -239,11 +236,11 @@ module _ (k : ℕ) where
     again = λ h e a b p n. absurd (n (inr (inl (b, p))));
   }
 
-  pub track_is : (h : History) (t : Track) → ((look_row k (after h)).track ≡ track.Entry t) ↔ TrackOf Taken k t h
+  pub track_is : (h : History) (t : Track) → ((look_row k (after h)).track ≡ Some t) ↔ TrackOf Taken k t h
   track_is h t =
       let s = spot_is (look_row k (after h)).track t in
       let u = stands (TakenTrack Taken k) TrackEnds spot_after track_follows h t in
       (λ q. u.0 (s.0 q), λ l. s.1 (u.1 l))
 
-  pub track_none : (h : History) → ((look_row k (after h)).track ≡ track.Empty) ↔ ((t : Track) → TrackOf Taken k t h → ⊥)
+  pub track_none : (h : History) → ((look_row k (after h)).track ≡ None) ↔ ((t : Track) → TrackOf Taken k t h → ⊥)
   track_none h = empty_track (λ t. TrackOf Taken k t h) (look_row k (after h)).track (track_is h)

@@ -1,13 +1,11 @@
 -- Demand 3: what the rows are after any run of lines and strikes from an empty board, against the customer's words.
 -- Assumes nothing.
-use Rattle.std.specs.Prelude.{ℕ, ◌≤◌, ◌↔◌, ◌≡◌, true, List, length}
+use Rattle.std.specs.Prelude.{ℕ, ◌≤◌, ◌↔◌, ◌≡◌, true, List, length, None, Some}
 use Rattle.std.proofs.Math.Option.{some}
 use Rattle.board.specs.Rows.{is_board, Rising, lookup, look_row, is_listed}
 use Rattle.board.specs.declared.rows.Row.{Row}
 use Rattle.board.specs.declared.rows.Arrival.{Arrival}
 use Rattle.board.specs.declared.rows.Track.{Track}
-use Rattle.board.specs.declared.rows.ArrivalSlot.TheVariants as arrival
-use Rattle.board.specs.declared.rows.TrackSlot.TheVariants as track
 use Rattle.history.specs.Events.{Event, History, ◌then◌, all_events}
 use Rattle.history.specs.Steps.{Took, Refused, NoRoom, NotListed, answer, after}
 use Rattle.history.specs.Demand.{About, StrikeOf, Senseless, Listed, ArrivalOf, TrackOf, MeetsFull, Meaning}
@@ -18,11 +16,11 @@ pub record Shows (Taken : History → Event → Type 0) (rs : List Row) (h : His
   pub listed : (k : ℕ) → (is_listed rs k ≡ true) ↔ Listed Taken k h
   pub row : (k : ℕ) → ((r : Row) × (lookup k rs ≡ some r)) ↔ Listed Taken k h
   -- "its arrival entry is that of the latest such DZ or AZ, or none"
-  pub the_arrival : (k : ℕ) (a : Arrival) → ((look_row k rs).arrival ≡ arrival.Entry a) ↔ ArrivalOf Taken k a h
-  pub no_arrival : (k : ℕ) → ((look_row k rs).arrival ≡ arrival.Empty) ↔ ((a : Arrival) → ArrivalOf Taken k a h → ⊥)
+  pub the_arrival : (k : ℕ) (a : Arrival) → ((look_row k rs).arrival ≡ Some a) ↔ ArrivalOf Taken k a h
+  pub no_arrival : (k : ℕ) → ((look_row k rs).arrival ≡ None) ↔ ((a : Arrival) → ArrivalOf Taken k a h → ⊥)
   -- "its track is that of the latest such TZ, and it has none if there is no such TZ or such a DZ came after it"
-  pub the_track : (k : ℕ) (t : Track) → ((look_row k rs).track ≡ track.Entry t) ↔ TrackOf Taken k t h
-  pub no_track : (k : ℕ) → ((look_row k rs).track ≡ track.Empty) ↔ ((t : Track) → TrackOf Taken k t h → ⊥)
+  pub the_track : (k : ℕ) (t : Track) → ((look_row k rs).track ≡ Some t) ↔ TrackOf Taken k t h
+  pub no_track : (k : ℕ) → ((look_row k rs).track ≡ None) ↔ ((t : Track) → TrackOf Taken k t h → ⊥)
   -- "One row per listed flight, at most 256, in byte order of the key"
   pub rising : Rising rs
   pub room : length rs ≤ 256

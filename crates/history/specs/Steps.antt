@@ -1,12 +1,10 @@
 -- What a line or a strike makes of the rows, and what it is answered; and the rows after a run of them from an empty
 -- board. Assumes nothing.
-use Rattle.std.specs.Prelude.{ℕ, cond, List, []}
+use Rattle.std.specs.Prelude.{ℕ, cond, List, [], None, Some}
 use Rattle.board.specs.Rows.{key_of, look_row, written, fits, struck, is_listed}
 use Rattle.board.specs.declared.rows.Row.{Row}
 use Rattle.board.specs.declared.rows.Arrival.{Arrival}
 use Rattle.board.specs.declared.rows.Track.{Track}
-use Rattle.board.specs.declared.rows.ArrivalSlot.TheVariants as arrival
-use Rattle.board.specs.declared.rows.TrackSlot.TheVariants as track
 use Rattle.history.specs.Events.{Event, dz, az, tz, other, unread, strike, misnamed, History, start, ◌then◌}
 
 -- taken; without a reading, or no key; board full; flight not listed
@@ -20,15 +18,15 @@ pub data Answer : Type 0 where
 
 -- "DZ writes the arrival entry and empties the track"
 abbrev pub by_dz : ℕ → Arrival → Row → Row
-by_dz k a r = record { key = record { 0 = k }; arrival = arrival.Entry a; track = track.Empty }
+by_dz k a r = record { key = record { 0 = k }; arrival = Some a; track = None }
 
 -- "AZ writes the arrival entry"
 abbrev pub by_az : ℕ → Arrival → Row → Row
-by_az k a r = record { key = record { 0 = k }; arrival = arrival.Entry a; track = r.track }
+by_az k a r = record { key = record { 0 = k }; arrival = Some a; track = r.track }
 
 -- "TZ writes the track"
 abbrev pub by_tz : ℕ → Track → Row → Row
-by_tz k t r = record { key = record { 0 = k }; arrival = r.arrival; track = track.Entry t }
+by_tz k t r = record { key = record { 0 = k }; arrival = r.arrival; track = Some t }
 
 -- ---- what an event asks of the rows: to write a row, to strike a flight off, or nothing, and what is answered then
 

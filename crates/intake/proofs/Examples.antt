@@ -26,13 +26,12 @@ use Rattle.printer.specs.Text.{board_text, counts_text}
 use Rattle.feeding.specs.Tally.{rows_by, taken_by, line_feeds}
 use Rattle.reports.specs.Report.{most_lines, report_of}
 use Rattle.reports.proofs.Joins.{read_empty}
-use Rattle.std.specs.Prelude.{IsOk, IsUtf8, Some}
+use Rattle.std.specs.Prelude.{IsOk, IsUtf8, Some, None}
 use Rattle.intake.specs.Ends.{source_fd, target_fd}
 use Rattle.intake.specs.declared.ends.Source.TheVariants as source
 use Rattle.intake.specs.declared.ends.Target.TheVariants as target
 use Rattle.intake.specs.Day.{is_torn}
 use Rattle.intake.specs.Options.{AsksOld, AsksRefused, AsksNothing}
-use Rattle.intake.specs.declared.words.OptionRead.TheVariants.{Asks, Nothing}
 use Rattle.intake.proofs.Options.{asks_one}
 use Rattle.intake.proofs.input.is_barren.Reads as is-barren
 use Rattle.intake.proofs.input.is_live.Reads as is_live
@@ -86,13 +85,13 @@ pub hyphen_inside_is_an_option : (κs : _) (a : _) (r : _) (s : _) → is-option
 hyphen_inside_is_an_option κs a r s p e = p ∙ rw e
 
 -- --old asks for the old feed, after --refused too, and no other word does
-pub old_reads_the_feed : (κs : _) (a : _) (r : _) (s : _) → option.Post κs a r s → a.0 ≡ record { rule = New; refused = true } → a.1.0.now ≡ bytes "--old" → r ≡ Asks (record { rule = Old; refused = true })
+pub old_reads_the_feed : (κs : _) (a : _) (r : _) (s : _) → option.Post κs a r s → a.0 ≡ record { rule = New; refused = true } → a.1.0.now ≡ bytes "--old" → r ≡ Some (record { rule = Old; refused = true })
 old_reads_the_feed κs a r s p e f = asks_one a.0 a.1.0.now p (rw (e, f) (AsksOld refl refl))
 
-pub refused_reads_the_old_feed : (κs : _) (a : _) (r : _) (s : _) → option.Post κs a r s → a.0 ≡ record { rule = New; refused = false } → a.1.0.now ≡ bytes "--refused" → r ≡ Asks (record { rule = New; refused = true })
+pub refused_reads_the_old_feed : (κs : _) (a : _) (r : _) (s : _) → option.Post κs a r s → a.0 ≡ record { rule = New; refused = false } → a.1.0.now ≡ bytes "--refused" → r ≡ Some (record { rule = New; refused = true })
 refused_reads_the_old_feed κs a r s p e f = asks_one a.0 a.1.0.now p (rw (e, f) (AsksRefused refl refl))
 
-pub old_twice : (κs : _) (a : _) (r : _) (s : _) → option.Post κs a r s → a.0 ≡ record { rule = Old; refused = false } → a.1.0.now ≡ bytes "--old" → r ≡ Nothing
+pub old_twice : (κs : _) (a : _) (r : _) (s : _) → option.Post κs a r s → a.0 ≡ record { rule = Old; refused = false } → a.1.0.now ≡ bytes "--old" → r ≡ None
 old_twice κs a r s p e f = asks_one a.0 a.1.0.now p (rw (e, f) (AsksNothing (λ _. refl) (λ z. absurd (omega (arith, ap length z)))))
 
 -- a read that is live brought something, and no more than its block holds

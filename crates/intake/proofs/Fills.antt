@@ -1,4 +1,5 @@
 -- The report in a buffer: written where it has room, and nothing else counts as one. Assumes nothing.
+use Rattle.std.specs.Prelude.{Err, Ok, Result}
 use mathlib.Core.Path.{◌≡◌, sym, ◌∙◌}
 use mathlib.Core.Bool.{true}
 use mathlib.Core.List.{List, [], ◌∷◌}
@@ -8,14 +9,10 @@ use lib.ListN.{length}
 use denote.Enum.Declared.{tag_of}
 use types.Run.{OneOf, miss}
 use Rattle.text.specs.Text.{spliced}
-use Rattle.text.specs.declared.Written.{Written}
-use Rattle.text.specs.declared.Written.TheVariants as written
 use Rattle.text.specs.contracts.Written.{the_type as the_written}
 use Rattle.text.proofs.Wrote.{next_inside}
 use Rattle.printer.specs.Text.{counts_text}
 use Rattle.printer.specs.Print.{text_in}
-use Rattle.printer.specs.declared.Printed.{Printed}
-use Rattle.printer.specs.declared.Printed.TheVariants as printed
 use Rattle.printer.specs.contracts.Printed.{the_type as the-printed}
 use Rattle.reports.specs.Report.{most_lines, report_of}
 use Rattle.reports.specs.Run.{Prints, Counts}
@@ -23,43 +20,47 @@ use Rattle.reports.proofs.Theorems.{report_printed}
 use Rattle.reports.proofs.Sizes.{report_size}
 use Rattle.intake.specs.Day.{ReadTo, longest_report, Fills}
 use Rattle.intake.specs.declared.Day.{Day}
+use Rattle.printer.specs.declared.NotPrinted.TheVariants.{NoRoom, NotAllowed}
+use Rattle.text.specs.declared.NotWritten.TheVariants.{NoRoom, NoText}
+use Rattle.printer.specs.declared.NotPrinted.{NotPrinted}
+use Rattle.text.specs.declared.NotWritten.{NotWritten}
 
 -- where nothing was written, the code tells only the variant's number
-no_print : (r : Printed) → OneOf (1 ∷ 2 ∷ []) (tag_of the-printed r) → (n : ℕ) → r ≡ printed.Next n → ⊥
-no_print (printed.Next m) h n e = miss (1 ∷ 2 ∷ []) 0 tt h
-no_print printed.NoRoom h n e = let z : ◌≡◌ {A = ℕ} 0 1 = cc in omega arith
-no_print printed.NotAllowed h n e = let z : ◌≡◌ {A = ℕ} 0 1 = cc in omega arith
+no_print : (r : Result ℕ NotPrinted) → OneOf (1 ∷ 2 ∷ []) (tag_of the-printed r) → (n : ℕ) → r ≡ Ok n → ⊥
+no_print (Ok m) h n e = miss (1 ∷ 2 ∷ []) 0 tt h
+no_print (Err NoRoom) h n e = let z : ◌≡◌ {A = ℕ} 0 1 = cc in omega arith
+no_print (Err NotAllowed) h n e = let z : ◌≡◌ {A = ℕ} 0 1 = cc in omega arith
 
-no_count : (w : Written) → OneOf (1 ∷ 2 ∷ []) (tag_of the_written w) → (n : ℕ) → w ≡ written.Next n → ⊥
-no_count (written.Next m) h n e = miss (1 ∷ 2 ∷ []) 0 tt h
-no_count written.NoRoom h n e = let z : ◌≡◌ {A = ℕ} 0 1 = cc in omega arith
-no_count written.NoText h n e = let z : ◌≡◌ {A = ℕ} 0 1 = cc in omega arith
+no_count : (w : Result ℕ NotWritten) → OneOf (1 ∷ 2 ∷ []) (tag_of the_written w) → (n : ℕ) → w ≡ Ok n → ⊥
+no_count (Ok m) h n e = miss (1 ∷ 2 ∷ []) 0 tt h
+no_count (Err NoRoom) h n e = let z : ◌≡◌ {A = ℕ} 0 1 = cc in omega arith
+no_count (Err NoText) h n e = let z : ◌≡◌ {A = ℕ} 0 1 = cc in omega arith
 
-module _ (board : List ℕ) (d : Day) (out : List ℕ) (big : longest_report ≤ length out) (r : Printed) (out₁ : List ℕ) (p : Prints board out 0 r out₁) where
+module _ (board : List ℕ) (d : Day) (out : List ℕ) (big : longest_report ≤ length out) (r : Result ℕ NotPrinted) (out₁ : List ℕ) (p : Prints board out 0 r out₁) where
   room : (feed : List ℕ) → 0 + length (report_of most_lines feed) ≤ length out
   room feed = omega (arith, report_size most_lines feed)
 
   pub fills_nothing : OneOf (1 ∷ 2 ∷ []) (tag_of the-printed r) → Fills board d out 0 out₁
   fills_nothing h feed held q = absurd (no_print r h _ (report_printed most_lines q out 0 (room feed) r out₁ p).0)
 
-  module _ (n : ℕ) (e : r ≡ printed.Next n) (w : Written) (out₂ : List ℕ) (k : Counts d.lines d.taken out₁ n w out₂) where
+  module _ (n : ℕ) (e : r ≡ Ok n) (w : Result ℕ NotWritten) (out₂ : List ℕ) (k : Counts d.lines d.taken out₁ n w out₂) where
     whole : (feed held : List ℕ) → ReadTo feed board held d
-        → (w ≡ written.Next (0 + length (report_of most_lines feed))) × (out₂ ≡ spliced out 0 (report_of most_lines feed))
+        → (w ≡ Ok (0 + length (report_of most_lines feed))) × (out₂ ≡ spliced out 0 (report_of most_lines feed))
     whole feed held q =
         let f = report_printed most_lines q out 0 (room feed) r out₁ p in
-        let z : printed.Next n ≡ printed.Next (0 + length (text_in board)) = sym e ∙ f.0 in
+        let z : Ok n ≡ Ok (0 + length (text_in board)) = sym e ∙ f.0 in
         let y : n ≡ 0 + length (text_in board) = cc in
         f.1 w out₂ (rw y at k)
 
     pub fills_none : OneOf (1 ∷ 2 ∷ []) (tag_of the_written w) → Fills board d out 0 out₂
     fills_none h feed held q = absurd (no_count w h _ (whole feed held q).0)
 
-    pub fills_all : (m : ℕ) → w ≡ written.Next m → Fills board d out m out₂
+    pub fills_all : (m : ℕ) → w ≡ Ok m → Fills board d out m out₂
     fills_all m g feed held q =
         let f = whole feed held q in
-        let z : written.Next m ≡ written.Next (0 + length (report_of most_lines feed)) = sym g ∙ f.0 in
+        let z : Ok m ≡ Ok (0 + length (report_of most_lines feed)) = sym g ∙ f.0 in
         let y : m ≡ 0 + length (report_of most_lines feed) = cc in
         (omega arith, f.1)
 
-    pub inside : (m : ℕ) → w ≡ written.Next m → m ≤ length out₂
+    pub inside : (m : ℕ) → w ≡ Ok m → m ≤ length out₂
     inside m g = next_inside true (counts_text d.lines d.taken) out₁ n (sym k.0 ∙ g) k.1

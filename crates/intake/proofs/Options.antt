@@ -1,4 +1,5 @@
 -- THE LAW of the options of `desk check`: a word asks for one thing. Assumes nothing.
+use Rattle.std.specs.Prelude.{Option}
 use mathlib.Core.Path.{◌≡◌, refl, sym, ap, ◌∙◌}
 use mathlib.Core.List.{List}
 use Prim.Native.Nat.{ℕ}
@@ -9,7 +10,6 @@ use Rattle.text.proofs.Logic.{true_false}
 use Rattle.rules.specs.declared.Rule.TheVariants.{New, Old}
 use Rattle.checks.specs.declared.Asked.{Asked}
 use Rattle.intake.specs.Options.{OptionIs, AsksOld, AsksRefused, AsksNothing}
-use Rattle.intake.specs.declared.words.OptionRead.{OptionRead}
 
 pub two_words : (w : List ℕ) → w ≡ bytes "--old" → w ≡ bytes "--refused" → ⊥
 two_words w e f = omega (arith, ap length (sym e ∙ f))
@@ -17,7 +17,7 @@ two_words w e f = omega (arith, ap length (sym e ∙ f))
 two_rules : (a : Asked) → a.rule ≡ Old → a.rule ≡ New → ⊥
 two_rules a e f = let z : ◌≡◌ {A = ℕ} 0 1 = cc in omega arith
 
-pub asks_one : (a : Asked) (w : List ℕ) {r r' : OptionRead} → OptionIs a w r → OptionIs a w r' → r ≡ r'
+pub asks_one : (a : Asked) (w : List ℕ) {r r' : (Option Asked)} → OptionIs a w r → OptionIs a w r' → r ≡ r'
 asks_one a w (AsksOld e f) (AsksOld e' f') = refl
 asks_one a w (AsksOld e f) (AsksRefused e' f') = absurd (two_words w e e')
 asks_one a w (AsksOld e f) (AsksNothing d d') = absurd (two_rules a (d e) f)

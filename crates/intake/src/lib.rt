@@ -21,9 +21,8 @@ use crate::input::Input;
 use crate::output::hand_report;
 use cutter::{Begun, EndAnswer};
 use feeding::feed_allowed;
-use printer::{Printed, print, print_counts};
+use printer::{print, print_counts};
 use rules::LONGEST_LINE;
-use text::Written;
 
 // The descriptors that every program has to write to.
 pub const STANDARD_OUTPUT: i32 = 1;
@@ -131,11 +130,11 @@ fn fill(board: &[u64], day: Day, out: &mut [u8; LONGEST_REPORT]) -> usize
     ensures fills { Fills board.now day out.old result out.new }
 {
     let printed = print(board, out, 0);
-    let Printed::Next(n) = printed else {
+    let Ok(n) = printed else {
         return 0;
     };
     let counted = print_counts(day.lines as u32, day.taken as u32, out, n);
-    let Written::Next(m) = counted else {
+    let Ok(m) = counted else {
         return 0;
     };
     m

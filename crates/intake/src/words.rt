@@ -27,35 +27,28 @@ pub fn is_option(word: &[u8]) -> bool
     word[0] == b'-'
 }
 
-// What is asked for with an option more, or nothing: the word is no option, or one that was given already.
-#[derive(Clone, Copy)]
-pub enum OptionRead {
-    Asks(Asked),
-    Nothing,
-}
-
 // Reads an option of `desk check` after those that were read.
-pub fn option(asked: Asked, word: &[u8]) -> OptionRead
+pub fn option(asked: Asked, word: &[u8]) -> Option<Asked>
     ensures { OptionIs asked word.now result }
 {
     let rule = asked.rule;
     if same(word, b"--refused") {
         if asked.refused {
-            return OptionRead::Nothing;
+            return None;
         }
-        return OptionRead::Asks(Asked {
+        return Some(Asked {
             rule,
             refused: true,
         });
     }
     if !same(word, b"--old") {
-        return OptionRead::Nothing;
+        return None;
     }
     match rule {
-        Rule::New => OptionRead::Asks(Asked {
+        Rule::New => Some(Asked {
             rule: Rule::Old,
             refused: asked.refused,
         }),
-        Rule::Old => OptionRead::Nothing,
+        Rule::Old => None,
     }
 }

@@ -1,5 +1,6 @@
 -- What the promises of `keeper` require on feeds and files written out, and so wrong files and answers that they do not allow. `Pre` is what `shelf::put_day` and
 -- `shelf::put_lines` ask for, `Post` what `work::keep_feed` and `lists::look` promise. Assumes nothing.
+use Rattle.std.specs.Prelude.{Err}
 use Prim.Native.Nat.{ℕ}
 use mathlib.Core.Bool.{true}
 use mathlib.Core.List.{List, [], ◌∷◌, ◌++◌}
@@ -14,13 +15,13 @@ use Rattle.shapes.specs.Pieces.{pieces}
 use Rattle.cutter.specs.Feed.{Whole, TooLong, feed_of, all_but_last, texts_of, line_of, lines_of}
 use Rattle.dayfile.specs.DayFile.{version1, trailer_size, lines_text, starts_from, index_of, trailer_of, file_of, may_keep, each_may_keep, is_run}
 use Rattle.dayfile.specs.Opening.{open_by, open_of}
-use Rattle.dayfile.specs.declared.Opened.TheVariants as opened
 use Rattle.keeper.specs.Keep.{kept_after, looked_at, kept_in, day_file_of}
 use Rattle.keeper.specs.Work.{Piece, Lines, Closing}
 use Rattle.keeper.proofs.shelf.put_day.Reads as put-day
 use Rattle.keeper.proofs.shelf.put_lines.Reads as put-lines
 use Rattle.keeper.proofs.work.keep_feed.Reads as keep-feed
 use Rattle.keeper.proofs.lists.look.Reads as look
+use Rattle.dayfile.specs.declared.NotOpened.TheVariants.{TooShort}
 
 -- ---- the day file of the lines AB and an empty one, and of a C that no line feed ends, byte for byte
 
@@ -67,11 +68,11 @@ nothing_has_eight κs a r s p e q =
 
 -- ---- a file of seven bytes is refused with 20, and nothing else
 
-short : (file : List ℕ) → length file ≡ 7 → open_of version1 file ≡ opened.TooShort
+short : (file : List ℕ) → length file ≡ 7 → open_of version1 file ≡ Err TooShort
 unfolding open_of open_by trailer_size
 short file e = rw e
 
-pub opens_seven_bytes : (κs : _) (a : _) (r : _) (s : _) → look.Post κs a r s → r.read ≡ true → a.0.size ≡ 7 → r.opened ≡ opened.TooShort
+pub opens_seven_bytes : (κs : _) (a : _) (r : _) (s : _) → look.Post κs a r s → r.read ≡ true → a.0.size ≡ 7 → r.opened ≡ Err TooShort
 opens_seven_bytes κs a r s p e f = let j = p e in j.answer ∙ short j.file (j.sized ∙ f)
 
 -- ---- only whole lines are put away

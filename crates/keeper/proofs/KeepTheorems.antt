@@ -1,5 +1,6 @@
 -- THE THEOREMS OF A KEPT FEED, about the promises as they stand in the source: `Pre` is what `shelf::put_day` asks for, `Post` what `work::keep_feed` promises. The
 -- numbers in the statements are document 02's. Assumes nothing.
+use Rattle.std.specs.Prelude.{Ok}
 use mathlib.Core.Path.{◌≡◌, refl, sym, ap, ◌∙◌}
 use mathlib.Core.Bool.{Bool, true, false}
 use mathlib.Core.List.{List, [], ◌∷◌, ◌++◌, append-nil, append_assoc}
@@ -18,7 +19,6 @@ use Rattle.cutter.specs.Told.{told, state_after}
 use Rattle.cutter.proofs.Feeds.{feed_text}
 use Rattle.dayfile.specs.DayFile.{version1, trailer_of, lines_text, starts_from, index_of, file_of, is_run}
 use Rattle.dayfile.specs.Opening.{open_of, lines_in}
-use Rattle.dayfile.specs.declared.Opened.TheVariants.{Day}
 use Rattle.dayfile.proofs.Files.{lines_append, sound_1}
 use Rattle.dayfile.proofs.Opens.{opens_file, lines_file}
 use Rattle.keeper.specs.Keep.{is_past, looked_at, kept_in, day_file_of}
@@ -90,7 +90,7 @@ put_in_place κs a p = in_place _ _ _ p
 
 -- ---- THE DAY FILE OF ANY FEED OPENS, and gives back exactly the lines that were kept
 
-pub day_opens : (feed : List ℕ) → (open_of version1 (day_file_of feed) ≡ Day (record { lines = length (kept_in feed); start = length (lines_text (kept_in feed)) }))
+pub day_opens : (feed : List ℕ) → (open_of version1 (day_file_of feed) ≡ Ok (record { lines = length (kept_in feed); start = length (lines_text (kept_in feed)) }))
     × (lines_in version1 (day_file_of feed) ≡ kept_in feed)
 unfolding day_file_of
 day_opens feed = (opens_file version1 sound_1 (kept_in feed) (kept_run feed), lines_file version1 sound_1 (kept_in feed) (kept_run feed))
@@ -105,7 +105,7 @@ pub record KeptFeed (r : Outcome) : Type 0 where
   pub full : r.work.keep.full ≡ is_past [] (lines_of feed)
   pub torn : r.work.keep.full ≡ false → r.torn ≡ eqb (at_end (rest_of feed)) 17
   pub put : r.work.shelf.live ≡ true → ((r.work.input.live ≡ false) ⊎ (r.work.keep.full ≡ true)) × (r.work.shelf.total ≡ length (day_file_of feed))
-  pub opens : open_of version1 (day_file_of feed) ≡ Day (record { lines = r.work.keep.place.count; start = length (lines_text (kept_in feed)) })
+  pub opens : open_of version1 (day_file_of feed) ≡ Ok (record { lines = r.work.keep.place.count; start = length (lines_text (kept_in feed)) })
   pub gives : lines_in version1 (day_file_of feed) ≡ kept_in feed
 
 pub kept_feed : (κs : _) (a : _) (r : _) (s : _) → keep-feed.Post κs a r s → KeptFeed r

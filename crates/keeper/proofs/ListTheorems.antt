@@ -1,5 +1,6 @@
 -- THE THEOREMS OF A DAY FILE'S LINES, about the promises as they stand in the source: `Pre` is what `shelf::put_lines`, `open_end`, `judge` and `list` ask for,
 -- `Post` what `look`, `look_at_end`, `turn` and `go_over` promise. The numbers in the statements are document 02's. Assumes nothing.
+use Rattle.std.specs.Prelude.{Ok, Result}
 use mathlib.Core.Path.{◌≡◌, sym, ap, ◌∙◌}
 use mathlib.Core.Bool.{Bool, true, false}
 use mathlib.Core.List.{List, []}
@@ -15,8 +16,6 @@ use Rattle.dayfile.specs.Opening.{open_by, tail_of, open_of, open_number, lines_
 use Rattle.dayfile.specs.Cases.{OpenCase}
 use Rattle.dayfile.specs.Windows.{Swept, Shows}
 use Rattle.dayfile.specs.declared.Contents.{Contents}
-use Rattle.dayfile.specs.declared.Opened.{Opened}
-use Rattle.dayfile.specs.declared.Opened.TheVariants.{Day}
 use Rattle.dayfile.proofs.Files.{each_append, each_at, kept_line, texts_lines}
 use Rattle.dayfile.proofs.Opens.{open_case}
 use Rattle.dayfile.proofs.Windows.{swept_first, swept_size, swept_all}
@@ -31,10 +30,11 @@ use Rattle.keeper.proofs.pass.turn.Reads as turn
 use Rattle.keeper.proofs.pass.go_over.Reads as go-over
 use Rattle.keeper.proofs.lists.look.Reads as look
 use Rattle.keeper.proofs.lists.list.Reads as list
+use Rattle.dayfile.specs.declared.NotOpened.{NotOpened}
 
 -- ---- WHAT IS ANSWERED IS WHAT `open` ANSWERS, and in the document's order: to a file of this size
 
-pub record Answered (size : ℕ) (r : Opened) : Type 0 where
+pub record Answered (size : ℕ) (r : Result Contents NotOpened) : Type 0 where
   pub file : List ℕ
   pub sized : length file ≡ size
   pub answer : r ≡ open_of version1 file
@@ -66,7 +66,7 @@ pub turn_promise : (κs : _) (a : _) (r : _) (s : _) → turn.Post κs a r s
     → Turns a.0.size a.1.1.0 a.1.1.1.0 a.1.1.1.1.0 s.1.1.1.1.1.0.now s.1.1.1.1.1.1.0.now r
 turn_promise κs a r s p = p
 
-module _ {size : ℕ} {c : Contents} {writes : Bool} {file : List ℕ} (told : open_by version1 (length file) (tail_of version1 file) ≡ Day c) where
+module _ {size : ℕ} {c : Contents} {writes : Bool} {file : List ℕ} (told : open_by version1 (length file) (tail_of version1 file) ≡ Ok c) where
   pub over_swept : {p : Pass} → Over size c writes file p → Swept version1 file c p.sweep
   over_swept (begun p e) = rw e (swept_first version1 file c told)
   over_swept (turned o t r s i) = ((t.windows r).judged version1 file (over_swept o) s i).0
@@ -83,7 +83,7 @@ module _ {size : ℕ} {c : Contents} {writes : Bool} {file : List ℕ} (told : o
       (goes_no_further c p.sweep.lines p' off r live)
 
 -- a file of no lines takes no turn
-pub none_answers : (file : List ℕ) (c : Contents) → open_by version1 (length file) (tail_of version1 file) ≡ Day c → (p : Pass) → p.sweep ≡ record { at = 0; lines = 0 } → c.lines ≡ 0
+pub none_answers : (file : List ℕ) (c : Contents) → open_by version1 (length file) (tail_of version1 file) ≡ Ok c → (p : Pass) → p.sweep ≡ record { at = 0; lines = 0 } → c.lines ≡ 0
     → verdict_of c p ≡ open_of version1 file
 none_answers file c told p e z =
     let v : Swept version1 file c p.sweep = rw e (swept_first version1 file c told) in
@@ -124,7 +124,7 @@ put_piece κs a p =
 pub judges_silently : (κs : _) (a : _) (r : _) (s : _) → go-over.Post κs a r s → a.1.1.1.0 ≡ false → r.shelf.total ≡ 0
 judges_silently κs a r s p e = (p.passing.silent e).0
 
-pub lists_what_opens : (κs : _) (a : _) → list.Pre κs a → (file : List ℕ) × (length file ≡ a.0.size) × (open_of version1 file ≡ Day a.1.1.0)
+pub lists_what_opens : (κs : _) (a : _) → list.Pre κs a → (file : List ℕ) × (length file ≡ a.0.size) × (open_of version1 file ≡ Ok a.1.1.0)
 lists_what_opens κs a p = let j = p.1 in (j.file, j.sized, sym j.answer)
 
 -- ---- IF ALL WAS READ AND PUT AWAY, and judged as it was before, as many bytes went out as the lines have of a file of this size that opens
@@ -132,18 +132,18 @@ lists_what_opens κs a p = let j = p.1 in (j.file, j.sized, sym j.answer)
 pub record PutAll (size : ℕ) (c : Contents) (put : ℕ) : Type 0 where
   pub file : List ℕ
   pub sized : length file ≡ size
-  pub opens : open_of version1 file ≡ Day c
+  pub opens : open_of version1 file ≡ Ok c
   pub all : put ≡ c.start
   pub lines : put ≡ length (lines_text (lines_in version1 file))
 
 pub put_all : (κs : _) (a : _) (r : _) (s : _) → go-over.Post κs a r s → a.1.1.1.0 ≡ true → r.read ≡ true → r.shelf.live ≡ true
-    → verdict_of a.1.1.0 r ≡ Day a.1.1.0 → PutAll a.0.size a.1.1.0 r.shelf.total
+    → verdict_of a.1.1.0 r ≡ Ok a.1.1.0 → PutAll a.0.size a.1.1.0 r.shelf.total
 unfolding lines_by
 put_all κs a r s p w e live v =
     let c = a.1.1.0 in
     let k = p.passing.swept in
     let d = day_end c r v in
-    let opens : open_of version1 p.passing.file ≡ Day c = swept_all k d.0 ∙ rw (eq-eqb r.sweep.at c.start d.1) in
+    let opens : open_of version1 p.passing.file ≡ Ok c = swept_all k d.0 ∙ rw (eq-eqb r.sweep.at c.start d.1) in
     let at = p.passing.put w live in
     let text : take c.start p.passing.file ≡ lines_text k.run = rw (← d.1) k.text in
     record {

@@ -1,4 +1,5 @@
 -- What is answered to a file: by its last bytes, and then by its windows. Assumes nothing.
+use Rattle.std.specs.Prelude.{Err, Ok, Result}
 use mathlib.Core.Path.{◌≡◌, refl, sym, ap, ◌∙◌}
 use mathlib.Core.Bool.{Bool, true, false, cond}
 use mathlib.Core.List.{List, [], ◌∷◌, ◌++◌}
@@ -14,27 +15,27 @@ use Rattle.dayfile.specs.DayFile.{version1, Sound, trailer_size}
 use Rattle.dayfile.specs.Opening.{offsets_in, open_by, agree, lines_part, index_part, or_wrong_lines, tail_of, open_of}
 use Rattle.dayfile.specs.declared.Trailer.{Trailer}
 use Rattle.dayfile.specs.declared.Contents.{Contents}
-use Rattle.dayfile.specs.declared.Opened.{Opened}
-use Rattle.dayfile.specs.declared.Opened.TheVariants.{Day, TooShort, UnknownVersion, WrongLength, WrongLines}
 use Rattle.dayfile.specs.contracts.Opened.{the_type}
 use Rattle.dayfile.proofs.Files.{sound_1, eight_bytes}
 use Rattle.dayfile.proofs.Opening.{too_short, no_day}
 use Rattle.keeper.specs.Lists.{Judged, Told}
+use Rattle.dayfile.specs.declared.NotOpened.TheVariants.{TooShort, UnknownVersion, WrongLength, WrongLines}
+use Rattle.dayfile.specs.declared.NotOpened.{NotOpened}
 
 -- ---- by the last bytes
 
-pub end_short : (size : ℕ) (tail : List ℕ) → size < 8 → TooShort ≡ open_by version1 size tail
+pub end_short : (size : ℕ) (tail : List ℕ) → size < 8 → Err TooShort ≡ open_by version1 size tail
 end_short size tail h = too_short version1 size tail 8 (sym eight_bytes) h
 
 module _ (t : Trailer) (e : t ≡ version1) (n : ℕ) (tail : List ℕ) where
   pub end_long : length tail ≡ 8 → Sound t × (trailer_size t ≤ n → length tail ≡ trailer_size t)
   end_long long = rw e (sound_1, λ h. long ∙ sym eight_bytes)
 
-  pub end_told : {r : Opened} (size : ℕ) → n ≡ size → r ≡ open_by t n tail → r ≡ open_by version1 size tail
+  pub end_told : {r : (Result Contents NotOpened)} (size : ℕ) → n ≡ size → r ≡ open_by t n tail → r ≡ open_by version1 size tail
   end_told size same q = q ∙ rw (e, same)
 
 -- some file of this size ends in these bytes
-pub told_by_lem : {r : Opened} (size : ℕ) (tail : List ℕ) → length tail ≡ 8 → r ≡ open_by version1 size tail → Told size r
+pub told_by_lem : {r : (Result Contents NotOpened)} (size : ℕ) (tail : List ℕ) → length tail ≡ 8 → r ≡ open_by version1 size tail → Told size r
 told_by_lem {r = r} size tail e told = go (ltb size 8) refl
   where
     go : (b : Bool) → ltb size 8 ≡ b → Told size r
@@ -52,22 +53,22 @@ told_by_lem {r = r} size tail e told = go (ltb size 8) refl
         record { file = file; sized = same; tells = told ∙ ap (λ (n : ℕ). open_by version1 n tail) (sym same) ∙ ap (open_by version1 (length file)) (sym last) }
 
 -- 20 to 22 are `open`'s answers
-pub told_judged : {size : ℕ} {r : Opened} → Told size r → OneOf (1 ∷ 2 ∷ 3 ∷ 4 ∷ []) (tag_of the_type r) → Judged size r
+pub told_judged : {size : ℕ} {r : (Result Contents NotOpened)} → Told size r → OneOf (1 ∷ 2 ∷ 3 ∷ 4 ∷ []) (tag_of the_type r) → Judged size r
 told_judged t h = record { file = t.file; sized = t.sized; answer = no_day (record { by = t.tells }) h }
 
 -- what opens is told by its last bytes
-module _ {size : ℕ} {c : Contents} (j : Judged size (Day c)) where
-  pub judged_told : Told size (Day c)
+module _ {size : ℕ} {c : Contents} (j : Judged size (Ok c)) where
+  pub judged_told : Told size (Ok c)
   unfolding open_of
   judged_told = record { file = j.file; sized = j.sized; tells = go (open_by version1 (length j.file) (tail_of version1 j.file)) j.answer }
     where
-      go : (o : Opened) → Day c ≡ or_wrong_lines o j.file → Day c ≡ o
-      go (Day d) e = by (agree (lines_part d j.file) (offsets_in (index_part d j.file))) e
+      go : (o : Result Contents NotOpened) → Ok c ≡ or_wrong_lines o j.file → Ok c ≡ o
+      go (Ok d) e = by (agree (lines_part d j.file) (offsets_in (index_part d j.file))) e
         where
-          by : (b : Bool) → Day c ≡ cond b (Day d) WrongLines → Day c ≡ Day d
+          by : (b : Bool) → Ok c ≡ cond b (Ok d) (Err WrongLines) → Ok c ≡ Ok d
           by true q = q
           by false q = cc
-      go TooShort e = cc
-      go UnknownVersion e = cc
-      go WrongLength e = cc
-      go WrongLines e = cc
+      go (Err TooShort) e = cc
+      go (Err UnknownVersion) e = cc
+      go (Err WrongLength) e = cc
+      go (Err WrongLines) e = cc

@@ -1,4 +1,5 @@
 -- The laws of a pass over a day file's windows: where it begins, what one window of each brings, when it ends, and what it says then. Assumes nothing.
+use Rattle.std.specs.Prelude.{Err, Ok}
 use mathlib.Core.Path.{◌≡◌, refl, sym, ◌∙◌}
 use mathlib.Core.Bool.{Bool, true, false, cond, ◌&&◌, not}
 use mathlib.Core.List.{List, ◌++◌}
@@ -15,7 +16,6 @@ use Rattle.dayfile.specs.DayFile.{version1}
 use Rattle.dayfile.specs.Opening.{open_of}
 use Rattle.dayfile.specs.Windows.{Swept, Wide, Sweeps}
 use Rattle.dayfile.specs.declared.Contents.{Contents}
-use Rattle.dayfile.specs.declared.Opened.TheVariants.{Day, WrongLines}
 use Rattle.dayfile.specs.declared.walking.Sweep.{Sweep}
 use Rattle.dayfile.proofs.Files.{each_append}
 use Rattle.dayfile.proofs.Windows.{file_size, swept_first, swept_size, swept_all}
@@ -24,34 +24,35 @@ use Rattle.keeper.specs.Work.{PutAway}
 use Rattle.keeper.specs.Lists.{LinesPiece, AfterLines, Puts, Judged, Told, Passing, unread_of, Judges, Turns, goes_on, Passed, verdict_of}
 use Rattle.keeper.specs.declared.shelf.Shelf.{Shelf}
 use Rattle.keeper.specs.declared.pass.Pass.{Pass}
+use Rattle.dayfile.specs.declared.NotOpened.TheVariants.{WrongLines}
 
 -- ---- what a pass says
 
 module _ (c : Contents) (p : Pass) where
-  pub too_few : (p.sweep.lines ≡ c.lines → ⊥) → WrongLines ≡ verdict_of c p
+  pub too_few : (p.sweep.lines ≡ c.lines → ⊥) → Err WrongLines ≡ verdict_of c p
   unfolding verdict_of
   too_few n = rw (ne_eqb p.sweep.lines c.lines n)
 
   module _ (e : p.sweep.lines ≡ c.lines) where
-    pub last_told : verdict_of c p ≡ cond (eqb p.sweep.at c.start) (Day c) WrongLines
+    pub last_told : verdict_of c p ≡ cond (eqb p.sweep.at c.start) (Ok c) (Err WrongLines)
     unfolding verdict_of
     last_told = rw (eq-eqb p.sweep.lines c.lines e)
 
-    pub other_end : (p.sweep.at ≡ c.start → ⊥) → WrongLines ≡ verdict_of c p
+    pub other_end : (p.sweep.at ≡ c.start → ⊥) → Err WrongLines ≡ verdict_of c p
     other_end n = sym (last_told ∙ rw (ne_eqb p.sweep.at c.start n))
 
-    pub same_end : p.sweep.at ≡ c.start → Day c ≡ verdict_of c p
+    pub same_end : p.sweep.at ≡ c.start → Ok c ≡ verdict_of c p
     same_end q = sym (last_told ∙ rw (eq-eqb p.sweep.at c.start q))
 
   -- it says so only at the last offset, where the lines end at the index
-  pub day_end : verdict_of c p ≡ Day c → (p.sweep.lines ≡ c.lines) × (p.sweep.at ≡ c.start)
+  pub day_end : verdict_of c p ≡ Ok c → (p.sweep.lines ≡ c.lines) × (p.sweep.at ≡ c.start)
   unfolding verdict_of
   day_end e = go (eqb p.sweep.lines c.lines) refl (eqb p.sweep.at c.start) refl
     where
       go : (a : Bool) → eqb p.sweep.lines c.lines ≡ a → (b : Bool) → eqb p.sweep.at c.start ≡ b → (p.sweep.lines ≡ c.lines) × (p.sweep.at ≡ c.start)
       go true q true r = (eqb-true p.sweep.lines c.lines q, eqb-true p.sweep.at c.start r)
-      go true q false r = let z : WrongLines ≡ Day c = rw (q, r) at e in ((cc), (cc))
-      go false q b r = let z : WrongLines ≡ Day c = rw q at e in ((cc), (cc))
+      go true q false r = let z : (Err WrongLines) ≡ Ok c = rw (q, r) at e in ((cc), (cc))
+      go false q b r = let z : (Err WrongLines) ≡ Ok c = rw q at e in ((cc), (cc))
 
 -- ---- whether it goes on
 
@@ -115,7 +116,7 @@ one_put writes s size s' e a = record { still = λ q. true_false e q; away = λ 
 
 -- ---- where a pass begins
 
-pub pass_first : {size : ℕ} {c : Contents} (writes : Bool) (s : Shelf) → Told size (Day c) → (s.total ≡ 0) × (s.live ≡ true)
+pub pass_first : {size : ℕ} {c : Contents} (writes : Bool) (s : Shelf) → Told size (Ok c) → (s.total ≡ 0) × (s.live ≡ true)
     → Passing size c writes (record { sweep = record { at = 0; lines = 0 }; shelf = s; read = true })
 pass_first {c = c} writes s t e = record {
   file = t.file;
@@ -210,7 +211,7 @@ module _ {size : ℕ} {c : Contents} {writes : Bool} {p : Pass} (v : Passing siz
     pub turn_read : p.shelf.live ≡ true → (p' : Pass) → Judges c writes p s i p' → Turns size c writes p lines index p'
     turn_read live p' k =
         let w = p'.sweep in
-        let g : Swept version1 shown c w × (w.lines ≡ p.sweep.lines → open_of version1 shown ≡ WrongLines) =
+        let g : Swept version1 shown c w × (w.lines ≡ p.sweep.lines → open_of version1 shown ≡ Err WrongLines) =
         k.sweeps.judged version1 shown (patched_swept v.swept s i before there) (patched_lines v.swept s i before there) (patched_index v.swept s i before there) in
         record {
           windows = λ e. rw (all_lines, all_index, ← least, ← most) k.sweeps;
@@ -249,14 +250,14 @@ module _ (c : Contents) (p : Pass) (s i : List ℕ) (w : Sweep) (k : Sweeps c p.
 pub record Going (size : ℕ) (c : Contents) (writes : Bool) (p : Pass) (on : Bool) : Type 0 where
   pub passing : Passing size c writes p
   pub ahead : on ≡ true → (p.shelf.live ≡ true) × (p.sweep.lines < c.lines)
-  pub ended : on ≡ false → p.read ≡ true → p.shelf.live ≡ true → (p.sweep.lines ≡ c.lines) ⊎ Judged size WrongLines
+  pub ended : on ≡ false → p.read ≡ true → p.shelf.live ≡ true → (p.sweep.lines ≡ c.lines) ⊎ Judged size (Err WrongLines)
 
 -- how many windows of each may still come, at most
 pub to_go : Contents → Pass → Bool → ℕ
 to_go c p on = cond on (suc (c.lines - p.sweep.lines)) 0
 
 module _ {size : ℕ} {c : Contents} {writes : Bool} where
-  pub going_first : (s : Shelf) → Told size (Day c) → (s.total ≡ 0) × (s.live ≡ true)
+  pub going_first : (s : Shelf) → Told size (Ok c) → (s.total ≡ 0) × (s.live ≡ true)
       → Going size c writes (record { sweep = record { at = 0; lines = 0 }; shelf = s; read = true }) (ltb 0 c.lines)
   going_first s t e = record {
     passing = pass_first writes s t e;

@@ -1,4 +1,5 @@
 -- One call of `cut`, and the line that it told of kept, if it did: what the bytes that it used add to any feed. Assumes nothing.
+use Rattle.std.specs.Prelude.{Err, Ok}
 use mathlib.Core.Path.{◌≡◌, refl, sym, ap, ◌∙◌, subst}
 use mathlib.Core.Bool.{Bool, true, false, not}
 use mathlib.Core.List.{List, [], ◌∷◌, ◌++◌}
@@ -25,7 +26,6 @@ use Rattle.cutter.proofs.Runs.{cut_still, cut_used}
 use Rattle.dayfile.specs.DayFile.{version1, lines_text, starts_from, may_keep, is_run}
 use Rattle.dayfile.specs.Keeping.{fed, is_full, kept_of, out_after, run_after}
 use Rattle.dayfile.specs.declared.Place.{Place}
-use Rattle.dayfile.specs.declared.Kept.TheVariants as kept
 use Rattle.dayfile.proofs.Files.{kept_line}
 use Rattle.dayfile.proofs.KeptCases.{fed_length, full_is, is_full_lem, many_is, taken_is}
 use Rattle.dayfile.proofs.KeptLines.{take-written, text_more, starts_more}
@@ -34,6 +34,7 @@ use Rattle.keeper.specs.Keep.{kept_after, is_past, looked_at, kept_in, Keeping, 
 use Rattle.keeper.specs.declared.keep.Keep.{Keep}
 use Rattle.keeper.proofs.Kept.{goes_on, kept_run, fits_not_full}
 use Rattle.keeper.proofs.Told.{ToldIs, None, Over, One, held_size, told_is}
+use Rattle.dayfile.specs.declared.NotKept.TheVariants.{TooMany}
 
 -- ---- what more bytes of a feed tell
 
@@ -54,7 +55,7 @@ after feed s held begun held' begun' ts e p u =
 -- ---- what is answered of a line that may be kept, where there is room
 
 module _ (base : ℕ) (l out offsets : List ℕ) (p : Place) (may : may_keep l ≡ true) where
-  kept_full : is_full 65535 p l ≡ true → kept_of 65535 base l out offsets p ≡ kept.TooMany
+  kept_full : is_full 65535 p l ≡ true → kept_of 65535 base l out offsets p ≡ Err TooMany
   kept_full f = many_is 65535 base l out offsets p (kept_line l may) (is_full_lem 65535 base l out offsets p f)
 
   module _ (room : p.at - base + length (fed l) ≤ length out) (run : length offsets ≡ 65535) (free : is_full 65535 p l ≡ false) where
@@ -62,7 +63,7 @@ module _ (base : ℕ) (l out offsets : List ℕ) (p : Place) (may : may_keep l �
     unfolding is_full
     few = omega (arith, run, leb-false 65535 p.count (not_holds (leb 65535 p.count) (λ q. true_false (rw q) free)))
 
-    kept_fits : kept_of 65535 base l out offsets p ≡ kept.Next (record { at = p.at + length (fed l); count = p.count + 1 })
+    kept_fits : kept_of 65535 base l out offsets p ≡ Ok (record { at = p.at + length (fed l); count = p.count + 1 })
     kept_fits = taken_is 65535 base l out offsets p (kept_line l may) (λ m. true_false (full_is 65535 base l out offsets p m) free) (omega (arith, fed_length l, room), few)
 
 -- ---- THE STEP

@@ -1,4 +1,5 @@
 -- What each way through `count_line`, `take_up`, `is_long`, `is_on` and `put_part` gives is what its definition says. Assumes nothing.
+use Rattle.std.specs.Prelude.{Err, Ok, Result}
 use mathlib.Core.Path.{◌≡◌, refl, sym, ap, ◌∙◌}
 use mathlib.Core.Bool.{true, false, not}
 use mathlib.Core.List.{List, [], ◌∷◌, ◌++◌}
@@ -19,30 +20,30 @@ use Rattle.cutter.specs.declared.CutAnswer.TheVariants as cut
 use Rattle.cutter.specs.contracts.CutAnswer as cut-answer
 use Rattle.dayfile.specs.Keeping.{kept_of, out_after, run_after}
 use Rattle.dayfile.specs.declared.Place.{Place}
-use Rattle.dayfile.specs.declared.Kept.{Kept}
-use Rattle.dayfile.specs.declared.Kept.TheVariants as kept
 use Rattle.dayfile.specs.contracts.Kept as kept-answer
 use Rattle.dayfile.proofs.Puts.{then_put}
 use Rattle.keeper.specs.Keep.{counted_line, told_left, TakesUp}
 use Rattle.keeper.specs.Work.{is_on}
 use Rattle.keeper.specs.declared.keep.Keep.{Keep}
 use Rattle.keeper.specs.declared.work.Work.{Work}
+use Rattle.dayfile.specs.declared.NotKept.TheVariants.{LineFeed, NoRoom, TooLong, TooMany}
+use Rattle.dayfile.specs.declared.NotKept.{NotKept}
 
 -- ---- `count_line`
 
-module _ (a : Kept) (k : Keep) where
-  pub counted_next : (q : Place) → a ≡ kept.Next q → record { begun = k.begun; lines = k.lines + 1; place = q; full = false } ≡ counted_line a k
+module _ (a : Result Place NotKept) (k : Keep) where
+  pub counted_next : (q : Place) → a ≡ Ok q → record { begun = k.begun; lines = k.lines + 1; place = q; full = false } ≡ counted_line a k
   unfolding counted_line
   counted_next q e = rw e
 
-pub counted_full : (a : Kept) (k : Keep) → OneOf (1 ∷ 2 ∷ 3 ∷ 4 ∷ []) (tag_of kept-answer.the_type a)
+pub counted_full : (a : Result Place NotKept) (k : Keep) → OneOf (1 ∷ 2 ∷ 3 ∷ 4 ∷ []) (tag_of kept-answer.the_type a)
     → record { begun = k.begun; lines = k.lines + 1; place = k.place; full = true } ≡ counted_line a k
 unfolding counted_line
-counted_full (kept.Next q) k h = absurd (miss (1 ∷ 2 ∷ 3 ∷ 4 ∷ []) 0 tt h)
-counted_full kept.TooLong k h = refl
-counted_full kept.LineFeed k h = refl
-counted_full kept.TooMany k h = refl
-counted_full kept.NoRoom k h = refl
+counted_full (Ok q) k h = absurd (miss (1 ∷ 2 ∷ 3 ∷ 4 ∷ []) 0 tt h)
+counted_full (Err TooLong) k h = refl
+counted_full (Err LineFeed) k h = refl
+counted_full (Err TooMany) k h = refl
+counted_full (Err NoRoom) k h = refl
 
 -- ---- `take_up`
 
@@ -64,7 +65,7 @@ told_none cut.TooLong l h = absurd (miss (0 ∷ 4 ∷ []) 3 tt h)
 told_none cut.NotAllowed l h = refl
 
 module _ (base : ℕ) (answer : CutAnswer) (l out offsets : List ℕ) (k : Keep) where
-  pub takes_line : OneOf (1 ∷ 2 ∷ []) (tag_of cut-answer.the_type answer) → (a : Kept) {out' offsets' : List ℕ}
+  pub takes_line : OneOf (1 ∷ 2 ∷ []) (tag_of cut-answer.the_type answer) → (a : Result Place NotKept) {out' offsets' : List ℕ}
       → (a ≡ kept_of 65535 base l out offsets k.place) × ((out' ≡ out_after a base l out k.place) × (offsets' ≡ run_after a offsets k.place))
       → {k' : Keep} → k' ≡ counted_line a k → TakesUp base (told_by answer l) out offsets k out' offsets' k'
   unfolding told_left

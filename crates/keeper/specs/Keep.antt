@@ -1,6 +1,6 @@
 -- THE DAY FILE OF A FEED (document 02, a): its lines of at most 2,048 bytes, in order, as long as the run of them may be kept; and what is kept from block to block
 -- while the feed comes. Assumes nothing.
-use Rattle.std.specs.Prelude.{ℕ, suc, ◌+◌, ◌-◌, ◌≤◌, ◌<◌, ◌^◌, ◌≡◌, Bool, true, false, cond, List, [], ◌∷◌, ◌++◌, length, take, drop}
+use Rattle.std.specs.Prelude.{ℕ, suc, ◌+◌, ◌-◌, ◌≤◌, ◌<◌, ◌^◌, ◌≡◌, Bool, true, false, cond, List, [], ◌∷◌, ◌++◌, length, take, drop, Err, Ok, Result}
 use Rattle.shapes.specs.Pieces.{pieces}
 use Rattle.rules.specs.Frame.{line_feed}
 use Rattle.cutter.specs.Feed.{Line, Whole, TooLong, lines_of}
@@ -10,10 +10,11 @@ use Rattle.cutter.specs.declared.Begun.{Begun}
 use Rattle.cutter.specs.declared.Begun.TheVariants.{Held, Overlong}
 use Rattle.dayfile.specs.DayFile.{version1, lines_text, starts_from, file_of, is_run}
 use Rattle.dayfile.specs.Keeping.{kept_of, out_after, run_after}
-use Rattle.dayfile.specs.declared.Kept.{Kept}
-use Rattle.dayfile.specs.declared.Kept.TheVariants as kept
 use Rattle.keeper.specs.declared.keep.Keep.{Keep}
 use Rattle.keeper.specs.declared.keep.Turn.{Turn}
+use Rattle.dayfile.specs.declared.NotKept.TheVariants.{LineFeed, NoRoom, TooLong, TooMany}
+use Rattle.dayfile.specs.declared.NotKept.{NotKept}
+use Rattle.dayfile.specs.declared.Place.{Place}
 
 -- ---- the lines that are kept
 
@@ -56,12 +57,12 @@ pub record Keeping (base : ℕ) (feed held out offsets : List ℕ) (k : Keep) : 
 -- ---- a line that a cut told of, if it did
 
 -- by what `keep_from` answered; a line that does not fit is the last that is looked at
-unfoldable pub counted_line : Kept → Keep → Keep
-counted_line (kept.Next q) k = record { begun = k.begun; lines = k.lines + 1; place = q; full = false }
-counted_line kept.TooLong k = record { begun = k.begun; lines = k.lines + 1; place = k.place; full = true }
-counted_line kept.LineFeed k = record { begun = k.begun; lines = k.lines + 1; place = k.place; full = true }
-counted_line kept.TooMany k = record { begun = k.begun; lines = k.lines + 1; place = k.place; full = true }
-counted_line kept.NoRoom k = record { begun = k.begun; lines = k.lines + 1; place = k.place; full = true }
+unfoldable pub counted_line : Result Place NotKept → Keep → Keep
+counted_line (Ok q) k = record { begun = k.begun; lines = k.lines + 1; place = q; full = false }
+counted_line (Err TooLong) k = record { begun = k.begun; lines = k.lines + 1; place = k.place; full = true }
+counted_line (Err LineFeed) k = record { begun = k.begun; lines = k.lines + 1; place = k.place; full = true }
+counted_line (Err TooMany) k = record { begun = k.begun; lines = k.lines + 1; place = k.place; full = true }
+counted_line (Err NoRoom) k = record { begun = k.begun; lines = k.lines + 1; place = k.place; full = true }
 
 -- what is left by it
 pub record Left : Type 0 where
@@ -69,7 +70,7 @@ pub record Left : Type 0 where
   pub out : List ℕ
   pub offsets : List ℕ
 
-abbrev pub line_left : Kept → ℕ → List ℕ → List ℕ → List ℕ → Keep → Left
+abbrev pub line_left : Result Place NotKept → ℕ → List ℕ → List ℕ → List ℕ → Keep → Left
 line_left a base l out offsets k = record { keep = counted_line a k; out = out_after a base l out k.place; offsets = run_after a offsets k.place }
 
 unfoldable pub told_left : ℕ → List Line → List ℕ → List ℕ → Keep → Left

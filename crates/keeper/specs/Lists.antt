@@ -1,15 +1,15 @@
 -- A day file read by windows: what it answers, and what is put away of its lines. Assumes nothing.
-use Rattle.std.specs.Prelude.{ℕ, ◌+◌, ◌*◌, ◌-◌, ◌≤◌, min, ◌≡◌, Bool, true, false, cond, ◌&&◌, not, List, ◌++◌, ◌⊎◌, eqb, ltb, length, take}
+use Rattle.std.specs.Prelude.{ℕ, ◌+◌, ◌*◌, ◌-◌, ◌≤◌, min, ◌≡◌, Bool, true, false, cond, ◌&&◌, not, List, ◌++◌, ◌⊎◌, eqb, ltb, length, take, Err, Ok, Result}
 use Rattle.dayfile.specs.DayFile.{version1, lines_text, each_may_keep}
 use Rattle.dayfile.specs.Opening.{open_by, open_of, tail_of}
 use Rattle.dayfile.specs.Windows.{Swept, Shows, Sweeps}
 use Rattle.dayfile.specs.declared.Contents.{Contents}
-use Rattle.dayfile.specs.declared.Opened.{Opened}
-use Rattle.dayfile.specs.declared.Opened.TheVariants.{Day, WrongLines}
 use Rattle.keeper.specs.Work.{PutAway}
 use Rattle.keeper.specs.declared.shelf.Shelf.{Shelf}
 use Rattle.keeper.specs.declared.volume.Filled.{Filled}
 use Rattle.keeper.specs.declared.pass.Pass.{Pass}
+use Rattle.dayfile.specs.declared.NotOpened.TheVariants.{WrongLines}
+use Rattle.dayfile.specs.declared.NotOpened.{NotOpened}
 
 -- ---- the edge
 
@@ -37,13 +37,13 @@ abbrev pub ReadFrom : ℕ → List ℕ → Filled → Type 0
 ReadFrom place s f = (f.from ≡ place) × (f.size ≡ length s) × (f.whole ≡ true)
 
 -- ---- the answer: that of `open` on a file of this size, whose windows were read
-pub record Judged (size : ℕ) (r : Opened) : Type 0 where
+pub record Judged (size : ℕ) (r : Result Contents NotOpened) : Type 0 where
   pub file : List ℕ
   pub sized : length file ≡ size
   pub answer : r ≡ open_of version1 file
 
 -- what a file of this size tells by its last bytes: 20 to 22, or its contents
-pub record Told (size : ℕ) (r : Opened) : Type 0 where
+pub record Told (size : ℕ) (r : Result Contents NotOpened) : Type 0 where
   pub file : List ℕ
   pub sized : length file ≡ size
   pub tells : r ≡ open_by version1 (length file) (tail_of version1 file)
@@ -78,7 +78,7 @@ pub record Turns (size : ℕ) (c : Contents) (writes : Bool) (p : Pass) (lines i
   pub windows : p'.read ≡ true → Sweeps c p.sweep (lines_window c p lines) (index_window c p index) p'.sweep
   pub passing : Passing size c writes p'
   pub more : p.sweep.lines ≤ p'.sweep.lines
-  pub stuck : p'.read ≡ true → p'.sweep.lines ≡ p.sweep.lines → Judged size WrongLines
+  pub stuck : p'.read ≡ true → p'.sweep.lines ≡ p.sweep.lines → Judged size (Err WrongLines)
 
 -- a pass that stood at `before` lines has come further, and not to the last
 unfoldable pub goes_on : Contents → ℕ → Pass → Bool
@@ -87,11 +87,11 @@ goes_on c before p = p.read && (p.shelf.live && (not (eqb p.sweep.lines before) 
 -- all windows were read, unless the shelf takes no more: to the last offset, or to where a file that shows these windows is refused (23)
 pub record Passed (size : ℕ) (c : Contents) (writes : Bool) (p : Pass) : Type 0 where
   pub passing : Passing size c writes p
-  pub ended : p.read ≡ true → p.shelf.live ≡ true → (p.sweep.lines ≡ c.lines) ⊎ Judged size WrongLines
+  pub ended : p.read ≡ true → p.shelf.live ≡ true → (p.sweep.lines ≡ c.lines) ⊎ Judged size (Err WrongLines)
 
 -- what a pass that could read all says: 0 or 23
-unfoldable pub verdict_of : Contents → Pass → Opened
-verdict_of c p = cond (eqb p.sweep.lines c.lines) (cond (eqb p.sweep.at c.start) (Day c) WrongLines) WrongLines
+unfoldable pub verdict_of : Contents → Pass → Result Contents NotOpened
+verdict_of c p = cond (eqb p.sweep.lines c.lines) (cond (eqb p.sweep.at c.start) (Ok c) (Err WrongLines)) (Err WrongLines)
 
 -- ---- TURN AFTER TURN OVER ONE FILE: each as `turn` promises it, from the first byte and the first offset on, its windows read, and shown by the file.
 -- `proofs/ListTheorems` shows that these are the promises in the source.

@@ -5,7 +5,7 @@ ghost use Rattle.cutter.specs.Cases.{told_by};
 ghost use Rattle.keeper.specs.Keep.{counted_line, TakesUp, Roomy, GoesOn, Steps};
 
 use cutter::{Begun, CutAnswer, cut, line};
-use dayfile::{Kept, MOST_LINES, Place, keep_from};
+use dayfile::{MOST_LINES, NotKept, Place, keep_from};
 use intake::STANDARD_ERROR;
 
 // What is kept from block to block: the cutter's state, how many lines were looked at, how far the file is, and whether a line did not fit.
@@ -26,14 +26,14 @@ pub struct Turn {
 }
 
 // One whole line more, by what was answered; where it does not fit, the file is full.
-fn count_line(keep: Keep, kept: Kept) -> Keep
+fn count_line(keep: Keep, kept: Result<Place, NotKept>) -> Keep
     requires { keep.lines + 1 < 2 ^ 64 }
     ensures { result ≡ counted_line kept keep }
 {
     let begun = keep.begun;
     let place = keep.place;
     match kept {
-        Kept::Next(next) => Keep {
+        Ok(next) => Keep {
             begun,
             lines: keep.lines + 1,
             place: next,

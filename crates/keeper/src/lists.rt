@@ -1,15 +1,14 @@
 // The work of `desk lines NAME`: first a pass over the file's windows that judges it as `dayfile::open` would; then, if it opens, a second one that judges again and
 // puts the lines away.
-ghost use Rattle.std.specs.Prelude.{◌≡◌, true, ◌-◌, ◌^◌, ◌≤◌, ◌<◌, length};
+ghost use Rattle.std.specs.Prelude.{◌≡◌, true, ◌-◌, ◌^◌, ◌≤◌, ◌<◌, length, Ok};
 ghost use Rattle.dayfile.specs.DayFile.{version1};
 ghost use Rattle.dayfile.specs.Opening.{open_by};
-ghost use Rattle.dayfile.specs.declared.Opened.TheVariants.{Day};
 ghost use Rattle.keeper.specs.Lists.{ReadFrom, Judged, verdict_of};
 
 use crate::pass::{Pass, go_over};
 use crate::volume::{Filled, Volume};
 use crate::{shelf, volume};
-use dayfile::{Contents, Opened, open_tail, version_1};
+use dayfile::{Contents, NotOpened, open_tail, version_1};
 use intake::ends::Target;
 use intake::files::open;
 use intake::say;
@@ -19,12 +18,12 @@ use std::rt::Files;
 // What a file answers, where it could be read.
 #[derive(Clone, Copy)]
 pub struct Looked {
-    pub opened: Opened,
+    pub opened: Result<Contents, NotOpened>,
     pub read: bool,
 }
 
 // What the last bytes tell of a file of this size.
-pub(crate) fn open_end(size: usize, end: Filled, tail: &[u8]) -> Opened
+pub(crate) fn open_end(size: usize, end: Filled, tail: &[u8]) -> Result<Contents, NotOpened>
     requires le_size { (8 ≤ size) × ReadFrom (size - 8) tail.now end }
     requires tail_len { length tail.now ≡ 8 }
     ensures { result ≡ open_by version1 size tail.now }
@@ -41,14 +40,14 @@ pub(crate) fn look_at_end(volume: Volume, name: &[u8], tail: &mut [u8], file: &F
     let size = volume::size(volume);
     if size < 8 {
         return Looked {
-            opened: Opened::TooShort,
+            opened: Err(NotOpened::TooShort),
             read: true,
         };
     }
     let end = volume::fill(volume, name, size - 8, tail, file);
     if !volume::is_filled(end) {
         return Looked {
-            opened: Opened::TooShort,
+            opened: Err(NotOpened::TooShort),
             read: false,
         };
     }
@@ -57,17 +56,17 @@ pub(crate) fn look_at_end(volume: Volume, name: &[u8], tail: &mut [u8], file: &F
 }
 
 // What a pass that could read all says: 0 or 23.
-fn verdict(day: Contents, pass: Pass) -> Opened
+fn verdict(day: Contents, pass: Pass) -> Result<Contents, NotOpened>
     ensures { result ≡ verdict_of day pass }
 {
     let sweep = pass.sweep;
     if sweep.lines != day.lines {
-        return Opened::WrongLines;
+        return Err(NotOpened::WrongLines);
     }
     if sweep.at != day.start {
-        return Opened::WrongLines;
+        return Err(NotOpened::WrongLines);
     }
-    Opened::Day(day)
+    Ok(day)
 }
 
 // What `dayfile::open` answers to the whole file, by its windows.
@@ -81,7 +80,7 @@ pub(crate) fn look(volume: Volume, name: &[u8], file: &File, to: &Target) -> Loo
         return told;
     }
     let opened = told.opened;
-    let Opened::Day(day) = opened else {
+    let Ok(day) = opened else {
         return told;
     };
     let pass = go_over(volume, name, day, false, file, to);
@@ -95,7 +94,7 @@ pub(crate) fn look(volume: Volume, name: &[u8], file: &File, to: &Target) -> Loo
 // Puts the lines of a file that opens away, each judged again as it is read.
 pub(crate) fn list(volume: Volume, name: &[u8], day: Contents, file: &File, to: &Target)
     requires size_bound { volume.size < 2 ^ 63 }
-    requires judged { Judged volume.size (Day day) }
+    requires judged { Judged volume.size (Ok day) }
 {
     let pass = go_over(volume, name, day, true, file, to);
     if !pass.read {
@@ -106,7 +105,7 @@ pub(crate) fn list(volume: Volume, name: &[u8], day: Contents, file: &File, to: 
         return;
     }
     let again = verdict(day, pass);
-    let Opened::Day(_) = again else {
+    let Ok(_) = again else {
         return say(name, b"it was changed while it was read");
     };
 }
@@ -121,14 +120,14 @@ fn answer(volume: Volume, name: &[u8], file: &File, to: &Target)
     }
     let opened = looked.opened;
     match opened {
-        Opened::Day(day) => list(volume, name, day, file, to),
-        Opened::TooShort => say(name, b"no day file: under eight bytes (answer 20)"),
-        Opened::UnknownVersion => say(name, b"no day file: unknown version (answer 21)"),
-        Opened::WrongLength => say(
+        Ok(day) => list(volume, name, day, file, to),
+        Err(NotOpened::TooShort) => say(name, b"no day file: under eight bytes (answer 20)"),
+        Err(NotOpened::UnknownVersion) => say(name, b"no day file: unknown version (answer 21)"),
+        Err(NotOpened::WrongLength) => say(
             name,
             b"no day file: start, index and trailer are not its length (answer 22)",
         ),
-        Opened::WrongLines => say(
+        Err(NotOpened::WrongLines) => say(
             name,
             b"no day file: its bytes are not the lines that its index says (answer 23)",
         ),

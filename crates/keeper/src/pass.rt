@@ -1,7 +1,6 @@
 // A pass over the windows of a day file, lines and index side by side: each is judged as it is read, and its lines are put away where the pass writes.
-ghost use Rattle.std.specs.Prelude.{◌≡◌, true, ◌+◌, ◌*◌, ◌^◌, ◌<◌, length};
+ghost use Rattle.std.specs.Prelude.{◌≡◌, true, ◌+◌, ◌*◌, ◌^◌, ◌<◌, length, Ok};
 ghost use Rattle.dayfile.specs.Windows.{Wide};
-ghost use Rattle.dayfile.specs.declared.Opened.TheVariants.{Day};
 ghost use Rattle.keeper.specs.Lists.{LinesPiece, AfterLines, Puts, ReadFrom, Told, Passing, unread_of, Judges, Turns, goes_on, Passed};
 
 use crate::shelf::Shelf;
@@ -150,7 +149,7 @@ fn go_on(
     to: &Target,
 ) -> Pass
     requires size_bound { volume.size < 2 ^ 63 }
-    requires told { Told volume.size (Day day) }
+    requires told { Told volume.size (Ok day) }
     requires lines_len { (length lines.old ≡ 65536) × (length index.old ≡ 8192) }
     ensures { Passed volume.size day writes result }
 {
@@ -181,7 +180,7 @@ pub(crate) fn go_over(
     to: &Target,
 ) -> Pass
     requires size_bound { volume.size < 2 ^ 63 }
-    requires told { Told volume.size (Day day) }
+    requires told { Told volume.size (Ok day) }
     ensures { Passed volume.size day writes result }
 {
     let mut lines = [0u8; LINES];

@@ -1,4 +1,5 @@
 -- THE CASES of a line under the rule ρ: each line has the answer number and the place of its case, and of no other. Assumes nothing.
+use Rattle.std.specs.Prelude.{Err, None, Ok, Option, Result, Some}
 use mathlib.Core.Path.{◌≡◌, refl, sym, ap, ◌∙◌, subst}
 use mathlib.Core.Bool.{Bool, true, false}
 use mathlib.Core.List.{List}
@@ -18,12 +19,7 @@ use Rattle.fields.specs.Head.{sequence_in, stamp_in, facility_in, sequence_part,
 use Rattle.fields.specs.MessageType.{type_text}
 use Rattle.fields.specs.declared.heads.MessageType.{MessageType}
 use Rattle.fields.specs.declared.heads.MessageType.TheVariants.{Fz}
-use Rattle.fields.specs.declared.heads.TypeRead.{TypeRead}
-use Rattle.fields.specs.declared.heads.TypeRead.TheVariants as type
-use Rattle.table.specs.declared.kinds.FieldRead.TheVariants as field
 use Rattle.table.specs.Read.{padded, fault_number, fault_place}
-use Rattle.table.specs.declared.walk.Answer.{Answer}
-use Rattle.table.specs.declared.walk.Answer.TheVariants as answer
 use Rattle.table.specs.declared.walk.Fault.{Fault}
 use Rattle.table.specs.declared.walk.Fault.TheVariants as fault
 use Rattle.table.specs.Table.{has_fields, has_type, kinds_of, answer_by, values_by}
@@ -34,17 +30,11 @@ use Rattle.table.proofs.FieldCases.{field_one}
 use Rattle.table.proofs.SpacingLaws.{unique}
 use Rattle.messages.specs.declared.Reading.{Reading}
 use Rattle.messages.specs.Read.{typed_of, body_read, body_number}
-use Rattle.messages.specs.declared.typed.BodyRead.{BodyRead}
-use Rattle.messages.specs.declared.typed.BodyRead.TheVariants as body
 use Rattle.messages.proofs.ReadWays.{by_table, kept_whole}
 use Rattle.line.specs.Cases.{fewest, untyped, Framed, Headed, Faulty, RightUpTo, Case, Taken, Short, Long, Unprintable, NoSequence, NoStamp, NoFacility, NoType, Spacing, Field, Number, LongPlan}
 use Rattle.line.specs.Messages.{AnswerOf, answer_to, number_of, place_of}
 use Rattle.line.specs.Read.{type_by, head_of, with_body, rest_of, by_head, read_by, head_number, refusal_number, refusal_place, number_by, place_by, free_of}
 use Rattle.line.specs.declared.front.Head.{Head}
-use Rattle.line.specs.declared.front.HeadRead.{HeadRead}
-use Rattle.line.specs.declared.front.HeadRead.TheVariants as head
-use Rattle.line.specs.declared.RuleRead.{RuleRead}
-use Rattle.line.specs.declared.RuleRead.TheVariants as read
 use Rattle.line.specs.declared.Refusal.{Refusal}
 use Rattle.line.specs.declared.Refusal.TheVariants as refusal
 use Rattle.line.proofs.Heads.{made_of, type_by_sound, type_by_complete}
@@ -52,6 +42,8 @@ use Rattle.line.proofs.Ways.{line_short, line_long, line_byte, line_head, rest_l
 use Rattle.line.proofs.Lines.{reads_allowed, allowed_reads, line_numbers}
 use Rattle.line.proofs.Theorems.{answer_told}
 use Rattle.line.proofs.CasesBodies.{faulty_fields, no_fields, fields_none, fault_faulty, faulty_fault}
+use Rattle.table.specs.declared.kinds.NotRead.TheVariants.{Nothing, Number}
+use Rattle.messages.specs.declared.Body.{Body}
 
 -- the line is in the case of the answer that it reads as
 abbrev Own : Rule → List ℕ → Type 0
@@ -66,13 +58,13 @@ plan_type ρ t n =
     (λ e. true_false e refl) (λ e. true_false e refl) t
 
 -- THE NUMBER of a line is that of its head where this is refused, else that of its body
-with_number : (h : Head) (b : BodyRead) → number_by (with_body h b) ≡ body_number b
-with_number h (body.Read b t) = refl
-with_number h (body.Refused x) = refl
+with_number : (h : Head) (b : Result (Body × Bool) Fault) → number_by (with_body h b) ≡ body_number b
+with_number h (Ok (b, t)) = refl
+with_number h (Err x) = refl
 
-head_number_lem : (ρ : Rule) (s : List ℕ) (h : HeadRead) → (head_number h ≡ 0 → ⊥) → number_by (by_head ρ s h) ≡ head_number h
-head_number_lem ρ s (head.Read h) n = absurd (n refl)
-head_number_lem ρ s (head.Refused x) n = refl
+head_number_lem : (ρ : Rule) (s : List ℕ) (h : Result Head Refusal) → (head_number h ≡ 0 → ⊥) → number_by (by_head ρ s h) ≡ head_number h
+head_number_lem ρ s (Ok h) n = absurd (n refl)
+head_number_lem ρ s (Err x) n = refl
 
 -- the document's numbers of bytes are those of the head's parts
 fewest_is : (ρ : Rule) → fewest ρ ≡ head_length ρ
@@ -86,54 +78,54 @@ untyped_is Old = refl
 -- ---- what each case's facts make of a line, step by step
 
 module _ (ρ : Rule) (s : List ℕ) where
-  framed_reads : Framed ρ s → {h : HeadRead} → head_of ρ s ≡ h → by_head ρ s h ≡ read_by ρ s
+  framed_reads : Framed ρ s → {h : (Result Head Refusal)} → head_of ρ s ≡ h → by_head ρ s h ≡ read_by ρ s
   framed_reads f e = line_head ρ s (rw (← (fewest_is ρ)) f.enough) f.few f.printable e
 
   pub framed_number : Framed ρ s → (head_number (head_of ρ s) ≡ 0 → ⊥) → number_by (read_by ρ s) ≡ head_number (head_of ρ s)
   framed_number f n = ap number_by (sym (framed_reads f refl)) ∙ head_number_lem ρ s (head_of ρ s) n
 
-  no_sequence_reads : Framed ρ s → (sequence_in ρ).form (sequence_part ρ s) ≡ false → read.Refused refusal.NoSequence ≡ read_by ρ s
+  no_sequence_reads : Framed ρ s → (sequence_in ρ).form (sequence_part ρ s) ≡ false → Err refusal.NoSequence ≡ read_by ρ s
   unfolding head_of
-  no_sequence_reads f p = framed_reads f {h = head.Refused refusal.NoSequence} (rw p)
+  no_sequence_reads f p = framed_reads f {h = Err refusal.NoSequence} (rw p)
 
-  no_stamp_reads : Framed ρ s → (sequence_in ρ).form (sequence_part ρ s) ≡ true → (stamp_in ρ).form (stamp_part ρ s) ≡ false → read.Refused refusal.NoStamp ≡ read_by ρ s
+  no_stamp_reads : Framed ρ s → (sequence_in ρ).form (sequence_part ρ s) ≡ true → (stamp_in ρ).form (stamp_part ρ s) ≡ false → Err refusal.NoStamp ≡ read_by ρ s
   unfolding head_of
-  no_stamp_reads f p q = framed_reads f {h = head.Refused refusal.NoStamp} (rw (p, q))
+  no_stamp_reads f p q = framed_reads f {h = Err refusal.NoStamp} (rw (p, q))
 
-  no_facility_reads : Framed ρ s → (sequence_in ρ).form (sequence_part ρ s) ≡ true → (stamp_in ρ).form (stamp_part ρ s) ≡ true → (facility_in ρ).form (facility_part ρ s) ≡ false → read.Refused refusal.NoFacility ≡ read_by ρ s
+  no_facility_reads : Framed ρ s → (sequence_in ρ).form (sequence_part ρ s) ≡ true → (stamp_in ρ).form (stamp_part ρ s) ≡ true → (facility_in ρ).form (facility_part ρ s) ≡ false → Err refusal.NoFacility ≡ read_by ρ s
   unfolding head_of
-  no_facility_reads f p q r = framed_reads f {h = head.Refused refusal.NoFacility} (rw (p, q, r))
+  no_facility_reads f p q r = framed_reads f {h = Err refusal.NoFacility} (rw (p, q, r))
 
-  no_type_reads : Framed ρ s → (sequence_in ρ).form (sequence_part ρ s) ≡ true → (stamp_in ρ).form (stamp_part ρ s) ≡ true → (facility_in ρ).form (facility_part ρ s) ≡ true → type_by ρ (type_part ρ s) ≡ type.Nothing → read.Refused refusal.NoType ≡ read_by ρ s
+  no_type_reads : Framed ρ s → (sequence_in ρ).form (sequence_part ρ s) ≡ true → (stamp_in ρ).form (stamp_part ρ s) ≡ true → (facility_in ρ).form (facility_part ρ s) ≡ true → type_by ρ (type_part ρ s) ≡ None → Err refusal.NoType ≡ read_by ρ s
   unfolding head_of
-  no_type_reads f p q r e = framed_reads f {h = head.Refused refusal.NoType} (rw (p, q, r, e))
+  no_type_reads f p q r e = framed_reads f {h = Err refusal.NoType} (rw (p, q, r, e))
 
   module _ (t : MessageType) (k : Headed ρ s t) where
     headed_reads : rest_of ρ (made_of ρ s t) s ≡ read_by ρ s
     unfolding head_of
-    headed_reads = framed_reads k.stamped.framed {h = head.Read (made_of ρ s t)} (rw (k.stamped.sequence, k.stamped.stamp, k.stamped.facility, k.type, type_by_complete ρ t k.given))
+    headed_reads = framed_reads k.stamped.framed {h = Ok (made_of ρ s t)} (rw (k.stamped.sequence, k.stamped.stamp, k.stamped.facility, k.type, type_by_complete ρ t k.given))
 
-    long_reads : is_long_plan ρ t (length s) ≡ true → read.Refused refusal.LongPlan ≡ read_by ρ s
+    long_reads : is_long_plan ρ t (length s) ≡ true → Err refusal.LongPlan ≡ read_by ρ s
     long_reads e = rest_long ρ (made_of ρ s t) s e ∙ headed_reads
 
-    body_reads : is_long_plan ρ t (length s) ≡ false → {r : BodyRead} → body_read ρ t (body_part ρ s) ≡ r → with_body (made_of ρ s t) r ≡ read_by ρ s
+    body_reads : is_long_plan ρ t (length s) ≡ false → {r : (Result (Body × Bool) Fault)} → body_read ρ t (body_part ρ s) ≡ r → with_body (made_of ρ s t) r ≡ read_by ρ s
     unfolding rest_of
     body_reads e {r} q = let z : with_body (made_of ρ s t) r ≡ rest_of ρ (made_of ρ s t) s = rw (e, q) in z ∙ headed_reads
 
     pub headed_number : is_long_plan ρ t (length s) ≡ false → number_by (read_by ρ s) ≡ body_number (body_read ρ t (body_part ρ s))
     headed_number e = ap number_by (sym (body_reads e refl)) ∙ with_number (made_of ρ s t) (body_read ρ t (body_part ρ s))
 
-    table_reads : is_long_plan ρ t (length s) ≡ false → has_fields t ≡ true → {a : Answer} → answer_by ρ t (body_part ρ s) ≡ a → with_body (made_of ρ s t) (typed_of t (padded (values_by ρ t (body_part ρ s))) a) ≡ read_by ρ s
+    table_reads : is_long_plan ρ t (length s) ≡ false → has_fields t ≡ true → {a : (Result (Bool × ℕ) Fault)} → answer_by ρ t (body_part ρ s) ≡ a → with_body (made_of ρ s t) (typed_of t (padded (values_by ρ t (body_part ρ s))) a) ≡ read_by ρ s
     table_reads e h q = body_reads e (by_table ρ t (body_part ρ s) h ∙ ap (typed_of t (padded (values_by ρ t (body_part ρ s)))) q)
 
   -- ---- each line is in the case of its answer: its tests one after another, in document 01's order
 
   -- a line that is refused with x is in its own case if it is in x's
-  at : (x : Refusal) → read.Refused x ≡ read_by ρ s → Case ρ s (refusal_number x) (refusal_place x) → Own ρ s
-  at x e c = subst (λ (r : RuleRead). Case ρ s (number_by r) (place_by r)) e c
+  at : (x : Refusal) → Err x ≡ read_by ρ s → Case ρ s (refusal_number x) (refusal_place x) → Own ρ s
+  at x e c = subst (λ (r : Result Reading Refusal). Case ρ s (number_by r) (place_by r)) e c
 
-  taken_at : (x : Reading) → read.Read x ≡ read_by ρ s → Own ρ s
-  taken_at x e = let a = reads_allowed ρ s x (sym e) in subst (λ (r : RuleRead). Case ρ s (number_by r) (place_by r)) e (Taken x (free_of ρ s) a.0 a.1)
+  taken_at : (x : Reading) → Ok x ≡ read_by ρ s → Own ρ s
+  taken_at x e = let a = reads_allowed ρ s x (sym e) in subst (λ (r : Result Reading Refusal). Case ρ s (number_by r) (place_by r)) e (Taken x (free_of ρ s) a.0 a.1)
 
   -- a place is one more than an index
   placed : (n j i : ℕ) → j ≡ suc i → Case ρ s n (suc i) → Case ρ s n j
@@ -142,14 +134,14 @@ module _ (ρ : Rule) (s : List ℕ) where
   body_case : (t : MessageType) → Headed ρ s t → is_long_plan ρ t (length s) ≡ false → Own ρ s
   body_case t k l = go (has_fields t) refl
     where
-      refused : has_fields t ≡ true → (x : Fault) → answer_by ρ t (body_part ρ s) ≡ answer.Refused x → Case ρ s (fault_number x) (fault_place x)
+      refused : has_fields t ≡ true → (x : Fault) → answer_by ρ t (body_part ρ s) ≡ Err x → Case ρ s (fault_number x) (fault_place x)
       refused h fault.Spacing q = Spacing t k l h (no_fields ρ t (body_part ρ s) q)
-      refused h (fault.Field j) q = let (i, z, f) = fault_faulty ρ t (body_part ρ s) j field.Nothing refl q in placed 9 j i z (Field t i k l f)
-      refused h (fault.Number j) q = let (i, z, f) = fault_faulty ρ t (body_part ρ s) j field.Number refl q in placed 10 j i z (Number t i k l f)
+      refused h (fault.Field j) q = let (i, z, f) = fault_faulty ρ t (body_part ρ s) j (Err Nothing) refl q in placed 9 j i z (Field t i k l f)
+      refused h (fault.Number j) q = let (i, z, f) = fault_faulty ρ t (body_part ρ s) j (Err Number) refl q in placed 10 j i z (Number t i k l f)
 
-      by : has_fields t ≡ true → (a : Answer) → answer_by ρ t (body_part ρ s) ≡ a → Own ρ s
-      by h (answer.Taken u m) q = taken_at _ (table_reads t k l h q)
-      by h (answer.Refused x) q = at (refusal.Body x) (table_reads t k l h q) (refused h x q)
+      by : has_fields t ≡ true → (a : Result (Bool × ℕ) Fault) → answer_by ρ t (body_part ρ s) ≡ a → Own ρ s
+      by h (Ok (u, m)) q = taken_at _ (table_reads t k l h q)
+      by h (Err x) q = at (refusal.Body x) (table_reads t k l h q) (refused h x q)
 
       go : (c : Bool) → has_fields t ≡ c → Own ρ s
       go true h = by h (answer_by ρ t (body_part ρ s)) refl
@@ -165,14 +157,14 @@ module _ (ρ : Rule) (s : List ℕ) where
   framed_case : Framed ρ s → Own ρ s
   framed_case f = sequence ((sequence_in ρ).form (sequence_part ρ s)) refl
     where
-      typed : (sequence_in ρ).form (sequence_part ρ s) ≡ true → (stamp_in ρ).form (stamp_part ρ s) ≡ true → (facility_in ρ).form (facility_part ρ s) ≡ true → (d : TypeRead) → type_by ρ (type_part ρ s) ≡ d → Own ρ s
-      typed p q r (type.Read t) e =
+      typed : (sequence_in ρ).form (sequence_part ρ s) ≡ true → (stamp_in ρ).form (stamp_part ρ s) ≡ true → (facility_in ρ).form (facility_part ρ s) ≡ true → (d : Option MessageType) → type_by ρ (type_part ρ s) ≡ d → Own ρ s
+      typed p q r (Some t) e =
           let d = type_by_sound ρ (type_part ρ s) t e in
           headed_case t (record { stamped = record { framed = f; sequence = p; stamp = q; facility = r }; given = d.1; type = sym d.0 })
-      typed p q r type.Nothing e =
+      typed p q r None e =
           at refusal.NoType (no_type_reads f p q r e)
           (NoType (record { framed = f; sequence = p; stamp = q; facility = r })
-          (λ t g x. let z : type.Nothing ≡ type.Read t = sym e ∙ ap (type_by ρ) x ∙ type_by_complete ρ t g in let y : ◌≡◌ {A = ℕ} 0 1 = cc in omega arith))
+          (λ t g x. let z : None ≡ Some t = sym e ∙ ap (type_by ρ) x ∙ type_by_complete ρ t g in let y : ◌≡◌ {A = ℕ} 0 1 = cc in omega arith))
 
       facility : (sequence_in ρ).form (sequence_part ρ s) ≡ true → (stamp_in ρ).form (stamp_part ρ s) ≡ true → (c : Bool) → (facility_in ρ).form (facility_part ρ s) ≡ c → Own ρ s
       facility p q true r = typed p q r (type_by ρ (type_part ρ s)) refl
@@ -204,16 +196,16 @@ module _ (ρ : Rule) (s : List ℕ) where
 
   -- ---- and in no other: the facts of a case make the line read as that case's answer
 
-  refused : (x : Refusal) → read.Refused x ≡ read_by ρ s → (number_by (read_by ρ s) ≡ refusal_number x) × (place_by (read_by ρ s) ≡ refusal_place x)
+  refused : (x : Refusal) → Err x ≡ read_by ρ s → (number_by (read_by ρ s) ≡ refusal_number x) × (place_by (read_by ρ s) ≡ refusal_place x)
   refused x e = (ap number_by (sym e), ap place_by (sym e))
 
   -- letters that are no type's of the rule have no type
-  no_type : ((t : MessageType) → has_type ρ t ≡ true → type_part ρ s ≡ type_text t → ⊥) → type_by ρ (type_part ρ s) ≡ type.Nothing
+  no_type : ((t : MessageType) → has_type ρ t ≡ true → type_part ρ s ≡ type_text t → ⊥) → type_by ρ (type_part ρ s) ≡ None
   no_type none = go (type_by ρ (type_part ρ s)) refl
     where
-      go : (d : TypeRead) → type_by ρ (type_part ρ s) ≡ d → type_by ρ (type_part ρ s) ≡ type.Nothing
-      go (type.Read t) e = let d = type_by_sound ρ (type_part ρ s) t e in absurd (none t d.1 (sym d.0))
-      go type.Nothing e = e
+      go : (d : Option MessageType) → type_by ρ (type_part ρ s) ≡ d → type_by ρ (type_part ρ s) ≡ None
+      go (Some t) e = let d = type_by_sound ρ (type_part ρ s) t e in absurd (none t d.1 (sym d.0))
+      go None e = e
 
   -- a line over 2,048 bytes has those of its head
   enough_long : longest_line < length s → head_length ρ ≤ length s
@@ -235,8 +227,8 @@ module _ (ρ : Rule) (s : List ℕ) where
   case_only n p (NoFacility f a b c) = refused refusal.NoFacility (no_facility_reads f a b c)
   case_only n p (NoType f d) = refused refusal.NoType (no_type_reads f.framed f.sequence f.stamp f.facility (no_type d))
   case_only n p (Spacing t k l h d) = refused (refusal.Body fault.Spacing) (table_reads t k l h (fields_none ρ t (body_part ρ s) d))
-  case_only n p (Field t i k l f) = refused (refusal.Body (fault.Field (suc i))) (table_reads t k l (faulty_fields ρ t (body_part ρ s) i 9 f) (faulty_fault ρ t (body_part ρ s) i field.Nothing refl f))
-  case_only n p (Number t i k l f) = refused (refusal.Body (fault.Number (suc i))) (table_reads t k l (faulty_fields ρ t (body_part ρ s) i 10 f) (faulty_fault ρ t (body_part ρ s) i field.Number refl f))
+  case_only n p (Field t i k l f) = refused (refusal.Body (fault.Field (suc i))) (table_reads t k l (faulty_fields ρ t (body_part ρ s) i 9 f) (faulty_fault ρ t (body_part ρ s) i (Err Nothing) refl f))
+  case_only n p (Number t i k l f) = refused (refusal.Body (fault.Number (suc i))) (table_reads t k l (faulty_fields ρ t (body_part ρ s) i 10 f) (faulty_fault ρ t (body_part ρ s) i (Err Number) refl f))
   case_only n p (LongPlan k h) = refused refusal.LongPlan (long_reads Fz k (lt-ltb 439 (length s - type_at ρ) (rw (← (untyped_is ρ)) h)))
 
   -- so no line is in two cases with different numbers or places
@@ -273,7 +265,7 @@ module _ (ρ : Rule) (s : List ℕ) (t : MessageType) (fs : List (List ℕ)) (i 
 
   -- a line has one type, and its body one way to be fields
   same_type : (t' : MessageType) → Headed ρ s t' → t' ≡ t
-  same_type t' k = let e : type.Read t' ≡ type.Read t = sym (type_by_complete ρ t' k.given) ∙ ap (type_by ρ) (sym k.type ∙ u.head.type) ∙ type_by_complete ρ t u.head.given in cc
+  same_type t' k = let e : Some t' ≡ Some t = sym (type_by_complete ρ t' k.given) ∙ ap (type_by ρ) (sym k.type ∙ u.head.type) ∙ type_by_complete ρ t u.head.given in cc
 
   its_case : (t' : MessageType) (n : ℕ) → Headed ρ s t' → Faulty ρ t' (body_part ρ s) i n → here n
   its_case t' n k f =

@@ -1,5 +1,6 @@
 -- The cases of a body with fields: its spacing and count are wrong exactly if no right fields have its text, and a
 -- fault at a place is that of the first field that is not right. Assumes nothing.
+use Rattle.std.specs.Prelude.{Err, Result}
 use mathlib.Core.Path.{◌≡◌, refl, sym, ◌∙◌}
 use mathlib.Core.Bool.{Bool, true, false}
 use mathlib.Core.List.{List}
@@ -13,9 +14,7 @@ use Rattle.rules.specs.declared.Rule.{Rule}
 use Rattle.fields.specs.declared.heads.MessageType.{MessageType}
 use Rattle.table.specs.Spacing.{body_of, all_fields, Fields, fields_of}
 use Rattle.table.proofs.SpacingLaws.{fields_text_lem, fields_body}
-use Rattle.table.specs.declared.kinds.FieldRead.{FieldRead}
 use Rattle.table.specs.Read.{fault_at, answer_of}
-use Rattle.table.specs.declared.walk.Answer.TheVariants.{Refused}
 use Rattle.table.specs.declared.walk.Fault.TheVariants.{Spacing}
 use Rattle.table.specs.Read.{field_number}
 use Rattle.table.proofs.FieldCases.{table_tied}
@@ -24,6 +23,8 @@ use Rattle.table.specs.Table.{table_of, table_by, is_count, has_fields, kinds_of
 use Rattle.table.proofs.TableWays.{kinds_length}
 use Rattle.table.proofs.Tables.{table_few, table_length}
 use Rattle.line.specs.Cases.{Faulty}
+use Rattle.table.specs.declared.kinds.NotRead.{NotRead}
+use Rattle.table.specs.declared.kinds.Value.{Value}
 
 -- ---- a body with a fault has fields
 
@@ -52,22 +53,22 @@ module _ (ρ : Rule) (t : MessageType) (b : List ℕ) where
 
   -- ---- spacing or count wrong
 
-  pub no_fields : answer_by ρ t b ≡ Refused Spacing → (fs : List (List ℕ)) (u : Bool) → all_fields fs ≡ true → is_count t (length fs) ≡ true → body_of fs u ≡ b → ⊥
+  pub no_fields : answer_by ρ t b ≡ Err Spacing → (fs : List (List ℕ)) (u : Bool) → all_fields fs ≡ true → is_count t (length fs) ≡ true → body_of fs u ≡ b → ⊥
   no_fields e fs u every c text =
       let n = kinds_length ρ t (length fs) c in
       spacing (kinds_of ρ t (length fs)) b (rw n (table_few t (length fs) c)) (sym (by_kinds fs u every text c) ∙ e) fs u every (sym n) text
 
-  pub fields_none : ((fs : List (List ℕ)) (u : Bool) → all_fields fs ≡ true → is_count t (length fs) ≡ true → body_of fs u ≡ b → ⊥) → answer_by ρ t b ≡ Refused Spacing
+  pub fields_none : ((fs : List (List ℕ)) (u : Bool) → all_fields fs ≡ true → is_count t (length fs) ≡ true → body_of fs u ≡ b → ⊥) → answer_by ρ t b ≡ Err Spacing
   unfolding answer_by
   fields_none h = go (is_count t (count_in b)) refl
     where
-      go : (c : Bool) → is_count t (count_in b) ≡ c → answer_by ρ t b ≡ Refused Spacing
+      go : (c : Bool) → is_count t (count_in b) ≡ c → answer_by ρ t b ≡ Err Spacing
       go true q = rw q (spacing_only (kinds_of ρ t (count_in b)) b (λ fs u every n text. h fs u every (rw (count_is fs u every text) at q) text))
       go false q = rw q
 
   -- ---- the first field that is not right, with any fault
 
-  pub fault_faulty : (j : ℕ) (a : FieldRead) → is_fault a ≡ true → answer_by ρ t b ≡ Refused (fault_at j a) → (i : ℕ) × (j ≡ suc i) × Faulty ρ t b i (field_number a)
+  pub fault_faulty : (j : ℕ) (a : Result Value NotRead) → is_fault a ≡ true → answer_by ρ t b ≡ Err (fault_at j a) → (i : ℕ) × (j ≡ suc i) × Faulty ρ t b i (field_number a)
   unfolding answer_by
   fault_faulty j a h e = go (is_count t (count_in b)) refl
     where
@@ -90,7 +91,7 @@ module _ (ρ : Rule) (t : MessageType) (b : List ℕ) where
       go true q = from q (bad_at (kinds_of ρ t (count_in b)) b j a (table_tied ρ t (count_in b)) h (rw q at e))
       go false q = absurd (fault_spacing j a h (rw q at e))
 
-  pub faulty_fault : (i : ℕ) (a : FieldRead) → is_fault a ≡ true → Faulty ρ t b i (field_number a) → answer_by ρ t b ≡ Refused (fault_at (suc i) a)
+  pub faulty_fault : (i : ℕ) (a : Result Value NotRead) → is_fault a ≡ true → Faulty ρ t b i (field_number a) → answer_by ρ t b ≡ Err (fault_at (suc i) a)
   faulty_fault i a h f =
       let n = kinds_length ρ t (length f.fields) f.count in
       by_kinds f.fields f.trailing f.every f.text f.count

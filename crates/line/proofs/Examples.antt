@@ -1,5 +1,6 @@
 -- What the promises of `line` require on inputs written out, and so wrong answers that they do not allow: of each, `Post` is the function's
 -- `ensures` as it stands in the source, r any result that meets it, s the state at exit. Assumes nothing.
+use Rattle.std.specs.Prelude.{Result}
 use Prim.Native.Nat.{ℕ}
 use Prim.Native.String.{String}
 use mathlib.Core.List.{List, [], ◌∷◌, map}
@@ -29,13 +30,14 @@ use Rattle.table.specs.declared.walk.Fault.TheVariants as fault
 use Rattle.table.specs.Table.{count_with, is_count, table_by, kinds_of, count_in, answer_by, route_by, route_at_by}
 use Rattle.messages.specs.Read.{body_read}
 use Rattle.line.specs.Read.{type_by, head_of, rest_of, read_by, read_of, old_read_of, refusal_number, refusal_place, line_number, line_place, old_number, old_place, free_of, free_at}
-use Rattle.line.specs.declared.OldRead.{OldRead}
 use Rattle.line.specs.declared.Refusal.TheVariants as refusal
 use Rattle.line.proofs.Refusal.number.Reads as number
 use Rattle.line.proofs.Refusal.place.Reads as place
 use Rattle.line.proofs.free.Reads as free
 use Rattle.line.proofs.read.Reads as read
 use Rattle.line.proofs.read_old.Reads as read-old
+use Rattle.messages.specs.declared.OldMessage.{OldMessage}
+use Rattle.line.specs.declared.Refusal.{Refusal}
 
 -- document 01's starred line is read
 pub refuses_every_line : (κs : _) (a : _) (r : _) (s : _) → read.Post κs a r s → a.0.now ≡ bytes "000006143655KZMAHB" → line_number r ≡ 0
@@ -149,7 +151,7 @@ old_rows =
     ∷ []
 
 -- s being the line of a row, r is answered as the row says; and so of each row
-abbrev pub OldTells : List ℕ → OldRead → List OldRow → Type 0
+abbrev pub OldTells : List ℕ → Result OldMessage Refusal → List OldRow → Type 0
 OldTells s r [] = Unit {0}
 OldTells s r (x ∷ l) = (s ≡ bytes x.text → (old_number r ≡ x.number) × (old_place r ≡ x.place)) × OldTells s r l
 

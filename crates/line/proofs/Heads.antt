@@ -1,5 +1,6 @@
 -- THE LAWS of the head under the rule ρ: exactly which heads a line reads as, a line is its five parts, the parts of a line made of a head and
 -- a body are these, and a head's texts are printable. Assumes nothing.
+use Rattle.std.specs.Prelude.{Err, None, Ok, Option, Some}
 use mathlib.Core.Path.{◌≡◌, refl, sym, ap, ◌∙◌, subst}
 use mathlib.Core.Bool.{Bool, true, false, cond}
 use mathlib.Core.List.{List, [], ◌∷◌, ◌++◌}
@@ -17,14 +18,11 @@ use Rattle.fields.specs.Head.{sequence_in, stamp_in, facility_in, stamp_at, faci
 use Rattle.fields.specs.MessageType.{type_text, type_of}
 use Rattle.fields.specs.declared.heads.MessageType.{MessageType}
 use Rattle.fields.specs.declared.heads.MessageType.TheVariants.{Af, Az, Dz, Fz, Rz, Tz, Uz, Rt, To, Hb}
-use Rattle.fields.specs.declared.heads.TypeRead.{TypeRead}
-use Rattle.fields.specs.declared.heads.TypeRead.TheVariants as type
 use Rattle.fields.proofs.HeadLaws.{sequence_lawful, stamp_lawful, facility_lawful}
 use Rattle.fields.proofs.TypeLaws.{type_sound, type_complete, length-type}
 use Rattle.table.specs.Table.{has_type}
 use Rattle.line.specs.Read.{of_rule, type_by, typed, head_of}
 use Rattle.line.specs.declared.front.Head.{Head}
-use Rattle.line.specs.declared.front.HeadRead.TheVariants as head
 use Rattle.line.specs.declared.Refusal.TheVariants.{NoSequence, NoStamp, NoFacility}
 
 -- ---- a line is its five parts
@@ -68,22 +66,22 @@ joined_parts ρ a b c d e p q r two =
 
 -- ---- a type by the rule
 
-pub type_by_sound : (ρ : Rule) (s : List ℕ) (t : MessageType) → type_by ρ s ≡ type.Read t → (type_text t ≡ s) × (has_type ρ t ≡ true)
+pub type_by_sound : (ρ : Rule) (s : List ℕ) (t : MessageType) → type_by ρ s ≡ Some t → (type_text t ≡ s) × (has_type ρ t ≡ true)
 unfolding type_by
 type_by_sound ρ s t e = go (type_of s) refl e
   where
-    none : {X : Type 0} → type.Nothing ≡ type.Read t → X
+    none : {X : Type 0} → None ≡ Some t → X
     none z = absurd (let y : ◌≡◌ {A = ℕ} 0 1 = cc in omega arith)
 
-    kept : (u : MessageType) (c : Bool) → has_type ρ u ≡ c → type_of s ≡ type.Read u → cond c (type.Read u) type.Nothing ≡ type.Read t → (type_text t ≡ s) × (has_type ρ t ≡ true)
+    kept : (u : MessageType) (c : Bool) → has_type ρ u ≡ c → type_of s ≡ Some u → cond c (Some u) None ≡ Some t → (type_text t ≡ s) × (has_type ρ t ≡ true)
     kept u true q p d = let z : u ≡ t = cc in rw (← z) (type_sound s u p, q)
     kept u false q p d = none d
 
-    go : (x : TypeRead) → type_of s ≡ x → of_rule ρ x ≡ type.Read t → (type_text t ≡ s) × (has_type ρ t ≡ true)
-    go (type.Read u) p d = kept u (has_type ρ u) refl p d
-    go type.Nothing p d = none d
+    go : (x : Option MessageType) → type_of s ≡ x → of_rule ρ x ≡ Some t → (type_text t ≡ s) × (has_type ρ t ≡ true)
+    go (Some u) p d = kept u (has_type ρ u) refl p d
+    go None p d = none d
 
-pub type_by_complete : (ρ : Rule) (t : MessageType) → has_type ρ t ≡ true → type_by ρ (type_text t) ≡ type.Read t
+pub type_by_complete : (ρ : Rule) (t : MessageType) → has_type ρ t ≡ true → type_by ρ (type_text t) ≡ Some t
 unfolding type_by
 type_by_complete ρ t e = rw (type_complete t, e)
 
@@ -98,14 +96,14 @@ pub record IsHeadOf (ρ : Rule) (h : Head) (s : List ℕ) : Type 0 where
   pub facility_text_lem : (facility_in ρ).shown h.facility ≡ facility_part ρ s
   pub type_given : has_type ρ h.kind ≡ true
   pub type_text_lem : type_text h.kind ≡ type_part ρ s
-  pub type_read : type_by ρ (type_part ρ s) ≡ type.Read h.kind
+  pub type_read : type_by ρ (type_part ρ s) ≡ Some h.kind
 
 -- the head that a line of these forms reads as
 abbrev pub made_of : Rule → List ℕ → MessageType → Head
 made_of ρ s t = record { sequence = (sequence_in ρ).kept (sequence_part ρ s); stamp = (stamp_in ρ).kept (stamp_part ρ s); facility = (facility_in ρ).kept (facility_part ρ s); kind = t }
 
 made_known : (ρ : Rule) (s : List ℕ) (t : MessageType) → (sequence_in ρ).form (sequence_part ρ s) ≡ true → (stamp_in ρ).form (stamp_part ρ s) ≡ true
-    → (facility_in ρ).form (facility_part ρ s) ≡ true → type_by ρ (type_part ρ s) ≡ type.Read t → IsHeadOf ρ (made_of ρ s t) s
+    → (facility_in ρ).form (facility_part ρ s) ≡ true → type_by ρ (type_part ρ s) ≡ Some t → IsHeadOf ρ (made_of ρ s t) s
 made_known ρ s t p q r y =
     let a = (sequence_lawful ρ).back (sequence_part ρ s) p in
     let b = (stamp_lawful ρ).back (stamp_part ρ s) q in
@@ -133,21 +131,21 @@ where_fails true w x r f g e = absurd (f e)
 where_fails false w x r f g e = g refl e
 
 -- a line that reads as a head has it
-pub head_sound : (ρ : Rule) (s : List ℕ) (h : Head) → head_of ρ s ≡ head.Read h → IsHeadOf ρ h s
+pub head_sound : (ρ : Rule) (s : List ℕ) (h : Head) → head_of ρ s ≡ Ok h → IsHeadOf ρ h s
 unfolding head_of
 head_sound ρ s h =
-    where_holds ((sequence_in ρ).form (sequence_part ρ s)) _ (head.Refused NoSequence) (head.Read h) (λ e. let z : ◌≡◌ {A = ℕ} 0 1 = cc in omega arith)
-    (λ p. where_holds ((stamp_in ρ).form (stamp_part ρ s)) _ (head.Refused NoStamp) (head.Read h) (λ e. let z : ◌≡◌ {A = ℕ} 0 1 = cc in omega arith)
-    (λ q. where_holds ((facility_in ρ).form (facility_part ρ s)) _ (head.Refused NoFacility) (head.Read h) (λ e. let z : ◌≡◌ {A = ℕ} 0 1 = cc in omega arith)
+    where_holds ((sequence_in ρ).form (sequence_part ρ s)) _ (Err NoSequence) (Ok h) (λ e. let z : ◌≡◌ {A = ℕ} 0 1 = cc in omega arith)
+    (λ p. where_holds ((stamp_in ρ).form (stamp_part ρ s)) _ (Err NoStamp) (Ok h) (λ e. let z : ◌≡◌ {A = ℕ} 0 1 = cc in omega arith)
+    (λ q. where_holds ((facility_in ρ).form (facility_part ρ s)) _ (Err NoFacility) (Ok h) (λ e. let z : ◌≡◌ {A = ℕ} 0 1 = cc in omega arith)
     (λ r. go p q r (type_by ρ (type_part ρ s)) refl)))
   where
     go : (sequence_in ρ).form (sequence_part ρ s) ≡ true → (stamp_in ρ).form (stamp_part ρ s) ≡ true → (facility_in ρ).form (facility_part ρ s) ≡ true
-        → (d : TypeRead) → type_by ρ (type_part ρ s) ≡ d → typed ρ s d ≡ head.Read h → IsHeadOf ρ h s
-    go p q r (type.Read t) y e = let z : made_of ρ s t ≡ h = cc in subst (λ (g : Head). IsHeadOf ρ g s) z (made_known ρ s t p q r y)
-    go p q r type.Nothing y e = absurd (let z : ◌≡◌ {A = ℕ} 0 1 = cc in omega arith)
+        → (d : Option MessageType) → type_by ρ (type_part ρ s) ≡ d → typed ρ s d ≡ Ok h → IsHeadOf ρ h s
+    go p q r (Some t) y e = let z : made_of ρ s t ≡ h = cc in subst (λ (g : Head). IsHeadOf ρ g s) z (made_known ρ s t p q r y)
+    go p q r None y e = absurd (let z : ◌≡◌ {A = ℕ} 0 1 = cc in omega arith)
 
 -- and one that has it reads as it
-pub head_complete : (ρ : Rule) (s : List ℕ) (h : Head) → IsHeadOf ρ h s → head_of ρ s ≡ head.Read h
+pub head_complete : (ρ : Rule) (s : List ℕ) (h : Head) → IsHeadOf ρ h s → head_of ρ s ≡ Ok h
 unfolding head_of
 head_complete ρ s h k =
     let a : ((sequence_in ρ).form (sequence_part ρ s) ≡ true) × ((sequence_in ρ).kept (sequence_part ρ s) ≡ h.sequence) = rw (← k.sequence_text) ((sequence_lawful ρ).forth h.sequence k.sequence_held) in

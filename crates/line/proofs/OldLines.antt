@@ -1,5 +1,6 @@
 -- THE THEOREMS of the old feed's lines (document 02, l), of the call where a call is meant: 4 is not given; RT, TO and HB answer 7; no message has an
 -- aircraft's last letter or an AZ clock with a prefix, and a line that has one answers 9 with its place; no line reads under both rules. Assumes nothing.
+use Rattle.std.specs.Prelude.{Ok, Some}
 use mathlib.Core.Path.{◌≡◌, refl, sym, ap, ◌∙◌}
 use mathlib.Core.Bool.{true, false, ◌&&◌}
 use mathlib.Core.List.{List, [], ◌∷◌}
@@ -22,7 +23,6 @@ use Rattle.fields.specs.Head.{stamp_in, facility_in, type_part}
 use Rattle.fields.specs.MessageType.{type_text, type_of}
 use Rattle.fields.specs.declared.heads.MessageType.{MessageType}
 use Rattle.fields.specs.declared.heads.MessageType.TheVariants.{Af, Az, Dz, Fz, Rz, Tz, Uz, Rt, To, Hb}
-use Rattle.fields.specs.declared.heads.TypeRead.TheVariants as type
 use Rattle.fields.proofs.HeadLaws.{stamp_lawful, facility_lawful}
 use Rattle.fields.proofs.TypeLaws.{type_complete}
 use Rattle.table.specs.Fault.{field_at}
@@ -38,9 +38,6 @@ use Rattle.messages.proofs.OldBodies.{old_lacks}
 use Rattle.line.specs.Cases.{Stamped, RightUpTo, Case, Taken, Short, Long, Unprintable, NoSequence, NoStamp, NoFacility, NoType, Spacing, Field, Number, LongPlan}
 use Rattle.line.specs.Messages.{Took}
 use Rattle.line.specs.Read.{read_by, read_of, old_read_of, old_number, old_place, free_of}
-use Rattle.line.specs.declared.LineRead.TheVariants as new
-use Rattle.line.specs.declared.OldRead.TheVariants as old
-use Rattle.line.specs.declared.RuleRead.TheVariants.{Read}
 use Rattle.line.proofs.Calls.{ReadCall, read_told}
 use Rattle.line.proofs.Cases.{answer_only, wrong_there}
 use Rattle.line.proofs.Placed.{reads_stand}
@@ -79,14 +76,14 @@ read_old_no_type κs a r s p t n f e = ap old_number p.0 ∙ (answer_only Old a.
   where
     other : (u : MessageType) → has_type Old u ≡ true → type_part Old a.0.now ≡ type_text u → ⊥
     other u g q =
-        let z : type.Read u ≡ type.Read t = sym (type_complete u) ∙ ap type_of (sym q ∙ e) ∙ type_complete t in
+        let z : Some u ≡ Some t = sym (type_complete u) ∙ ap type_of (sym q ∙ e) ∙ type_complete t in
         let y : u ≡ t = cc in
         true_false g (rw y n)
 
 -- ---- "An aircraft field with a last letter, or an AZ clock with a prefix, has no reading there"
 
 -- what is read has neither
-pub read_old_lacks : (κs : _) (a : _) (r : _) (s : _) (m : OldMessage) → read-old.Post κs a r s → r ≡ old.Read m → Lacks m.body
+pub read_old_lacks : (κs : _) (a : _) (r : _) (s : _) (m : OldMessage) → read-old.Post κs a r s → r ≡ Ok m → Lacks m.body
 read_old_lacks κs a r s m p e =
     let x = (reads_allowed Old a.0.now m (sym p.0 ∙ e)).0 in
     old_lacks m.body _ m.trailing (allowed_allows Old (old_reading_of m) (free_of Old a.0.now) x).body
@@ -126,7 +123,7 @@ seventh_letter : (s : List ℕ) → is_form LETTER (part 6 1 s) ≡ true → fit
 unfolding is_form
 seventh_letter s e = e
 
-never_both : (s : List ℕ) (x y : Reading) → read_by New s ≡ Read x → read_by Old s ≡ Read y → ⊥
+never_both : (s : List ℕ) (x y : Reading) → read_by New s ≡ Ok x → read_by Old s ≡ Ok y → ⊥
 never_both s x y e f =
     let a = reads_stand New s x e in
     let b = reads_stand Old s y f in
@@ -134,7 +131,7 @@ never_both s x y e f =
     (seventh_digit s (ap (stamp_in New).form (sym a.stamp) ∙ ((stamp_lawful New).forth x.stamp a.stamp_held).0))
     (seventh_letter s (ap (facility_in Old).form (sym b.facility) ∙ ((facility_lawful Old).forth y.facility b.facility_held).0))
 
-pub one_rule : (s : List ℕ) (m : Message) (o : OldMessage) → read_of s ≡ new.Read m → old_read_of s ≡ old.Read o → ⊥
+pub one_rule : (s : List ℕ) (m : Message) (o : OldMessage) → read_of s ≡ Ok m → old_read_of s ≡ Ok o → ⊥
 one_rule s m o e f = never_both s (reading_of m) (old_reading_of o) (message_reading New s m e) (message_reading Old s o f)
 
 pub read_one_rule : {line : List ℕ} {m : Message} {o : OldMessage} → ReadCall New line (Took New m) → ReadCall Old line (Took Old o) → ⊥

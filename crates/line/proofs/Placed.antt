@@ -1,5 +1,6 @@
 -- THE LAW of a line that reads: the parts of its message stand where document 01 says, and so does the flight's key; those of an old line where
 -- document 02 says. Assumes nothing.
+use Rattle.std.specs.Prelude.{Ok}
 use mathlib.Core.Path.{◌≡◌, sym, ◌∙◌}
 use mathlib.Core.Bool.{true, false}
 use mathlib.Core.List.{List}
@@ -27,9 +28,6 @@ use Rattle.messages.proofs.Named.{body_named}
 use Rattle.messages.proofs.Keys.{body_key}
 use Rattle.line.specs.Read.{read_by, read_of, old_read_of, free_of}
 use Rattle.line.specs.Placed.{Placed, OldPlaced}
-use Rattle.line.specs.declared.LineRead.TheVariants as new
-use Rattle.line.specs.declared.OldRead.TheVariants as old
-use Rattle.line.specs.declared.RuleRead.TheVariants.{Read}
 use Rattle.line.proofs.Heads.{printable_left}
 use Rattle.line.proofs.Steps.{Passes, reads_passes, passes_head, passes_free}
 use Rattle.line.proofs.Theorems.{message_reading}
@@ -47,7 +45,7 @@ pub record Stands (ρ : Rule) (s : List ℕ) (x : Reading) : Type 0 where
   pub given : has_type ρ (type_in x.body) ≡ true
   pub fields : has_fields (type_in x.body) ≡ true → AreFields (body_part ρ s) (named x.body (free_of ρ s))
 
-module _ (ρ : Rule) (s : List ℕ) (x : Reading) (e : read_by ρ s ≡ Read x) where
+module _ (ρ : Rule) (s : List ℕ) (x : Reading) (e : read_by ρ s ≡ Ok x) where
   passed : (k : MessageType) × Passes ρ s x k
   passed = reads_passes ρ x s e
 
@@ -76,7 +74,7 @@ module _ (ρ : Rule) (s : List ℕ) (x : Reading) (e : read_by ρ s ≡ Read x) 
   pub stands_key : has_fields (type_in x.body) ≡ true → (is_word KEY (key_in x.body) ≡ true) × (text_of (key_in x.body) ≡ before slash (field_at 1 (body_part ρ s)))
   stands_key f = let (k, p) = passed in body_key ρ k (body_part ρ s) x.body x.trailing (rw kind at f) p.body
 
-pub reads_placed : (s : List ℕ) (m : Message) → read_of s ≡ new.Read m → Placed s m
+pub reads_placed : (s : List ℕ) (m : Message) → read_of s ≡ Ok m → Placed s m
 reads_placed s m e =
     let q = message_reading New s m e in
     let a = reads_stand New s (reading_of m) q in
@@ -89,18 +87,18 @@ reads_placed s m e =
       whole = kept_free New s (reading_of m) q;
     }
 
-pub reads_key : (s : List ℕ) (m : Message) → read_of s ≡ new.Read m → has_fields (type_in m.body) ≡ true
+pub reads_key : (s : List ℕ) (m : Message) → read_of s ≡ Ok m → has_fields (type_in m.body) ≡ true
     → (is_word KEY (key_in m.body) ≡ true) × (text_of (key_in m.body) ≡ before slash (field_at 1 (drop 18 s)))
 reads_key s m e = stands_key New s (reading_of m) (message_reading New s m e)
 
-pub old_reads_placed : (s : List ℕ) (m : OldMessage) → old_read_of s ≡ old.Read m → OldPlaced s m
+pub old_reads_placed : (s : List ℕ) (m : OldMessage) → old_read_of s ≡ Ok m → OldPlaced s m
 old_reads_placed s m e =
     let a = reads_stand Old s (old_reading_of m) (message_reading Old s m e) in
     record { stamp = a.stamp; center = a.facility; type = a.type; seven = a.given; fields = a.fields a.given }
 
 -- so of what `line::read` and `line::read_old` answer: `Post` is the `ensures` as it stands in the source
-pub read_placed : (κs : _) (a : _) (r : _) (s : _) (m : Message) → read.Post κs a r s → r ≡ new.Read m → Placed a.0.now m
+pub read_placed : (κs : _) (a : _) (r : _) (s : _) (m : Message) → read.Post κs a r s → r ≡ Ok m → Placed a.0.now m
 read_placed κs a r s m p e = reads_placed a.0.now m (sym p.0 ∙ e)
 
-pub read_old_placed : (κs : _) (a : _) (r : _) (s : _) (m : OldMessage) → read-old.Post κs a r s → r ≡ old.Read m → OldPlaced a.0.now m
+pub read_old_placed : (κs : _) (a : _) (r : _) (s : _) (m : OldMessage) → read-old.Post κs a r s → r ≡ Ok m → OldPlaced a.0.now m
 read_old_placed κs a r s m p e = old_reads_placed a.0.now m (sym p.0 ∙ e)

@@ -1,5 +1,6 @@
 -- The steps by which a line reads under the rule ρ, in document 01's order: a line reads exactly if it passes each of them. And
 -- the tests that an allowed reading passes. Assumes nothing.
+use Rattle.std.specs.Prelude.{Bool, Err, Ok, Result, Some}
 use mathlib.Core.Path.{◌≡◌, refl, ap, ◌∙◌}
 use mathlib.Core.Bool.{true, false, not, ◌&&◌}
 use mathlib.Core.List.{List}
@@ -14,24 +15,20 @@ use Rattle.rules.specs.Frame.{longest_line}
 use Rattle.rules.specs.declared.Rule.{Rule}
 use Rattle.fields.specs.Head.{sequence_in, stamp_in, facility_in, head_length, body_part}
 use Rattle.fields.specs.declared.heads.MessageType.{MessageType}
-use Rattle.fields.specs.declared.heads.TypeRead.TheVariants as type
 use Rattle.table.specs.Plan.{is_long_plan}
 use Rattle.table.specs.Table.{has_type}
 use Rattle.messages.specs.Body.{type_in}
 use Rattle.messages.specs.Allowed.{body_text, is_body}
 use Rattle.messages.specs.declared.Reading.{Reading}
 use Rattle.messages.specs.Read.{body_read}
-use Rattle.messages.specs.declared.typed.BodyRead.{BodyRead}
-use Rattle.messages.specs.declared.typed.BodyRead.TheVariants as body
 use Rattle.line.specs.Line.{line_by, is_head_by, has_size_by, is_allowed_by}
 use Rattle.line.specs.Read.{head_of, with_body, rest_of, by_head, read_by, free_by, free_of}
 use Rattle.line.specs.declared.front.Head.{Head}
-use Rattle.line.specs.declared.front.HeadRead.{HeadRead}
-use Rattle.line.specs.declared.front.HeadRead.TheVariants as head
-use Rattle.line.specs.declared.RuleRead.TheVariants.{Read, Refused}
 use Rattle.line.specs.declared.Refusal.{Refusal}
 use Rattle.line.specs.declared.Refusal.TheVariants.{Short, Long, Unprintable, LongPlan, Body}
 use Rattle.line.proofs.Heads.{five_parts, IsHeadOf, where_holds, where_fails, head_sound, head_complete, headed_parts, headed_is, headed_printable}
+use Rattle.messages.specs.declared.Body.{Body}
+use Rattle.table.specs.declared.walk.Fault.{Fault}
 
 -- the head of a reading of type k
 abbrev pub head_in : Reading → MessageType → Head
@@ -42,13 +39,13 @@ pub record Passes (ρ : Rule) (s : List ℕ) (x : Reading) (k : MessageType) : T
   pub enough : head_length ρ ≤ length s
   pub short : length s ≤ longest_line
   pub printable : all_in 32 126 s ≡ true
-  pub head : head_of ρ s ≡ head.Read (head_in x k)
+  pub head : head_of ρ s ≡ Ok (head_in x k)
   pub plan : is_long_plan ρ k (length s) ≡ false
-  pub body : body_read ρ k (body_part ρ s) ≡ body.Read x.body x.trailing
+  pub body : body_read ρ k (body_part ρ s) ≡ Ok (x.body, x.trailing)
 
 -- ---- what passes reads
 
-pub passes_reads : (ρ : Rule) (s : List ℕ) (x : Reading) (k : MessageType) → Passes ρ s x k → read_by ρ s ≡ Read x
+pub passes_reads : (ρ : Rule) (s : List ℕ) (x : Reading) (k : MessageType) → Passes ρ s x k → read_by ρ s ≡ Ok x
 unfolding read_by rest_of
 passes_reads ρ s x k p = rw (le-ltb (length s) (head_length ρ) p.enough, le-ltb longest_line (length s) p.short, p.printable, p.head, p.plan, p.body)
 
@@ -56,37 +53,37 @@ passes_reads ρ s x k p = rw (le-ltb (length s) (head_length ρ) p.enough, le-lt
 
 module _ (ρ : Rule) (x : Reading) where
   -- what is refused does not read
-  refused : (y : Refusal) → Refused y ≡ Read x → ⊥
+  refused : (y : Refusal) → Err y ≡ Ok x → ⊥
   refused y e = let z : ◌≡◌ {A = ℕ} 0 1 = cc in omega arith
 
-  from_body : (h : Head) (r : BodyRead) → with_body h r ≡ Read x → (h ≡ head_in x h.kind) × (r ≡ body.Read x.body x.trailing)
-  from_body h (body.Read b t) e =
+  from_body : (h : Head) (r : Result (Body × Bool) Fault) → with_body h r ≡ Ok x → (h ≡ head_in x h.kind) × (r ≡ Ok (x.body, x.trailing))
+  from_body h (Ok (b, t)) e =
       let z : record { sequence = h.sequence; stamp = h.stamp; facility = h.facility; body = b; trailing = t } ≡ x = cc in
-      (ap (λ (n : Reading). head_in n h.kind) z, ap (λ (n : Reading). body.Read n.body n.trailing) z)
-  from_body h (body.Refused y) e = absurd (refused (Body y) e)
+      (ap (λ (n : Reading). head_in n h.kind) z, ap (λ (n : Reading). Ok (n.body, n.trailing)) z)
+  from_body h (Err y) e = absurd (refused (Body y) e)
 
-  from_head : (s : List ℕ) (r : HeadRead) → by_head ρ s r ≡ Read x → (h : Head) × (r ≡ head.Read h) × (rest_of ρ h s ≡ Read x)
-  from_head s (head.Read h) e = (h, refl, e)
-  from_head s (head.Refused y) e = absurd (refused y e)
+  from_head : (s : List ℕ) (r : Result Head Refusal) → by_head ρ s r ≡ Ok x → (h : Head) × (r ≡ Ok h) × (rest_of ρ h s ≡ Ok x)
+  from_head s (Ok h) e = (h, refl, e)
+  from_head s (Err y) e = absurd (refused y e)
 
-  pub reads_passes : (s : List ℕ) → read_by ρ s ≡ Read x → (k : MessageType) × Passes ρ s x k
+  pub reads_passes : (s : List ℕ) → read_by ρ s ≡ Ok x → (k : MessageType) × Passes ρ s x k
   unfolding read_by rest_of
   reads_passes s =
-      where_fails (ltb (length s) (head_length ρ)) (Refused Short) _ (Read x) (refused Short)
-      (λ a. where_fails (ltb longest_line (length s)) (Refused Long) _ (Read x) (refused Long)
-      (λ b. where_holds (all_in 32 126 s) _ (Refused Unprintable) (Read x) (refused Unprintable)
+      where_fails (ltb (length s) (head_length ρ)) (Err Short) _ (Ok x) (refused Short)
+      (λ a. where_fails (ltb longest_line (length s)) (Err Long) _ (Ok x) (refused Long)
+      (λ b. where_holds (all_in 32 126 s) _ (Err Unprintable) (Ok x) (refused Unprintable)
       (λ c e. headed a b c (from_head s (head_of ρ s) e))))
     where
-      headed : ltb (length s) (head_length ρ) ≡ false → ltb longest_line (length s) ≡ false → all_in 32 126 s ≡ true → (h : Head) × (head_of ρ s ≡ head.Read h) × (rest_of ρ h s ≡ Read x) → (k : MessageType) × Passes ρ s x k
+      headed : ltb (length s) (head_length ρ) ≡ false → ltb longest_line (length s) ≡ false → all_in 32 126 s ≡ true → (h : Head) × (head_of ρ s ≡ Ok h) × (rest_of ρ h s ≡ Ok x) → (k : MessageType) × Passes ρ s x k
       headed a b c (h, d, e) =
-          where_fails (is_long_plan ρ h.kind (length s)) (Refused LongPlan) (with_body h (body_read ρ h.kind (body_part ρ s))) (Read x) (refused LongPlan)
+          where_fails (is_long_plan ρ h.kind (length s)) (Err LongPlan) (with_body h (body_read ρ h.kind (body_part ρ s))) (Ok x) (refused LongPlan)
           (λ f g. let r = from_body h (body_read ρ h.kind (body_part ρ s)) g in (
             h.kind,
             record {
               enough = ltb-false (length s) (head_length ρ) a;
               short = ltb-false longest_line (length s) b;
               printable = c;
-              head = d ∙ ap head.Read r.0;
+              head = d ∙ ap Ok r.0;
               plan = f;
               body = r.1;
             },
@@ -98,7 +95,7 @@ module _ (ρ : Rule) (s : List ℕ) (x : Reading) (k : MessageType) (p : Passes 
   pub passes_head : IsHeadOf ρ (head_in x k) s
   passes_head = head_sound ρ s (head_in x k) p.head
 
-  pub passes_free : free_of ρ s ≡ free_by ρ (type.Read k) (body_part ρ s)
+  pub passes_free : free_of ρ s ≡ free_by ρ (Some k) (body_part ρ s)
   unfolding free_of
   passes_free = rw (le-ltb (length s) (head_length ρ) p.enough, passes_head.type_read)
 
@@ -166,7 +163,7 @@ module _ (ρ : Rule) (x : Reading) (r : List ℕ) (a : Allows ρ x r) where
   unfolding line_by
   text_body = (headed_parts ρ (head_in x (type_in x.body)) (body_text ρ x.body r x.trailing) a.sequence_held a.stamp_held a.facility_held).rest
 
-  pub allows_passes : all_in 32 126 (body_text ρ x.body r x.trailing) ≡ true → body_read ρ (type_in x.body) (body_text ρ x.body r x.trailing) ≡ body.Read x.body x.trailing → Passes ρ (line_by ρ x r) x (type_in x.body)
+  pub allows_passes : all_in 32 126 (body_text ρ x.body r x.trailing) ≡ true → body_read ρ (type_in x.body) (body_text ρ x.body r x.trailing) ≡ Ok (x.body, x.trailing) → Passes ρ (line_by ρ x r) x (type_in x.body)
   unfolding line_by
   allows_passes clean reads =
       let h = head_in x (type_in x.body) in

@@ -1,5 +1,6 @@
 -- THE THEOREMS of demand 2 about messages, once over the rule ρ: what reads is allowed and its text is the line, and the text of every allowed message
 -- reads as that message. They are the theorems of lines (`Lines`), since a message and its reading give each other. Assumes nothing.
+use Rattle.std.specs.Prelude.{Err, Ok, Result}
 use mathlib.Core.Path.{◌≡◌, refl, sym, ap, ◌∙◌}
 use mathlib.Core.Bool.{true}
 use mathlib.Core.List.{List}
@@ -13,18 +14,15 @@ use Rattle.messages.specs.declared.Reading.{Reading}
 use Rattle.line.specs.Line.{line_by, is_allowed_by}
 use Rattle.line.specs.Messages.{MessageOf, reading_in, AnswerOf, answer_to, Took, number_of, place_of, read_as}
 use Rattle.line.specs.Read.{read_by, newly, oldly, read_of, old_read_of, number_by, place_by, free_of}
-use Rattle.line.specs.declared.LineRead.TheVariants as new
-use Rattle.line.specs.declared.OldRead.TheVariants as old
-use Rattle.line.specs.declared.RuleRead.{RuleRead}
-use Rattle.line.specs.declared.RuleRead.TheVariants.{Read, Refused}
 use Rattle.line.proofs.Lines as lines
 use Rattle.line.proofs.Lines.{refusal_numbers}
 use Rattle.line.proofs.Steps.{allowed_allows}
+use Rattle.line.specs.declared.Refusal.{Refusal}
 
 -- ---- a message and its reading give each other
 
 -- a line of the old feed is read with no sequence number
-old_whole : (s : List ℕ) (x : Reading) → read_by Old s ≡ Read x → old_reading_of (old_message_of x) ≡ x
+old_whole : (s : List ℕ) (x : Reading) → read_by Old s ≡ Ok x → old_reading_of (old_message_of x) ≡ x
 old_whole s x e =
     let n = eqb-true x.sequence 0 (allowed_allows Old x (free_of Old s) (lines.reads_allowed Old s x e).0).sequence_held in
     λ i. record { sequence = sym n i; stamp = x.stamp; facility = x.facility; body = x.body; trailing = x.trailing }
@@ -33,23 +31,23 @@ pub answer_reading : (ρ : Rule) (s : List ℕ) → read_as ρ (answer_to ρ s) 
 unfolding read_of old_read_of
 answer_reading New s = go (read_by New s)
   where
-    go : (x : RuleRead) → read_as New (newly x) ≡ x
-    go (Read x) = refl
-    go (Refused y) = refl
+    go : (x : Result Reading Refusal) → read_as New (newly x) ≡ x
+    go (Ok x) = refl
+    go (Err y) = refl
 answer_reading Old s = go (read_by Old s) refl
   where
-    go : (x : RuleRead) → read_by Old s ≡ x → read_as Old (oldly x) ≡ x
-    go (Read x) e = ap Read (old_whole s x e)
-    go (Refused y) e = refl
+    go : (x : Result Reading Refusal) → read_by Old s ≡ x → read_as Old (oldly x) ≡ x
+    go (Ok x) e = ap Ok (old_whole s x e)
+    go (Err y) e = refl
 
-took_reading : (ρ : Rule) (m : MessageOf ρ) → read_as ρ (Took ρ m) ≡ Read (reading_in ρ m)
+took_reading : (ρ : Rule) (m : MessageOf ρ) → read_as ρ (Took ρ m) ≡ Ok (reading_in ρ m)
 took_reading New m = refl
 took_reading Old m = refl
 
-pub message_reading : (ρ : Rule) (s : List ℕ) (m : MessageOf ρ) → answer_to ρ s ≡ Took ρ m → read_by ρ s ≡ Read (reading_in ρ m)
+pub message_reading : (ρ : Rule) (s : List ℕ) (m : MessageOf ρ) → answer_to ρ s ≡ Took ρ m → read_by ρ s ≡ Ok (reading_in ρ m)
 message_reading ρ s m e = sym (answer_reading ρ s) ∙ ap (read_as ρ) e ∙ took_reading ρ m
 
-pub reading_message : (ρ : Rule) (s : List ℕ) (m : MessageOf ρ) → read_by ρ s ≡ Read (reading_in ρ m) → answer_to ρ s ≡ Took ρ m
+pub reading_message : (ρ : Rule) (s : List ℕ) (m : MessageOf ρ) → read_by ρ s ≡ Ok (reading_in ρ m) → answer_to ρ s ≡ Took ρ m
 unfolding read_of old_read_of
 reading_message New s m e = ap newly e
 reading_message Old s m e = ap oldly e
@@ -88,27 +86,27 @@ module _ (ρ : Rule) where
 -- ---- the number and the place of a line are those of its reading
 
 pub told_as : (ρ : Rule) (r : AnswerOf ρ) → (number_of ρ r ≡ number_by (read_as ρ r)) × (place_of ρ r ≡ place_by (read_as ρ r))
-told_as New (new.Read m) = (refl, refl)
-told_as New (new.Refused y) = (refl, refl)
-told_as Old (old.Read m) = (refl, refl)
-told_as Old (old.Refused y) = (refl, refl)
+told_as New (Ok m) = (refl, refl)
+told_as New (Err y) = (refl, refl)
+told_as Old (Ok m) = (refl, refl)
+told_as Old (Err y) = (refl, refl)
 
 pub answer_told : (ρ : Rule) (s : List ℕ) → (number_of ρ (answer_to ρ s) ≡ number_by (read_by ρ s)) × (place_of ρ (answer_to ρ s) ≡ place_by (read_by ρ s))
 answer_told ρ s = rw (answer_reading ρ s) at (told_as ρ (answer_to ρ s))
 
 -- a line is answered 0 to 11
 pub line_numbers : (ρ : Rule) (r : AnswerOf ρ) → number_of ρ r ≤ 11
-line_numbers New (new.Read m) = omega arith
-line_numbers New (new.Refused x) = (refusal_numbers x).1
-line_numbers Old (old.Read m) = omega arith
-line_numbers Old (old.Refused x) = (refusal_numbers x).1
+line_numbers New (Ok m) = omega arith
+line_numbers New (Err x) = (refusal_numbers x).1
+line_numbers Old (Ok m) = omega arith
+line_numbers Old (Err x) = (refusal_numbers x).1
 
 -- and 0 exactly if it reads
 pub number_zero : (ρ : Rule) (r : AnswerOf ρ) → number_of ρ r ≡ 0 → (m : MessageOf ρ) × (r ≡ Took ρ m)
-number_zero New (new.Read m) e = (m, refl)
-number_zero New (new.Refused x) e = absurd (omega (arith, (refusal_numbers x).0, e))
-number_zero Old (old.Read m) e = (m, refl)
-number_zero Old (old.Refused x) e = absurd (omega (arith, (refusal_numbers x).0, e))
+number_zero New (Ok m) e = (m, refl)
+number_zero New (Err x) e = absurd (omega (arith, (refusal_numbers x).0, e))
+number_zero Old (Ok m) e = (m, refl)
+number_zero Old (Err x) e = absurd (omega (arith, (refusal_numbers x).0, e))
 
 pub zero_number : (ρ : Rule) (m : MessageOf ρ) → number_of ρ (Took ρ m) ≡ 0
 zero_number New m = refl

@@ -1,33 +1,27 @@
 -- The starred readings of document 01 ("Known readings") of lines, fields and ages, as one table: what is asked, and
 -- the answer that document 01 gives. Assumes nothing.
-use Rattle.std.specs.Prelude.{ℕ, List, [], ◌∷◌, ℤ, pos, negsuc}
+use Rattle.std.specs.Prelude.{ℕ, List, [], ◌∷◌, ℤ, pos, negsuc, Err, None, Ok, Option, Result, Some}
 use Prim.Native.String.{String}
 use Rattle.text.specs.Bytes.{bytes}
 use Rattle.text.specs.Text.{packed, text_of}
 use Rattle.rules.specs.Kind.{CLOCK, POSITION}
 use Rattle.rules.specs.declared.Rule.TheVariants.{New}
 use Rattle.fields.specs.Word.{word_of}
-use Rattle.text.specs.declared.Packed.{Packed}
-use Rattle.text.specs.declared.Packed.TheVariants as word
 use Rattle.fields.specs.Ident.{ident_of}
-use Rattle.fields.specs.declared.idents.IdentRead.{IdentRead}
-use Rattle.fields.specs.declared.idents.IdentRead.TheVariants as ident
 use Rattle.fields.specs.Aircraft.{aircraft_of}
-use Rattle.fields.specs.declared.aircraft.AircraftRead.{AircraftRead}
-use Rattle.fields.specs.declared.aircraft.AircraftRead.TheVariants as aircraft
 use Rattle.fields.specs.Facility.{facility_text}
 use Rattle.fields.specs.MessageType.{type_text}
 use Rattle.messages.specs.Body.{type_in}
 use Rattle.line.specs.Read.{read_of, line_number, free_of}
-use Rattle.line.specs.declared.LineRead.{LineRead}
-use Rattle.line.specs.declared.LineRead.TheVariants as line
 use Rattle.meanings.specs.Meaning.{minutes_of}
-use Rattle.meanings.specs.declared.Minutes.{Minutes}
-use Rattle.meanings.specs.declared.Minutes.TheVariants as minutes
 use Rattle.meanings.specs.Age.{age_in}
 use Rattle.meanings.specs.Age as ages
 use Rattle.meanings.specs.declared.ages.Aged.{Aged}
 use Rattle.meanings.specs.declared.ages.Aged.TheVariants as aged
+use Rattle.fields.specs.declared.aircraft.Aircraft.{Aircraft}
+use Rattle.fields.specs.declared.idents.Ident.{Ident}
+use Rattle.messages.specs.declared.Message.{Message}
+use Rattle.line.specs.declared.Refusal.{Refusal}
 
 pub data Question : Type 0 where
   Line : String → Question
@@ -54,25 +48,25 @@ pub data Answer : Type 0 where
 -- ---- what the definitions answer
 
 -- a line's number; of one that is read sequence number, stamp, facility and type, and its free text
-abbrev of_line : LineRead → List ℕ → Answer
-of_line (line.Read m) r = Numbered (line_number (line.Read m)) (text_of m.sequence.0 ∷ text_of m.stamp.0 ∷ facility_text m.facility.0 ∷ type_text (type_in m.body) ∷ r ∷ [])
-of_line (line.Refused x) r = Numbered (line_number (line.Refused x)) []
+abbrev of_line : Result Message Refusal → List ℕ → Answer
+of_line (Ok m) r = Numbered (line_number (Ok m)) (text_of m.sequence.0 ∷ text_of m.stamp.0 ∷ facility_text m.facility.0 ∷ type_text (type_in m.body) ∷ r ∷ [])
+of_line (Err x) r = Numbered (line_number (Err x)) []
 
-abbrev of_ident : IdentRead → Answer
-of_ident (ident.Read i) = Parts (text_of i.key.0 ∷ text_of i.number.0 ∷ [])
-of_ident ident.Nothing = None
+abbrev of_ident : Option Ident → Answer
+of_ident (Some i) = Parts (text_of i.key.0 ∷ text_of i.number.0 ∷ [])
+of_ident None = None
 
-abbrev of_aircraft : AircraftRead → Answer
-of_aircraft (aircraft.Read a) = Parts (text_of a.prefix ∷ text_of a.model ∷ text_of a.letter ∷ [])
-of_aircraft aircraft.Nothing = None
+abbrev of_aircraft : Option Aircraft → Answer
+of_aircraft (Some a) = Parts (text_of a.prefix ∷ text_of a.model ∷ text_of a.letter ∷ [])
+of_aircraft None = None
 
-abbrev of_word : Packed → Answer
-of_word (word.Text t) = Parts (text_of t ∷ [])
-of_word word.Nothing = None
+abbrev of_word : Option ℕ → Answer
+of_word (Some t) = Parts (text_of t ∷ [])
+of_word None = None
 
-abbrev of_minutes : Minutes → Answer
-of_minutes (minutes.At y x) = Signed y x
-of_minutes minutes.NotOne = None
+abbrev of_minutes : Option (ℤ × ℤ) → Answer
+of_minutes (Some (y, x)) = Signed y x
+of_minutes None = None
 
 abbrev of_age : Aged → Answer
 of_age (aged.Seconds n) = Seconds n

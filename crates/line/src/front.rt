@@ -5,13 +5,12 @@ ghost use Rattle.fields.specs.Head.{head_length};
 ghost use Rattle.line.specs.Read.{type_by, head_of};
 
 use crate::Refusal;
-use fields::frame::{Sequence, SequenceRead, Stamp, StampRead};
-use fields::heads::{Facility, FacilityRead, MessageType, TypeRead};
+use fields::frame::{Sequence, Stamp};
+use fields::heads::{Facility, MessageType};
 use fields::words;
 use rules::{
     BODY_AT, FACILITY_AT, OLD_BODY_AT, OLD_CENTER_AT, OLD_TYPE_AT, Rule, STAMP_AT, TYPE_AT,
 };
-use text::Packed;
 
 // What stands before the body, as numbers; the sequence number of an old line, which has none, is 0.
 #[derive(Clone, Copy)]
@@ -22,42 +21,34 @@ pub struct Head {
     pub kind: MessageType,
 }
 
-#[derive(Clone, Copy)]
-pub enum HeadRead {
-    Read(Head),
-    Refused(Refusal),
-}
-
 // The type of these letters, if the rule has it.
-pub(crate) fn kind_of(rule: Rule, letters: &[u8]) -> TypeRead
+pub(crate) fn kind_of(rule: Rule, letters: &[u8]) -> Option<MessageType>
     ensures { result ≡ type_by rule letters.now }
 {
-    let TypeRead::Read(kind) = MessageType::read(letters) else {
-        return TypeRead::Nothing;
-    };
+    let kind = MessageType::read(letters)?;
     if !table::has_type(rule, kind) {
-        return TypeRead::Nothing;
+        return None;
     }
-    TypeRead::Read(kind)
+    Some(kind)
 }
 
-fn read_new_head(line: &[u8]) -> HeadRead
+fn read_new_head(line: &[u8]) -> Result<Head, Refusal>
     requires { head_length New ≤ length line.now }
     ensures { result ≡ head_of New line.now }
 {
-    let SequenceRead::Read(sequence) = Sequence::read(&line[0..STAMP_AT]) else {
-        return HeadRead::Refused(Refusal::NoSequence);
+    let Some(sequence) = Sequence::read(&line[0..STAMP_AT]) else {
+        return Err(Refusal::NoSequence);
     };
-    let StampRead::Read(stamp) = Stamp::read(&line[STAMP_AT..FACILITY_AT]) else {
-        return HeadRead::Refused(Refusal::NoStamp);
+    let Some(stamp) = Stamp::read(&line[STAMP_AT..FACILITY_AT]) else {
+        return Err(Refusal::NoStamp);
     };
-    let FacilityRead::Read(facility) = Facility::read(&line[FACILITY_AT..TYPE_AT]) else {
-        return HeadRead::Refused(Refusal::NoFacility);
+    let Some(facility) = Facility::read(&line[FACILITY_AT..TYPE_AT]) else {
+        return Err(Refusal::NoFacility);
     };
-    let TypeRead::Read(kind) = kind_of(Rule::New, &line[TYPE_AT..BODY_AT]) else {
-        return HeadRead::Refused(Refusal::NoType);
+    let Some(kind) = kind_of(Rule::New, &line[TYPE_AT..BODY_AT]) else {
+        return Err(Refusal::NoType);
     };
-    HeadRead::Read(Head {
+    Ok(Head {
         sequence: sequence.0,
         stamp: stamp.0,
         facility: facility.0,
@@ -65,20 +56,20 @@ fn read_new_head(line: &[u8]) -> HeadRead
     })
 }
 
-fn read_old_head(line: &[u8]) -> HeadRead
+fn read_old_head(line: &[u8]) -> Result<Head, Refusal>
     requires { head_length Old ≤ length line.now }
     ensures { result ≡ head_of Old line.now }
 {
-    let Packed::Text(stamp) = words::read(rules::OLD_STAMP, &line[0..OLD_CENTER_AT]) else {
-        return HeadRead::Refused(Refusal::NoStamp);
+    let Some(stamp) = words::read(rules::OLD_STAMP, &line[0..OLD_CENTER_AT]) else {
+        return Err(Refusal::NoStamp);
     };
-    let Packed::Text(center) = words::read(rules::LETTER, &line[OLD_CENTER_AT..OLD_TYPE_AT]) else {
-        return HeadRead::Refused(Refusal::NoFacility);
+    let Some(center) = words::read(rules::LETTER, &line[OLD_CENTER_AT..OLD_TYPE_AT]) else {
+        return Err(Refusal::NoFacility);
     };
-    let TypeRead::Read(kind) = kind_of(Rule::Old, &line[OLD_TYPE_AT..OLD_BODY_AT]) else {
-        return HeadRead::Refused(Refusal::NoType);
+    let Some(kind) = kind_of(Rule::Old, &line[OLD_TYPE_AT..OLD_BODY_AT]) else {
+        return Err(Refusal::NoType);
     };
-    HeadRead::Read(Head {
+    Ok(Head {
         sequence: 0,
         stamp,
         facility: center,
@@ -86,7 +77,7 @@ fn read_old_head(line: &[u8]) -> HeadRead
     })
 }
 
-pub(crate) fn read_head(rule: Rule, line: &[u8]) -> HeadRead
+pub(crate) fn read_head(rule: Rule, line: &[u8]) -> Result<Head, Refusal>
     requires { head_length rule ≤ length line.now }
     ensures { result ≡ head_of rule line.now }
 {

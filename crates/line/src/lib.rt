@@ -12,10 +12,10 @@ ghost use Rattle.shapes.specs.Picture.{starts_at};
 ghost use Rattle.line.specs.Cases.{Case};
 ghost use Rattle.line.specs.Read.{rest_of, read_by, read_of, old_read_of, refusal_number, refusal_place, line_number, line_place, old_number, old_place, free_of, free_at};
 
-use crate::front::{Head, HeadRead, kind_of, read_head};
+use crate::front::{Head, kind_of, read_head};
 use fields::frame::{Center, OldStamp, Sequence, Stamp, body_at};
-use fields::heads::{Facility, TypeRead};
-use messages::typed::{BodyRead, read_body};
+use fields::heads::Facility;
+use messages::typed::read_body;
 use messages::{Message, OldMessage, Reading};
 use rules::{LONGEST_LINE, Rule};
 use shapes::sweeps;
@@ -93,79 +93,60 @@ impl Refusal {
     }
 }
 
-#[derive(Clone, Copy)]
-pub enum LineRead {
-    Read(Message),
-    Refused(Refusal),
-}
-
-#[derive(Clone, Copy)]
-pub enum OldRead {
-    Read(OldMessage),
-    Refused(Refusal),
-}
-
-// Under either rule.
-#[derive(Clone, Copy)]
-pub enum RuleRead {
-    Read(Reading),
-    Refused(Refusal),
-}
-
 // The body after a head.
-fn read_rest(rule: Rule, head: Head, line: &[u8]) -> RuleRead
+fn read_rest(rule: Rule, head: Head, line: &[u8]) -> Result<Reading, Refusal>
     requires { head_length rule ≤ length line.now }
     ensures { result ≡ rest_of rule head line.now }
 {
     let kind = head.kind;
     if table::is_long_plan(rule, kind, line.len()) {
-        return RuleRead::Refused(Refusal::LongPlan);
+        return Err(Refusal::LongPlan);
     }
     let at = body_at(rule);
     let read = read_body(rule, kind, &line[at..]);
     match read {
-        BodyRead::Read(body, trailing) => RuleRead::Read(Reading {
+        Ok((body, trailing)) => Ok(Reading {
             sequence: head.sequence,
             stamp: head.stamp,
             facility: head.facility,
             body,
             trailing,
         }),
-        BodyRead::Refused(fault) => RuleRead::Refused(Refusal::Body(fault)),
+        Err(fault) => Err(Refusal::Body(fault)),
     }
 }
 
 // Reads a line under the rule.
-fn read_by(rule: Rule, line: &[u8]) -> RuleRead
+fn read_by(rule: Rule, line: &[u8]) -> Result<Reading, Refusal>
     ensures { result ≡ read_by rule line.now }
 {
     if line.len() < body_at(rule) {
-        return RuleRead::Refused(Refusal::Short);
+        return Err(Refusal::Short);
     }
     if line.len() > LONGEST_LINE {
-        return RuleRead::Refused(Refusal::Long);
+        return Err(Refusal::Long);
     }
     if !sweeps::each_within(32, 126, line) {
-        return RuleRead::Refused(Refusal::Unprintable);
+        return Err(Refusal::Unprintable);
     }
     let head = read_head(rule, line);
     match head {
-        HeadRead::Read(head) => read_rest(rule, head, line),
-        HeadRead::Refused(refusal) => RuleRead::Refused(refusal),
+        Ok(head) => read_rest(rule, head, line),
+        Err(refusal) => Err(refusal),
     }
 }
 
 // Reads a line: any bytes, of any length. Its answer has the number and the place of the line's case in document 01's
 // table.
-pub fn read(line: &[u8]) -> LineRead
+pub fn read(line: &[u8]) -> Result<Message, Refusal>
     ensures value { result ≡ read_of line.now }
     ensures case { Case New line.now (line_number result) (line_place result) }
 {
     let read = read_by(Rule::New, line);
     match read {
-        RuleRead::Read(x) => {
+        Ok(x) => {
             let body = x.body;
-            LineRead::Read(Message {
+            Ok(Message {
                 sequence: Sequence(x.sequence),
                 stamp: Stamp(x.stamp),
                 facility: Facility(x.facility),
@@ -173,27 +154,27 @@ pub fn read(line: &[u8]) -> LineRead
                 trailing: x.trailing,
             })
         }
-        RuleRead::Refused(refusal) => LineRead::Refused(refusal),
+        Err(refusal) => Err(refusal),
     }
 }
 
 // Reads a line of the old feed.
-pub fn read_old(line: &[u8]) -> OldRead
+pub fn read_old(line: &[u8]) -> Result<OldMessage, Refusal>
     ensures value { result ≡ old_read_of line.now }
     ensures case { Case Old line.now (old_number result) (old_place result) }
 {
     let read = read_by(Rule::Old, line);
     match read {
-        RuleRead::Read(x) => {
+        Ok(x) => {
             let body = x.body;
-            OldRead::Read(OldMessage {
+            Ok(OldMessage {
                 stamp: OldStamp(x.stamp),
                 center: Center(x.facility),
                 body,
                 trailing: x.trailing,
             })
         }
-        RuleRead::Refused(refusal) => OldRead::Refused(refusal),
+        Err(refusal) => Err(refusal),
     }
 }
 
@@ -208,7 +189,7 @@ pub fn free(rule: Rule, line: &[u8]) -> &[u8]
         return &line[..0];
     }
     let from = at - 2;
-    let TypeRead::Read(kind) = kind_of(rule, &line[from..at]) else {
+    let Some(kind) = kind_of(rule, &line[from..at]) else {
         return &line[..0];
     };
     if !table::has_fields(kind) {

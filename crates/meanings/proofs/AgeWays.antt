@@ -1,4 +1,5 @@
 -- The ways of an age: what follows from the facts of each case. Assumes nothing.
+use Rattle.std.specs.Prelude.{None, Option, Some}
 use mathlib.Core.Path.{◌≡◌, refl, sym, ◌∙◌}
 use mathlib.Core.Bool.{Bool, true, false}
 use Prim.Native.Nat.{ℕ, ◌+◌, ◌-◌, ◌≤◌, ◌<◌}
@@ -7,8 +8,6 @@ use lib.Dec.{eqb}
 use borrow.Author.Tests.{le-leb, lt-leb, lt-ltb, eq-eqb, ne_eqb, eqb-true, eqb-false}
 use Rattle.meanings.specs.Meaning.{moment_in}
 use Rattle.meanings.specs.declared.Moment.{Moment}
-use Rattle.meanings.specs.declared.When.{When}
-use Rattle.meanings.specs.declared.When.TheVariants as when
 use Rattle.meanings.specs.Age.{is_last_day, day_before, age_of, aged_from, age_in}
 use Rattle.meanings.specs.Cases.{InRange, OutOfRange, NowOut, StampOut, LastUnder, LastOver}
 use Rattle.meanings.specs.declared.ages.Aged.TheVariants as aged
@@ -58,14 +57,14 @@ unfolding age_in is_last_day
 in_range_lem {now} {last} {stamp} r = rw (r.now_at, r.stamp_at, le-leb 28 last r.last_least, le-leb last 31 r.last_most)
 
 module _ (last : ℕ) (h : is_last_day last ≡ false) where
-  wrong_last : (n s : When) → aged.OutOfRange ≡ aged_from n last s
-  wrong_last (when.At n) (when.At s) = rw h
-  wrong_last (when.At n) when.NotOne = refl
-  wrong_last when.NotOne s = refl
+  wrong_last : (n s : Option Moment) → aged.OutOfRange ≡ aged_from n last s
+  wrong_last (Some n) (Some s) = rw h
+  wrong_last (Some n) None = refl
+  wrong_last None s = refl
 
-no_stamp : (last : ℕ) (n : When) → aged.OutOfRange ≡ aged_from n last when.NotOne
-no_stamp last (when.At n) = refl
-no_stamp last when.NotOne = refl
+no_stamp : (last : ℕ) (n : Option Moment) → aged.OutOfRange ≡ aged_from n last None
+no_stamp last (Some n) = refl
+no_stamp last None = refl
 
 last_under : (last : ℕ) → last < 28 → is_last_day last ≡ false
 unfolding is_last_day

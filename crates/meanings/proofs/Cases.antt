@@ -1,4 +1,5 @@
 -- THE CASES of an age: each call is in one, with its number, and in no other. Assumes nothing.
+use Rattle.std.specs.Prelude.{None, Option, Some}
 use mathlib.Core.Path.{◌≡◌, refl, sym, ap, ◌∙◌, subst}
 use mathlib.Core.Bool.{Bool, true, false}
 use Prim.Native.Nat.{ℕ, ◌≤◌}
@@ -6,8 +7,6 @@ use lib.Dec.{eqb, leb}
 use borrow.Author.Tests.{leb-true, leb-false, eqb-true, eqb-false}
 use Rattle.meanings.specs.Meaning.{moment_in}
 use Rattle.meanings.specs.declared.Moment.{Moment}
-use Rattle.meanings.specs.declared.When.{When}
-use Rattle.meanings.specs.declared.When.TheVariants as when
 use Rattle.meanings.specs.Age.{day_before, age_in, age_number}
 use Rattle.meanings.specs.Cases.{InRange, NowOut, StampOut, LastUnder, LastOver, AgeCase, SameDay, DayBefore, Ahead, Old, Refused, AgeIs}
 use Rattle.meanings.specs.declared.ages.Aged.{Aged}
@@ -59,13 +58,13 @@ module _ (now last stamp : ℕ) where
   pub case_of : AgeIs now last stamp (age_in now last stamp)
   case_of = go (moment_in now) refl (moment_in stamp) refl (leb 28 last) refl (leb last 31) refl
     where
-      go : (n : When) → moment_in now ≡ n → (s : When) → moment_in stamp ≡ s → (b : Bool) → leb 28 last ≡ b → (c : Bool) → leb last 31 ≡ c
+      go : (n : Option Moment) → moment_in now ≡ n → (s : Option Moment) → moment_in stamp ≡ s → (b : Bool) → leb 28 last ≡ b → (c : Bool) → leb last 31 ≡ c
           → AgeIs now last stamp (age_in now last stamp)
-      go when.NotOne e s f b p c q = told (Refused (NowOut e))
-      go (when.At n) e when.NotOne f b p c q = told (Refused (StampOut f))
-      go (when.At n) e (when.At s) f false p c q = told (Refused (LastUnder (leb-false 28 last p)))
-      go (when.At n) e (when.At s) f true p false q = told (Refused (LastOver (leb-false last 31 q)))
-      go (when.At n) e (when.At s) f true p true q = told_in n s (record { now_at = e; stamp_at = f; last_least = leb-true 28 last p; last_most = leb-true last 31 q })
+      go None e s f b p c q = told (Refused (NowOut e))
+      go (Some n) e None f b p c q = told (Refused (StampOut f))
+      go (Some n) e (Some s) f false p c q = told (Refused (LastUnder (leb-false 28 last p)))
+      go (Some n) e (Some s) f true p false q = told (Refused (LastOver (leb-false last 31 q)))
+      go (Some n) e (Some s) f true p true q = told_in n s (record { now_at = e; stamp_at = f; last_least = leb-true 28 last p; last_most = leb-true last 31 q })
 
 -- what a way out of `age` shows, as its promise asks it
 pub in_age_case : {now last stamp : ℕ} {r : Aged} → r ≡ age_in now last stamp → (r ≡ age_in now last stamp) × AgeIs now last stamp r

@@ -1,5 +1,6 @@
 -- What the promises of `meanings` require on inputs written out, and so wrong answers that they do not allow: of each, `Post` is the function's
 -- `ensures` as it stands in the source, r any result that meets it, s the state at exit. Assumes nothing.
+use Rattle.std.specs.Prelude.{Some}
 use Prim.Native.Nat.{ℕ}
 use Prim.Native.String.{String}
 use mathlib.Core.Path.{◌≡◌, ap, ◌∙◌}
@@ -16,8 +17,6 @@ use Rattle.rules.specs.Form.{is_stamp, is_block, is_level, is_position}
 use Rattle.meanings.specs.Age.{is_last_day, day_before, age_of, age_in}
 use Rattle.meanings.specs.Meaning.{decimal_of, in_minutes, moment_of, moment_in, minutes_of, minutes_in, levels_of, levels_in}
 use Rattle.meanings.specs.declared.Levels.TheVariants as levels
-use Rattle.meanings.specs.declared.Minutes.TheVariants as minutes
-use Rattle.meanings.specs.declared.When.TheVariants as when
 use Rattle.meanings.specs.declared.ages.Aged.TheVariants as aged
 use Rattle.meanings.proofs.ages.age.Reads as age
 use Rattle.meanings.proofs.level_numbers.Reads as level-numbers
@@ -26,31 +25,31 @@ use Rattle.meanings.proofs.stamp_moment.Reads as stamp-moment
 
 -- the hour is 14 and not the day
 pub day_for_hour : (κs : _) (a : _) (r : _) (s : _) → stamp-moment.Post κs a r s
-    → a.0.0 ≡ packed (bytes "06143655") → r ≡ when.At (record { day = 6; hour = 14; minute = 36; second = 55; seconds = 52615 })
+    → a.0.0 ≡ packed (bytes "06143655") → r ≡ Some (record { day = 6; hour = 14; minute = 36; second = 55; seconds = 52615 })
 unfolding moment_in moment_of is_stamp fits is_of is_digit within decimal_of read_number is_numeral all is_digit_to digit_of number_of value is_packed tight text_of digits byte_of packed code_of
 day_for_hour κs a r s p e = p ∙ ap moment_in e
 
 -- an hour has 3,600 seconds
 pub hour_of_360_seconds : (κs : _) (a : _) (r : _) (s : _) → stamp-moment.Post κs a r s
-    → a.0.0 ≡ packed (bytes "31010000") → r ≡ when.At (record { day = 31; hour = 1; minute = 0; second = 0; seconds = 3600 })
+    → a.0.0 ≡ packed (bytes "31010000") → r ≡ Some (record { day = 31; hour = 1; minute = 0; second = 0; seconds = 3600 })
 unfolding moment_in moment_of is_stamp fits is_of is_digit within decimal_of read_number is_numeral all is_digit_to digit_of number_of value is_packed tight text_of digits byte_of packed code_of
 hour_of_360_seconds κs a r s p e = p ∙ ap moment_in e
 
 -- south is negative
 pub south_is_positive : (κs : _) (a : _) (r : _) (s : _) → position-minutes.Post κs a r s
-    → a.0.0 ≡ packed (bytes "0001S/00000E") → r ≡ minutes.At (negsuc 0) (pos 0)
+    → a.0.0 ≡ packed (bytes "0001S/00000E") → r ≡ Some (negsuc 0, pos 0)
 unfolding minutes_in minutes_of is_position fits is_of is_digit is_letter within decimal_of read_number is_numeral all is_digit_to digit_of number_of value is_packed tight text_of digits byte_of packed code_of in_minutes
 south_is_positive κs a r s p e = p ∙ ap minutes_in e
 
 -- a degree has 60 minutes
 pub degrees_of_100 : (κs : _) (a : _) (r : _) (s : _) → position-minutes.Post κs a r s
-    → a.0.0 ≡ packed (bytes "0100N/00000E") → r ≡ minutes.At (pos 60) (pos 0)
+    → a.0.0 ≡ packed (bytes "0100N/00000E") → r ≡ Some (pos 60, pos 0)
 unfolding minutes_in minutes_of is_position fits is_of is_digit is_letter within decimal_of read_number is_numeral all is_digit_to digit_of number_of value is_packed tight text_of digits byte_of packed code_of in_minutes
 degrees_of_100 κs a r s p e = p ∙ ap minutes_in e
 
 -- a longitude has five digits, and west is negative
 pub longitude_cut : (κs : _) (a : _) (r : _) (s : _) → position-minutes.Post κs a r s
-    → a.0.0 ≡ packed (bytes "3015N/08430W") → r ≡ minutes.At (pos 1815) (negsuc 5069)
+    → a.0.0 ≡ packed (bytes "3015N/08430W") → r ≡ Some (pos 1815, negsuc 5069)
 unfolding minutes_in minutes_of is_position fits is_of is_digit is_letter within decimal_of read_number is_numeral all is_digit_to digit_of number_of value is_packed tight text_of digits byte_of packed code_of in_minutes
 longitude_cut κs a r s p e = p ∙ ap minutes_in e
 

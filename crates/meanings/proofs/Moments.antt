@@ -1,5 +1,6 @@
 -- A stamp's moment: a day 1 to 31, and a second of the day. A number has one exactly if it is a stamp's.
 -- Assumes nothing.
+use Rattle.std.specs.Prelude.{None, Option, Some}
 use mathlib.Core.Path.{◌≡◌, refl, ◌∙◌, subst}
 use mathlib.Core.Bool.{Bool, true, false, ◌&&◌}
 use mathlib.Core.List.{List}
@@ -17,8 +18,6 @@ use Rattle.rules.specs.Kind.{STAMP, is_form}
 use Rattle.fields.specs.Word.{is_word}
 use Rattle.meanings.specs.Meaning.{decimal_of, moment, moment_of, moment_in}
 use Rattle.meanings.specs.declared.Moment.{Moment}
-use Rattle.meanings.specs.declared.When.{When}
-use Rattle.meanings.specs.declared.When.TheVariants as when
 use Rattle.meanings.proofs.Laws.{within_most, stamped}
 use Rattle.meanings.specs.Age.{Ranged}
 
@@ -52,9 +51,9 @@ ranged_at s e =
     }
 
 -- the moment of the text, and of the number that holds it
-abbrev RangedIn : When → Type 0
-RangedIn (when.At m) = Ranged m
-RangedIn when.NotOne = Unit {0}
+abbrev RangedIn : Option Moment → Type 0
+RangedIn (Some m) = Ranged m
+RangedIn None = Unit {0}
 
 of_ranged : (s : List ℕ) → RangedIn (moment_of s)
 unfolding moment_of
@@ -72,8 +71,8 @@ in_ranged t = go (is_packed t) refl
     go true q = rw q (of_ranged (text_of t))
     go false q = rw q tt
 
-pub ranged : (t : ℕ) (m : Moment) → moment_in t ≡ when.At m → Ranged m
-ranged t m e = subst (λ (x : When). RangedIn x) e (in_ranged t)
+pub ranged : (t : ℕ) (m : Moment) → moment_in t ≡ Some m → Ranged m
+ranged t m e = subst (λ (x : Option Moment). RangedIn x) e (in_ranged t)
 
 -- ---- a number has no moment exactly if it is no stamp's
 
@@ -81,20 +80,20 @@ stamp_form : (t : ℕ) → is_word STAMP t ≡ (is_packed t && is_stamp (text_of
 unfolding is_word is_form
 stamp_form t = refl
 
-pub no_moment : (t : ℕ) → is_word STAMP t ≡ false → moment_in t ≡ when.NotOne
+pub no_moment : (t : ℕ) → is_word STAMP t ≡ false → moment_in t ≡ None
 unfolding moment_in moment_of
 no_moment t h = go (is_packed t) refl (is_stamp (text_of t)) refl
   where
-    go : (b : Bool) → is_packed t ≡ b → (c : Bool) → is_stamp (text_of t) ≡ c → moment_in t ≡ when.NotOne
+    go : (b : Bool) → is_packed t ≡ b → (c : Bool) → is_stamp (text_of t) ≡ c → moment_in t ≡ None
     go false p c q = rw p
     go true p false q = rw (p, q)
     go true p true q = true_false (stamp_form t ∙ rw (p, q)) h
 
-pub no_stamp : (t : ℕ) → moment_in t ≡ when.NotOne → is_word STAMP t ≡ false
+pub no_stamp : (t : ℕ) → moment_in t ≡ None → is_word STAMP t ≡ false
 unfolding moment_in moment_of
 no_stamp t h = stamp_form t ∙ go (is_packed t) refl (is_stamp (text_of t)) refl
   where
     go : (b : Bool) → is_packed t ≡ b → (c : Bool) → is_stamp (text_of t) ≡ c → (is_packed t && is_stamp (text_of t)) ≡ false
     go false p c q = rw p
     go true p false q = rw (p, q)
-    go true p true q = let z : when.At (moment_at (text_of t)) ≡ when.NotOne = rw (p, q) at h in cc
+    go true p true q = let z : Some (moment_at (text_of t)) ≡ None = rw (p, q) at h in cc

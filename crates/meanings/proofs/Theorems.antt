@@ -1,5 +1,6 @@
 -- THE THEOREMS of an age, of calls of `age` as its promise stands in the source: a.0 is now, a.1.0 the last day of
 -- the previous month, a.1.1.0 the stamp, and r the answer. Assumes nothing.
+use Rattle.std.specs.Prelude.{None}
 use mathlib.Core.Path.{◌≡◌, refl, sym, ◌∙◌, subst}
 use mathlib.Core.Bool.{false}
 use Prim.Native.Nat.{ℕ, ◌+◌, ◌-◌, ◌≤◌, ◌<◌}
@@ -8,7 +9,6 @@ use Rattle.rules.specs.Kind.{STAMP}
 use Rattle.fields.specs.Word.{is_word}
 use Rattle.meanings.specs.Meaning.{moment_in}
 use Rattle.meanings.specs.declared.Moment.{Moment}
-use Rattle.meanings.specs.declared.When.TheVariants as when
 use Rattle.meanings.specs.Age.{day_before, age_of, age_in, age_number}
 use Rattle.meanings.specs.Cases.{InRange, OutOfRange, AgeCase, SameDay, DayBefore, Ahead, Old, Refused, AgeIs}
 use Rattle.meanings.specs.declared.ages.Aged.{Aged}
@@ -70,7 +70,7 @@ pub else_zero : (κs : _) (a : _) (r : _) (s : _) → age.Post κs a r s → (Ou
 else_zero κs a r s p f = case_0 p.1 f
 
 -- out of range is what is no stamp's value
-pub stamp_out : (t : ℕ) → (moment_in t ≡ when.NotOne → is_word STAMP t ≡ false) × (is_word STAMP t ≡ false → moment_in t ≡ when.NotOne)
+pub stamp_out : (t : ℕ) → (moment_in t ≡ None → is_word STAMP t ≡ false) × (is_word STAMP t ≡ false → moment_in t ≡ None)
 stamp_out t = (no_stamp t, no_moment t)
 
 -- ---- AN AGE IN SECONDS is under two days

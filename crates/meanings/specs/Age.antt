@@ -1,9 +1,7 @@
 -- How old a stamp is (document 01, "Age"), in its words and order, and the answer's number. Assumes nothing.
-use Rattle.std.specs.Prelude.{ℕ, ◌+◌, ◌-◌, ◌≤◌, ◌<◌, Bool, cond, ◌&&◌, eqb, leb, ltb}
+use Rattle.std.specs.Prelude.{ℕ, ◌+◌, ◌-◌, ◌≤◌, ◌<◌, Bool, cond, ◌&&◌, eqb, leb, ltb, None, Option, Some}
 use Rattle.meanings.specs.Meaning.{moment_in}
 use Rattle.meanings.specs.declared.Moment.{Moment}
-use Rattle.meanings.specs.declared.When.{When}
-use Rattle.meanings.specs.declared.When.TheVariants as when
 use Rattle.meanings.specs.declared.ages.Aged.{Aged}
 use Rattle.meanings.specs.declared.ages.Aged.TheVariants as aged
 
@@ -30,10 +28,10 @@ age_of last now stamp =
     (cond (eqb stamp.day now.day && ltb now.seconds stamp.seconds) aged.Ahead
     aged.Old))
 
-abbrev pub aged_from : When → ℕ → When → Aged
-aged_from (when.At now) last (when.At stamp) = cond (is_last_day last) (age_of last now stamp) aged.OutOfRange
-aged_from (when.At now) last when.NotOne = aged.OutOfRange
-aged_from when.NotOne last stamp = aged.OutOfRange
+abbrev pub aged_from : Option Moment → ℕ → Option Moment → Aged
+aged_from (Some now) last (Some stamp) = cond (is_last_day last) (age_of last now stamp) aged.OutOfRange
+aged_from (Some now) last None = aged.OutOfRange
+aged_from None last stamp = aged.OutOfRange
 
 -- now and the stamp as numbers, whether a stamp's or not
 unfoldable pub age_in : ℕ → ℕ → ℕ → Aged

@@ -1,24 +1,23 @@
 -- THE CASES of an age, in the sentences of document 01 ("Age", "Answer numbers"): when each is answered, with its
 -- number. Assumes nothing.
-use Rattle.std.specs.Prelude.{ℕ, ◌+◌, ◌-◌, ◌≤◌, ◌<◌, ◌≡◌}
+use Rattle.std.specs.Prelude.{ℕ, ◌+◌, ◌-◌, ◌≤◌, ◌<◌, ◌≡◌, None, Some}
 use Rattle.meanings.specs.Meaning.{moment_in}
 use Rattle.meanings.specs.declared.Moment.{Moment}
-use Rattle.meanings.specs.declared.When.TheVariants as when
 use Rattle.meanings.specs.Age.{day_before, age_number}
 use Rattle.meanings.specs.declared.ages.Aged.{Aged}
 use Rattle.meanings.specs.declared.ages.Aged.TheVariants as aged
 
 -- now and the stamp are stamps, of the moments n and s, and the last day is 28 to 31
 pub record InRange (now last stamp : ℕ) (n s : Moment) : Type 0 where
-  pub now_at : moment_in now ≡ when.At n
-  pub stamp_at : moment_in stamp ≡ when.At s
+  pub now_at : moment_in now ≡ Some n
+  pub stamp_at : moment_in stamp ≡ Some s
   pub last_least : 28 ≤ last
   pub last_most : last ≤ 31
 
 -- "now, the stamp, or the month's last day, out of range"
 pub data OutOfRange (now last stamp : ℕ) : Type 0 where
-  NowOut : moment_in now ≡ when.NotOne → OutOfRange now last stamp
-  StampOut : moment_in stamp ≡ when.NotOne → OutOfRange now last stamp
+  NowOut : moment_in now ≡ None → OutOfRange now last stamp
+  StampOut : moment_in stamp ≡ None → OutOfRange now last stamp
   LastUnder : last < 28 → OutOfRange now last stamp
   LastOver : 31 < last → OutOfRange now last stamp
 

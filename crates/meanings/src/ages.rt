@@ -3,7 +3,7 @@ ghost use Rattle.std.specs.Prelude.{◌≡◌, ◌≤◌};
 ghost use Rattle.meanings.specs.Age.{Ranged, day_before, age_of, age_in};
 ghost use Rattle.meanings.specs.Cases.{AgeIs};
 
-use crate::{Moment, When, stamp_moment};
+use crate::{Moment, stamp_moment};
 use fields::frame::Stamp;
 
 const DAY: u64 = 86400;
@@ -57,10 +57,10 @@ pub fn age(now: Stamp, last: u64, stamp: Stamp) -> Aged
     if last > 31 {
         return Aged::OutOfRange;
     }
-    let When::At(moment) = stamp_moment(now) else {
+    let Some(moment) = stamp_moment(now) else {
         return Aged::OutOfRange;
     };
-    let When::At(stamped) = stamp_moment(stamp) else {
+    let Some(stamped) = stamp_moment(stamp) else {
         return Aged::OutOfRange;
     };
     age_at(last, moment, stamped)

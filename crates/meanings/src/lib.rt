@@ -12,7 +12,7 @@ use fields::frame::Stamp;
 use fields::plan::Level;
 use fields::track::Position;
 use rules::clocks;
-use text::{Numeral, Written, writing};
+use text::{NotWritten, writing};
 
 // Day, hour, minute, second, and the seconds since the day began.
 #[derive(Clone, Copy)]
@@ -22,19 +22,6 @@ pub struct Moment {
     pub minute: u64,
     pub second: u64,
     pub seconds: u64,
-}
-
-#[derive(Clone, Copy)]
-pub enum When {
-    At(Moment),
-    NotOne,
-}
-
-// Latitude and longitude in minutes; north and east are positive.
-#[derive(Clone, Copy)]
-pub enum Minutes {
-    At(i64, i64),
-    NotOne,
 }
 
 #[derive(Clone, Copy)]
@@ -50,8 +37,8 @@ fn decimal(s: &[u8]) -> u64
 {
     let number = text::number(s, 10);
     match number {
-        Numeral::Value(n) => n,
-        Numeral::Nothing => 0,
+        Some(n) => n,
+        None => 0,
     }
 }
 
@@ -62,24 +49,23 @@ fn show(t: u64, room: &mut [u8; 12]) -> usize
 {
     let written = writing::put(t, room, 0);
     match written {
-        Written::Next(n) => n,
-        Written::NoRoom => 0,
-        Written::NoText => 0,
+        Ok(n) => n,
+        Err(_) => 0,
     }
 }
 
-fn moment_of(s: &[u8]) -> When
+fn moment_of(s: &[u8]) -> Option<Moment>
     ensures { result ≡ moment_of s.now }
 {
     if !clocks::is_stamp(s) {
-        return When::NotOne;
+        return None;
     }
     let day = decimal(&s[0..2]);
     let hour = decimal(&s[2..4]);
     let minute = decimal(&s[4..6]);
     let second = decimal(&s[6..8]);
     let seconds = hour * 3600 + minute * 60 + second;
-    When::At(Moment {
+    Some(Moment {
         day,
         hour,
         minute,
@@ -88,7 +74,7 @@ fn moment_of(s: &[u8]) -> When
     })
 }
 
-pub fn stamp_moment(stamp: Stamp) -> When
+pub fn stamp_moment(stamp: Stamp) -> Option<Moment>
     ensures { result ≡ moment_in stamp.0 }
 {
     let mut room = [0u8; 12];
@@ -115,11 +101,11 @@ fn signed(positive: bool, n: u64) -> i64
     0 - (n as i64)
 }
 
-fn minutes_of(s: &[u8]) -> Minutes
+fn minutes_of(s: &[u8]) -> Option<(i64, i64)>
     ensures { result ≡ minutes_of s.now }
 {
     if !rules::is_position(s) {
-        return Minutes::NotOne;
+        return None;
     }
     let latitude = in_minutes(decimal(&s[0..4]));
     let longitude = in_minutes(decimal(&s[6..11]));
@@ -127,10 +113,10 @@ fn minutes_of(s: &[u8]) -> Minutes
     let east = s[11] == b'E';
     let y = signed(north, latitude);
     let x = signed(east, longitude);
-    Minutes::At(y, x)
+    Some((y, x))
 }
 
-pub fn position_minutes(position: Position) -> Minutes
+pub fn position_minutes(position: Position) -> Option<(i64, i64)>
     ensures { result ≡ minutes_in position.0 }
 {
     let mut room = [0u8; 12];

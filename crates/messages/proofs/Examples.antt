@@ -1,5 +1,6 @@
 -- What the promises of `messages` require on inputs written out, and so wrong answers that they do not allow: of each, `Post` is the function's
 -- `ensures` as it stands in the source, r any result that meets it, s the state at exit. Assumes nothing.
+use Rattle.std.specs.Prelude.{Bool, Err, Ok, Result}
 use Prim.Native.Nat.{ℕ}
 use Prim.Native.String.{String}
 use mathlib.Core.Bool.{false}
@@ -36,8 +37,6 @@ use Rattle.messages.specs.declared.Amended.TheVariants as amended
 use Rattle.messages.specs.declared.Amendment.{Amendment}
 use Rattle.messages.specs.declared.Body.TheVariants as body
 use Rattle.messages.specs.declared.PlanLevel.TheVariants as level
-use Rattle.messages.specs.declared.typed.BodyRead.{BodyRead}
-use Rattle.messages.specs.declared.typed.BodyRead.TheVariants as read
 use Rattle.messages.proofs.Amended.amendment.Reads as held
 use Rattle.messages.proofs.Amendment.amended.Reads as content
 use Rattle.messages.proofs.Plan.filed_level.Reads as filed-level
@@ -46,6 +45,8 @@ use Rattle.messages.proofs.marks_in.Reads as marks-in
 use Rattle.messages.proofs.type_in.Reads as type-in
 use Rattle.messages.proofs.typed.read_body.Reads as read-body
 use Rattle.messages.proofs.values.values_in.Reads as values-in
+use Rattle.messages.specs.declared.Body.{Body}
+use Rattle.table.specs.declared.walk.Fault.{Fault}
 
 -- the level is assigned when the time has D
 pub level_requested_with_d : (κs : _) (a : _) (r : _) (s : _) → filed-level.Post κs a r s → text_of a.0.time.0 ≡ bytes "D0715" → r ≡ level.Assigned a.0.level
@@ -114,15 +115,15 @@ fz_keeps_a_mark κs a r s p m e = p ∙ ap marks_in e
 abbrev word : String → Value
 word t = value_of_word (packed (bytes t))
 
-abbrev answered : BodyRead
-answered = read.Read (body_from type.Af (mark_of (bytes "08")) (padded (word "NVL88" ∷ word "BOS" ∷ word "ALB" ∷ value_of_word (mark_of (bytes "08")) ∷ word "290" ∷ []))) false
+abbrev answered : Result (Body × Bool) Fault
+answered = Ok (body_from type.Af (mark_of (bytes "08")) (padded (word "NVL88" ∷ word "BOS" ∷ word "ALB" ∷ value_of_word (mark_of (bytes "08")) ∷ word "290" ∷ [])), false)
 
-read_as : (body_read New type.Rz (bytes " NVL88 BOS A-B") ≡ read.Refused (fault.Field 3)) × (body_read New type.Af (bytes " NVL88 BOS ALB 08 290") ≡ answered)
+read_as : (body_read New type.Rz (bytes " NVL88 BOS A-B") ≡ Err (fault.Field 3)) × (body_read New type.Af (bytes " NVL88 BOS ALB 08 290") ≡ answered)
 unfolding body_read padded answer_by values_by count_in kinds_of table_by is_count count_with answer_of answers answer_from values_of values values_from counted fields_of ended read_in read_kind read_mark barred plain trace_of marks_of content_of follows mark_of ident_of ident_from word_of is_form is_key is_ident is_level has before after up_to one_of fits_any fits pieces run is_of is_alnum is_digit is_letter all all_in packed value code_of
 read_as = (refl, refl)
 
 -- a point has no dash: 9 with its place, not 10
-pub field_answered_as_number : (κs : _) (a : _) (r : _) (s : _) → read-body.Post κs a r s → a.0 ≡ New → a.1.0 ≡ type.Rz → a.1.1.0.now ≡ bytes " NVL88 BOS A-B" → r ≡ read.Refused (fault.Field 3)
+pub field_answered_as_number : (κs : _) (a : _) (r : _) (s : _) → read-body.Post κs a r s → a.0 ≡ New → a.1.0 ≡ type.Rz → a.1.1.0.now ≡ bytes " NVL88 BOS A-B" → r ≡ Err (fault.Field 3)
 field_answered_as_number κs a r s p n e f = p ∙ rw (n, e, f) read_as.0
 
 -- an 08 is kept with its own mark and the word of its level
@@ -154,13 +155,13 @@ not_handed_on =
     ∷ []
 
 -- the type t and the body s being those of a row, r is a refusal with its place, and hands nothing on; and so of each row
-abbrev pub Refuses : MessageType → List ℕ → BodyRead → List Unread → Type 0
+abbrev pub Refuses : MessageType → List ℕ → Result (Body × Bool) Fault → List Unread → Type 0
 Refuses t s r [] = Unit {0}
-Refuses t s r (x ∷ l) = (t ≡ x.kind → s ≡ bytes x.text → r ≡ read.Refused (fault.Field x.place)) × Refuses t s r l
+Refuses t s r (x ∷ l) = (t ≡ x.kind → s ≡ bytes x.text → r ≡ Err (fault.Field x.place)) × Refuses t s r l
 
-refuses : (t : MessageType) (s : List ℕ) (l : List Unread) → map (λ (x : Unread). body_read New x.kind (bytes x.text)) l ≡ map (λ (x : Unread). read.Refused (fault.Field x.place)) l → Refuses t s (body_read New t s) l
+refuses : (t : MessageType) (s : List ℕ) (l : List Unread) → map (λ (x : Unread). body_read New x.kind (bytes x.text)) l ≡ map (λ (x : Unread). Err (fault.Field x.place)) l → Refuses t s (body_read New t s) l
 refuses t s [] e = tt
-refuses t s (x ∷ l) e = ((λ p q. rw (p, q) (ap (λ bs. get_or bs 0 (read.Refused fault.Spacing)) e)), refuses t s l (ap (drop 1) e))
+refuses t s (x ∷ l) e = ((λ p q. rw (p, q) (ap (λ bs. get_or bs 0 (Err fault.Spacing)) e)), refuses t s l (ap (drop 1) e))
 
 pub speeds_and_levels : (κs : _) (a : _) (r : _) (s : _) → read-body.Post κs a r s → a.0 ≡ New → Refuses a.1.0 a.1.1.0.now r not_handed_on
 unfolding body_read answer_by values_by count_in kinds_of table_by is_count answer_of answers answer_from counted fields_of ended read_in read_kind read_mark barred plain trace_of marks_of

@@ -1,5 +1,6 @@
 -- THE FLIGHT'S KEY (document 01, "Fields"): "The flight's key is the part before the slash". Of a body that reads it is the first field up to
 -- its slash, and the word of a key. Assumes nothing.
+use Rattle.std.specs.Prelude.{Ok}
 use mathlib.Core.Path.{◌≡◌, refl, sym, ◌∙◌, subst}
 use mathlib.Core.Bool.{Bool, true, false, not, ◌&&◌, ◌||◌}
 use mathlib.Core.List.{List, ◌∷◌}
@@ -30,7 +31,6 @@ use Rattle.messages.specs.Named.{named, field_at, Stand}
 use Rattle.messages.specs.Read.{body_read}
 use Rattle.messages.specs.declared.Body.{Body}
 use Rattle.messages.specs.declared.Body.TheVariants as body
-use Rattle.messages.specs.declared.typed.BodyRead.TheVariants as read
 use Rattle.messages.proofs.Bodies.{allowed_first}
 use Rattle.messages.proofs.ReadWays.{by_table}
 use Rattle.messages.proofs.Theorems.{fields_held}
@@ -92,7 +92,7 @@ keyed body.To s r f e = true_false f refl
 keyed body.Hb s r f e = true_false f refl
 
 -- THE LAW: "1 for the ident"; the key is the word of a key, and the part of that field before the slash
-pub body_key : (ρ : Rule) (t : MessageType) (s : List ℕ) (b : Body) (u : Bool) → has_fields t ≡ true → body_read ρ t s ≡ read.Read b u
+pub body_key : (ρ : Rule) (t : MessageType) (s : List ℕ) (b : Body) (u : Bool) → has_fields t ≡ true → body_read ρ t s ≡ Ok (b, u)
     → (is_word KEY (key_in b) ≡ true) × (text_of (key_in b) ≡ before slash (field_at 1 s))
 body_key ρ t s b u f e =
     let h = fields_held ρ t s b u (sym (by_table ρ t s f) ∙ e) in

@@ -1,5 +1,6 @@
 -- THE LAW of named parts: of a body that reads each named part is the field at document 01's place, and no field is left out. Assumes
 -- nothing.
+use Rattle.std.specs.Prelude.{Ok}
 use mathlib.Core.Path.{◌≡◌, refl, sym, ap, ◌∙◌}
 use mathlib.Core.Bool.{Bool, true}
 use mathlib.Core.List.{List, [], ◌∷◌, map}
@@ -29,7 +30,6 @@ use Rattle.messages.specs.declared.Amendment.{Amendment}
 use Rattle.messages.specs.declared.Af.{Af}
 use Rattle.messages.specs.declared.Body.{Body}
 use Rattle.messages.specs.declared.Body.TheVariants as body
-use Rattle.messages.specs.declared.typed.BodyRead.TheVariants as read
 use Rattle.messages.proofs.Bodies.{allowed_first, allowed_rest, double, double_is, mark_value, count_pairs}
 use Rattle.messages.proofs.Amendments.{af_kinds, af_values}
 use Rattle.messages.proofs.ReadWays.{by_table}
@@ -154,7 +154,7 @@ stand_from s i (suc n) (p ∷ ps) e h =
     )
 
 -- THE LAW
-pub body_named : (ρ : Rule) (t : MessageType) (s : List ℕ) (b : Body) (u : Bool) → has_fields t ≡ true → body_read ρ t s ≡ read.Read b u → (type_in b ≡ t) × AreFields s (named b (free_in ρ t s))
+pub body_named : (ρ : Rule) (t : MessageType) (s : List ℕ) (b : Body) (u : Bool) → has_fields t ≡ true → body_read ρ t s ≡ Ok (b, u) → (type_in b ≡ t) × AreFields s (named b (free_in ρ t s))
 unfolding kinds_in
 body_named ρ t s b u f e =
     let r = route_by ρ t s in

@@ -1,5 +1,6 @@
 -- THE THEOREMS of bodies by their types: what reads is a body that a line can have, and its text is what was read; the
 -- text of every such body reads as it. Assumes nothing.
+use Rattle.std.specs.Prelude.{Err, Ok, Result}
 use mathlib.Core.Path.{◌≡◌, refl, sym, ap, ◌∙◌}
 use mathlib.Core.Bool.{Bool, true, false, cond, not, ◌&&◌, ◌||◌}
 use mathlib.Core.List.{List, [], ◌∷◌, map}
@@ -19,8 +20,6 @@ use Rattle.table.specs.Field.{trace_of}
 use Rattle.table.specs.declared.kinds.Value.{Value}
 use Rattle.table.specs.Read.{padded, answer_of, values_of, route_in, route_of}
 use Rattle.table.specs.Show.{texts_from, allowed_from, marks_from, routed}
-use Rattle.table.specs.declared.walk.Answer.{Answer}
-use Rattle.table.specs.declared.walk.Answer.TheVariants as answer
 use Rattle.table.specs.declared.walk.Fault.{Fault}
 use Rattle.table.proofs.Theorems.{complete, allowed_taken, body_printable}
 use Rattle.table.proofs.Routes.{Back, route_back, written_back}
@@ -38,7 +37,6 @@ use Rattle.messages.proofs.Amendments.{amendments_kept}
 use Rattle.messages.proofs.Bodies.{type_from, body_back, values_back}
 use Rattle.messages.proofs.Tables.{count_from, marks_kept_lem, has_route_lem}
 use Rattle.messages.specs.Read.{typed_of, body_read}
-use Rattle.messages.specs.declared.typed.BodyRead.TheVariants as read
 use Rattle.messages.proofs.ReadWays.{by_table, kept_whole}
 
 -- kinds after the last field find no route
@@ -59,22 +57,22 @@ route_by_lem ρ t s = sym (route_take (table_by ρ t) 0 (fields_in (fields_of s)
 record Taken (ρ : Rule) (t : MessageType) (s : List ℕ) (b : Body) (u : Bool) : Type 0 where
   marks : ℕ
   count : is_count t (count_in s) ≡ true
-  answer : answer_of (kinds_of ρ t (count_in s)) s ≡ answer.Taken u marks
+  answer : answer_of (kinds_of ρ t (count_in s)) s ≡ Ok (u, marks)
   is : body_from t marks (padded (values_of (kinds_of ρ t (count_in s)) s)) ≡ b
 
-typed_taken : (ρ : Rule) (t : MessageType) (s : List ℕ) (b : Body) (u : Bool) → typed_of t (padded (values_by ρ t s)) (answer_by ρ t s) ≡ read.Read b u → Taken ρ t s b u
+typed_taken : (ρ : Rule) (t : MessageType) (s : List ℕ) (b : Body) (u : Bool) → typed_of t (padded (values_by ρ t s)) (answer_by ρ t s) ≡ Ok (b, u) → Taken ρ t s b u
 unfolding answer_by values_by
 typed_taken ρ t s b u e = go (is_count t (count_in s)) refl
   where
-    none : {X : Type 0} (x : Fault) → read.Refused x ≡ read.Read b u → X
+    none : {X : Type 0} (x : Fault) → Err x ≡ Ok (b, u) → X
     none x z = absurd (let y : ◌≡◌ {A = ℕ} 0 1 = cc in omega arith)
 
-    at : is_count t (count_in s) ≡ true → (a : Answer) → answer_of (kinds_of ρ t (count_in s)) s ≡ a → typed_of t (padded (values_of (kinds_of ρ t (count_in s)) s)) a ≡ read.Read b u → Taken ρ t s b u
-    at q (answer.Taken v m) p d =
+    at : is_count t (count_in s) ≡ true → (a : Result (Bool × ℕ) Fault) → answer_of (kinds_of ρ t (count_in s)) s ≡ a → typed_of t (padded (values_of (kinds_of ρ t (count_in s)) s)) a ≡ Ok (b, u) → Taken ρ t s b u
+    at q (Ok (v, m)) p d =
         let z : v ≡ u = cc in
         let y : body_from t m (padded (values_of (kinds_of ρ t (count_in s)) s)) ≡ b = cc in
         record { marks = m; count = q; answer = p ∙ rw z; is = y }
-    at q (answer.Refused x) p d = none x d
+    at q (Err x) p d = none x d
 
     go : (c : Bool) → is_count t (count_in s) ≡ c → Taken ρ t s b u
     go true q = at q (answer_of (kinds_of ρ t (count_in s)) s) refl (rw q at e)
@@ -91,7 +89,7 @@ either : (a b : Bool) → (a ≡ false → b ≡ true) → (a || b) ≡ true
 either true b h = refl
 either false b h = h refl
 
-pub fields_held : (ρ : Rule) (t : MessageType) (s : List ℕ) (b : Body) (u : Bool) → typed_of t (padded (values_by ρ t s)) (answer_by ρ t s) ≡ read.Read b u → Held ρ t s b u
+pub fields_held : (ρ : Rule) (t : MessageType) (s : List ℕ) (b : Body) (u : Bool) → typed_of t (padded (values_by ρ t s)) (answer_by ρ t s) ≡ Ok (b, u) → Held ρ t s b u
 unfolding is_fielded kinds_in
 fields_held ρ t s b u e = rw (← x.is) (record { type = same; fields = count; good = good; text = text })
   where
@@ -171,20 +169,20 @@ unfolding is_body body_text is_whole
 whole_held ρ t s f h = let k = type_from t 0 (padded []) in (k, rw (k, f, h), rw (k, f))
 
 -- what reads is a body that a line can have, and its text is what was read
-pub body_sound : (ρ : Rule) (t : MessageType) (s : List ℕ) (b : Body) (u : Bool) → all_in 32 126 s ≡ true → body_read ρ t s ≡ read.Read b u
+pub body_sound : (ρ : Rule) (t : MessageType) (s : List ℕ) (b : Body) (u : Bool) → all_in 32 126 s ≡ true → body_read ρ t s ≡ Ok (b, u)
     → (type_in b ≡ t) × (is_body ρ b (free_in ρ t s) u ≡ true) × (body_text ρ b (free_in ρ t s) u ≡ s)
 body_sound ρ t s b u h e = go (has_fields t) refl
   where
     go : (c : Bool) → has_fields t ≡ c → (type_in b ≡ t) × (is_body ρ b (free_in ρ t s) u ≡ true) × (body_text ρ b (free_in ρ t s) u ≡ s)
     go true f = rw f (fielded ρ t s b u f (fields_held ρ t s b u (sym (by_table ρ t s f) ∙ e)))
     go false f =
-        let d : read.Read (body_from t 0 (padded [])) false ≡ read.Read b u = sym (kept_whole ρ t s f) ∙ e in
+        let d : Ok (body_from t 0 (padded []), false) ≡ Ok (b, u) = sym (kept_whole ρ t s f) ∙ e in
         let z : body_from t 0 (padded []) ≡ b = cc in
         let y : false ≡ u = cc in
         rw (f, ← z, ← y) (whole_held ρ t s f h)
 
 -- "the count of marks set is the count of amendments": an AF that is read has three fields, and two more for each mark
-pub marks_amendments : (ρ : Rule) (s : List ℕ) (a : Af) (u : Bool) → body_read ρ type.Af s ≡ read.Read (body.Af a) u → count_in s ≡ 3 + 2 * ones a.marks
+pub marks_amendments : (ρ : Rule) (s : List ℕ) (a : Af) (u : Bool) → body_read ρ type.Af s ≡ Ok (body.Af a, u) → count_in s ≡ 3 + 2 * ones a.marks
 unfolding field_count count_with
 marks_amendments ρ s a u e = sym (fields_held ρ type.Af s (body.Af a) u (sym (by_table ρ type.Af s refl) ∙ e)).fields
 
@@ -250,14 +248,14 @@ module _ (ρ : Rule) (b : Body) (r : List ℕ) (u : Bool) (e : is_fielded ρ b r
   is : body_from t (marks_in b) (padded vs) ≡ b
   is = body_back b spared
 
-  pub parts : (answer_of ks s ≡ answer.Taken u (marks_from ks 0 0 r vs)) × (values_of ks s ≡ vs) × (fields_of s ≡ Fields (texts_from ks 0 r vs) u) × (length vs ≡ length ks)
+  pub parts : (answer_of ks s ≡ Ok (u, marks_from ks 0 0 r vs)) × (values_of ks s ≡ vs) × (fields_of s ≡ Fields (texts_from ks 0 r vs) u) × (length vs ≡ length ks)
   parts = complete ks r vs u few allowed
 
   number : count_in s ≡ n
   unfolding count_in
   number = ap (λ f. length (fields_in f)) parts.2 ∙ (allowed_taken ks 0 0 r vs allowed).texts ∙ long
 
-  shown_read : typed_of t (padded (values_by ρ t s)) (answer_by ρ t s) ≡ read.Read b u
+  shown_read : typed_of t (padded (values_by ρ t s)) (answer_by ρ t s) ≡ Ok (b, u)
   unfolding answer_by values_by kinds_in
   shown_read = rw (number, counted, parts.0, parts.1, marked, is)
 
@@ -280,7 +278,7 @@ module _ (ρ : Rule) (b : Body) (r : List ℕ) (u : Bool) (e : is_fielded ρ b r
   shown_printable = body_printable ks 0 0 r vs u allowed
 
 -- an AF that is read keeps its amendments by their types: what each is held as is what its type keeps
-pub amendments_typed : (ρ : Rule) (s : List ℕ) (a : Af) (u : Bool) → body_read ρ type.Af s ≡ read.Read (body.Af a) u
+pub amendments_typed : (ρ : Rule) (s : List ℕ) (a : Af) (u : Bool) → body_read ρ type.Af s ≡ Ok (body.Af a, u)
     → map (λ (x : Amendment). held_of (amended_in x)) (take (ones a.marks) (slots_of a)) ≡ take (ones a.marks) (slots_of a)
 unfolding kinds_in
 amendments_typed ρ s a u e =
@@ -312,11 +310,11 @@ whole_back body.Hb e = refl
 
 -- the text of every body that a line can have reads as it, and its free text is handed back
 pub body_complete : (ρ : Rule) (b : Body) (r : List ℕ) (u : Bool) → is_body ρ b r u ≡ true
-    → (body_read ρ (type_in b) (body_text ρ b r u) ≡ read.Read b u) × (free_in ρ (type_in b) (body_text ρ b r u) ≡ r) × (all_in 32 126 (body_text ρ b r u) ≡ true)
+    → (body_read ρ (type_in b) (body_text ρ b r u) ≡ Ok (b, u)) × (free_in ρ (type_in b) (body_text ρ b r u) ≡ r) × (all_in 32 126 (body_text ρ b r u) ≡ true)
 unfolding is_body body_text
 body_complete ρ b r u e = go (has_fields (type_in b)) refl
   where
-    go : (c : Bool) → has_fields (type_in b) ≡ c → (body_read ρ (type_in b) (body_text ρ b r u) ≡ read.Read b u) × (free_in ρ (type_in b) (body_text ρ b r u) ≡ r) × (all_in 32 126 (body_text ρ b r u) ≡ true)
+    go : (c : Bool) → has_fields (type_in b) ≡ c → (body_read ρ (type_in b) (body_text ρ b r u) ≡ Ok (b, u)) × (free_in ρ (type_in b) (body_text ρ b r u) ≡ r) × (all_in 32 126 (body_text ρ b r u) ≡ true)
     go true f =
         let q = whole_not b f in
         let g : is_fielded ρ b r ≡ true = rw q at e in

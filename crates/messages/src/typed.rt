@@ -12,14 +12,7 @@ use fields::plan::{FiledSpeed, Fix, Level, Point, Time};
 use fields::track::{ArrivalClock, Clock, GroundSpeed, Position, TrackLevel};
 use rules::Rule;
 use table::kinds::Value;
-use table::walk::{Answer, Fault, TableRead};
-
-// What a body is read as, and whether a space stands at its end; or its fault.
-#[derive(Clone, Copy)]
-pub enum BodyRead {
-    Read(Body, bool),
-    Refused(Fault),
-}
+use table::walk::{Fault, TableRead};
 
 // Each struct is built in place: a function that calls no other is proved with no file.
 fn af_from(marks: u8, w: [Value; 19]) -> Af
@@ -181,7 +174,7 @@ fn read_fields(rule: Rule, t: MessageType, body: &[u8]) -> TableRead
 {
     if !table::has_fields(t) {
         return TableRead {
-            answer: Answer::Taken(false, 0),
+            answer: Ok((false, 0)),
             values: [Value { a: 0, b: 0, c: 0 }; 19],
         };
     }
@@ -189,14 +182,14 @@ fn read_fields(rule: Rule, t: MessageType, body: &[u8]) -> TableRead
 }
 
 // Reads the body of a type's line under the rule, and gives the values their types.
-pub fn read_body(rule: Rule, t: MessageType, body: &[u8]) -> BodyRead
+pub fn read_body(rule: Rule, t: MessageType, body: &[u8]) -> Result<(Body, bool), Fault>
     ensures { result ≡ body_read rule t body.now }
 {
     let read = read_fields(rule, t, body);
     let answer = read.answer;
     let values = read.values;
     match answer {
-        Answer::Taken(trailing, marks) => BodyRead::Read(body_from(t, marks, values), trailing),
-        Answer::Refused(fault) => BodyRead::Refused(fault),
+        Ok((trailing, marks)) => Ok((body_from(t, marks, values), trailing)),
+        Err(fault) => Err(fault),
     }
 }

@@ -1,5 +1,6 @@
 -- THE ANSWERS: a line is refused exactly if it is not read, with the number and the place of its case in document 01's
 -- table of answers, and of no other. Assumes nothing.
+use Rattle.std.specs.Prelude.{Err, Ok, Result}
 use mathlib.Core.Path.{◌≡◌, refl, sym, ap, ◌∙◌, subst}
 use mathlib.Core.List.{List}
 use Prim.Native.Nat.{ℕ}
@@ -11,8 +12,6 @@ use Rattle.messages.specs.declared.Body.TheVariants as body
 use Rattle.fields.specs.declared.frame.Stamp.{Stamp}
 use Rattle.line.specs.Cases.{Case}
 use Rattle.line.specs.Read.{read_of, refusal_number, refusal_place, line_number, line_place}
-use Rattle.line.specs.declared.LineRead.{LineRead}
-use Rattle.line.specs.declared.LineRead.TheVariants as read
 use Rattle.line.specs.declared.Refusal.{Refusal}
 use Rattle.line.proofs.Cases.{answer_case, answer_only}
 use Rattle.planner.specs.Asked.{asked_in, asked_by, asked_from, asked_of, asked_number, asked_place}
@@ -20,14 +19,14 @@ use Rattle.planner.specs.declared.asks.Asked.{Asked}
 use Rattle.planner.specs.declared.asks.Asked.TheVariants.{Dz, Az, Tz, Other, Refused}
 
 -- what is asked beside the line's own answer r: r's refusal, or else r is a message
-abbrev pub By : LineRead → Asked → Type 0
-By r (Refused x) = read.Refused x ≡ r
-By r (Dz k a) = (m : Message) × (r ≡ read.Read m)
-By r (Az k a) = (m : Message) × (r ≡ read.Read m)
-By r (Tz k t) = (m : Message) × (r ≡ read.Read m)
-By r Other = (m : Message) × (r ≡ read.Read m)
+abbrev pub By : Result Message Refusal → Asked → Type 0
+By r (Refused x) = Err x ≡ r
+By r (Dz k a) = (m : Message) × (r ≡ Ok m)
+By r (Az k a) = (m : Message) × (r ≡ Ok m)
+By r (Tz k t) = (m : Message) × (r ≡ Ok m)
+By r Other = (m : Message) × (r ≡ Ok m)
 
-by_body : (m : Message) (s : Stamp) (b : Body) → By (read.Read m) (asked_in s b)
+by_body : (m : Message) (s : Stamp) (b : Body) → By (Ok m) (asked_in s b)
 by_body m s (body.Af a) = (m, refl)
 by_body m s (body.Az a) = (m, refl)
 by_body m s (body.Dz a) = (m, refl)
@@ -39,13 +38,13 @@ by_body m s body.Rt = (m, refl)
 by_body m s body.To = (m, refl)
 by_body m s body.Hb = (m, refl)
 
-by_message : (m : Message) → By (read.Read m) (asked_by m)
+by_message : (m : Message) → By (Ok m) (asked_by m)
 unfolding asked_by
 by_message m = by_body m m.stamp m.body
 
-by_line : (r : LineRead) → By r (asked_from r)
-by_line (read.Read m) = by_message m
-by_line (read.Refused x) = refl
+by_line : (r : Result Message Refusal) → By r (asked_from r)
+by_line (Ok m) = by_message m
+by_line (Err x) = refl
 
 module _ (s : List ℕ) where
   pub asks_read : (a : Asked) → asked_of s ≡ a → By (read_of s) a
@@ -68,11 +67,11 @@ module _ (s : List ℕ) where
       go Other (m, e) = (rw e, rw e)
 
   -- what is refused is not read
-  pub refused_unread : (x : Refusal) → asked_of s ≡ Refused x → (m : Message) → read_of s ≡ read.Read m → ⊥
-  refused_unread x e m q = let d : read.Refused x ≡ read.Read m = asks_read (Refused x) e ∙ q in let z : ◌≡◌ {A = ℕ} 0 1 = cc in omega arith
+  pub refused_unread : (x : Refusal) → asked_of s ≡ Refused x → (m : Message) → read_of s ≡ Ok m → ⊥
+  refused_unread x e m q = let d : Err x ≡ Ok m = asks_read (Refused x) e ∙ q in let z : ◌≡◌ {A = ℕ} 0 1 = cc in omega arith
 
   -- and what is not read is refused
-  pub unread_refused : ((m : Message) → read_of s ≡ read.Read m → ⊥) → (x : Refusal) × (asked_of s ≡ Refused x)
+  pub unread_refused : ((m : Message) → read_of s ≡ Ok m → ⊥) → (x : Refusal) × (asked_of s ≡ Refused x)
   unread_refused none = go (asked_of s) (asks_read (asked_of s) refl)
     where
       go : (a : Asked) → By (read_of s) a → (x : Refusal) × (a ≡ Refused x)
@@ -84,7 +83,7 @@ module _ (s : List ℕ) where
 
   -- THE CASE of a refusal: the line is in the case of its number and place
   pub refused_case : (x : Refusal) → asked_of s ≡ Refused x → Case New s (refusal_number x) (refusal_place x)
-  refused_case x e = subst (λ (r : LineRead). Case New s (line_number r) (line_place r)) (sym (asks_read (Refused x) e)) (answer_case New s)
+  refused_case x e = subst (λ (r : Result Message Refusal). Case New s (line_number r) (line_place r)) (sym (asks_read (Refused x) e)) (answer_case New s)
 
   -- and in no other
   pub refused_only : (x : Refusal) → asked_of s ≡ Refused x → (n i : ℕ) → Case New s n i → (refusal_number x ≡ n) × (refusal_place x ≡ i)

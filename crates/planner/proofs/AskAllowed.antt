@@ -1,5 +1,6 @@
 -- THE LAWS of what a line asks: key, arrival entry and track are such as the board may hold, "keys of ident form
 -- without slash or computer number", "entries such as a line could give". Assumes nothing.
+use Rattle.std.specs.Prelude.{Err, Ok, Result, Some}
 use mathlib.Core.Path.{◌≡◌, refl, subst}
 use mathlib.Core.Bool.{Bool, true}
 use mathlib.Core.List.{List}
@@ -11,29 +12,26 @@ use Rattle.fields.specs.declared.flight.Key.{Key}
 use Rattle.fields.specs.declared.frame.Stamp.{Stamp}
 use Rattle.board.specs.Row.{is_arrival, is_track}
 use Rattle.board.specs.declared.rows.Arrival.{Arrival}
-use Rattle.board.specs.declared.rows.ArrivalSlot.TheVariants as arrival
 use Rattle.board.specs.declared.rows.Track.{Track}
-use Rattle.board.specs.declared.rows.TrackSlot.TheVariants as track
 use Rattle.messages.specs.Allowed.{is_body}
 use Rattle.messages.specs.Reading.{reading_of}
 use Rattle.messages.specs.declared.Message.{Message}
 use Rattle.messages.specs.declared.Body.{Body}
 use Rattle.messages.specs.declared.Body.TheVariants as body
 use Rattle.line.specs.Read.{read_of, free_of}
-use Rattle.line.specs.declared.LineRead.{LineRead}
-use Rattle.line.specs.declared.LineRead.TheVariants as read
 use Rattle.line.proofs.Steps.{allowed_allows}
 use Rattle.line.proofs.Theorems.{reads_allowed}
 use Rattle.planner.specs.Asked.{asked_in, asked_by, asked_from, asked_of}
 use Rattle.planner.specs.declared.asks.Asked.{Asked}
 use Rattle.planner.specs.declared.asks.Asked.TheVariants.{Dz, Az, Tz, Other, Refused}
 use Rattle.planner.proofs.Fields.{clock_arrival, key_dz, from_dz, to_dz, clock_dz, key_az, from_az, to_az, clock_az, key_tz, speed_tz, level_tz, position_tz}
+use Rattle.line.specs.declared.Refusal.{Refusal}
 
 -- what is asked may stand on the board
 abbrev May : Asked → Type 0
-May (Dz k a) = (is_word KEY k.0 ≡ true) × (is_arrival (arrival.Entry a) ≡ true)
-May (Az k a) = (is_word KEY k.0 ≡ true) × (is_arrival (arrival.Entry a) ≡ true)
-May (Tz k t) = (is_word KEY k.0 ≡ true) × (is_track (track.Entry t) ≡ true)
+May (Dz k a) = (is_word KEY k.0 ≡ true) × (is_arrival (Some a) ≡ true)
+May (Az k a) = (is_word KEY k.0 ≡ true) × (is_arrival (Some a) ≡ true)
+May (Tz k t) = (is_word KEY k.0 ≡ true) × (is_track (Some t) ≡ true)
 May Other = Unit {0}
 May (Refused x) = Unit {0}
 
@@ -51,7 +49,7 @@ in_body s body.Rt r t p e = tt
 in_body s body.To r t p e = tt
 in_body s body.Hb r t p e = tt
 
-in_message : (s : List ℕ) (m : Message) → read_of s ≡ read.Read m → May (asked_by m)
+in_message : (s : List ℕ) (m : Message) → read_of s ≡ Ok m → May (asked_by m)
 unfolding asked_by
 in_message s m e =
     let a = allowed_allows New (reading_of m) (free_of New s) (reads_allowed New s m e).0 in
@@ -61,16 +59,16 @@ in_line : (s : List ℕ) → May (asked_of s)
 unfolding asked_of
 in_line s = go (read_of s) refl
   where
-    go : (r : LineRead) → read_of s ≡ r → May (asked_from r)
-    go (read.Read m) e = in_message s m e
-    go (read.Refused x) e = tt
+    go : (r : Result Message Refusal) → read_of s ≡ r → May (asked_from r)
+    go (Ok m) e = in_message s m e
+    go (Err x) e = tt
 
 -- a DZ's clock has no letter before it, and is an arrival's too
-pub asks_dz : (s : List ℕ) (k : Key) (a : Arrival) → asked_of s ≡ Dz k a → (is_word KEY k.0 ≡ true) × (is_arrival (arrival.Entry a) ≡ true)
+pub asks_dz : (s : List ℕ) (k : Key) (a : Arrival) → asked_of s ≡ Dz k a → (is_word KEY k.0 ≡ true) × (is_arrival (Some a) ≡ true)
 asks_dz s k a e = subst May e (in_line s)
 
-pub asks_az : (s : List ℕ) (k : Key) (a : Arrival) → asked_of s ≡ Az k a → (is_word KEY k.0 ≡ true) × (is_arrival (arrival.Entry a) ≡ true)
+pub asks_az : (s : List ℕ) (k : Key) (a : Arrival) → asked_of s ≡ Az k a → (is_word KEY k.0 ≡ true) × (is_arrival (Some a) ≡ true)
 asks_az s k a e = subst May e (in_line s)
 
-pub asks_tz : (s : List ℕ) (k : Key) (t : Track) → asked_of s ≡ Tz k t → (is_word KEY k.0 ≡ true) × (is_track (track.Entry t) ≡ true)
+pub asks_tz : (s : List ℕ) (k : Key) (t : Track) → asked_of s ≡ Tz k t → (is_word KEY k.0 ≡ true) × (is_track (Some t) ≡ true)
 asks_tz s k t e = subst May e (in_line s)

@@ -1,4 +1,5 @@
 -- What each way through the code asks is what the definition says. Assumes nothing.
+use Rattle.std.specs.Prelude.{Result}
 use mathlib.Core.Path.{◌≡◌, refl, sym, ap}
 use mathlib.Core.List.{List, [], ◌∷◌}
 use Prim.Native.Nat.{ℕ}
@@ -10,9 +11,9 @@ use Rattle.messages.specs.declared.Body.{Body}
 use Rattle.messages.specs.declared.Body.TheVariants as body
 use Rattle.messages.specs.contracts.Body.{the_type}
 use Rattle.line.specs.Read.{read_of}
-use Rattle.line.specs.declared.LineRead.{LineRead}
 use Rattle.planner.specs.Asked.{asked_in, asked_by, asked_from, asked_of}
 use Rattle.planner.specs.declared.asks.Asked.TheVariants.{Other}
+use Rattle.line.specs.declared.Refusal.{Refusal}
 
 -- the types that ask nothing, of which the code tells only the variant's number
 pub asks_nothing : (s : Stamp) (b : Body) → OneOf (0 ∷ 3 ∷ 4 ∷ 6 ∷ 7 ∷ 8 ∷ 9 ∷ []) (tag_of the_type b) → Other ≡ asked_in s b
@@ -36,6 +37,6 @@ unfolding asked_by
 asks_body m b e = ap (asked_in m.stamp) (sym e)
 
 -- a line that reads as r asks what r does
-pub asks_as : (s : List ℕ) (r : LineRead) → r ≡ read_of s → asked_from r ≡ asked_of s
+pub asks_as : (s : List ℕ) (r : Result Message Refusal) → r ≡ read_of s → asked_from r ≡ asked_of s
 unfolding asked_of
 asks_as s r e = ap asked_from e

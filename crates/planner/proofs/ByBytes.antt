@@ -1,5 +1,6 @@
 -- THE LAWS of what a line is to the board: a DZ, AZ or TZ of a flight, with the entry that its fields give, exactly if its bytes say so; and
 -- nothing to it exactly if it is unread or of another type. Assumes nothing.
+use Rattle.std.specs.Prelude.{Err, None, Ok, Result, Some}
 use mathlib.Core.Logic.{◌↔◌}
 use mathlib.Core.Path.{◌≡◌, refl, sym, ap, ap₂, ◌∙◌, subst}
 use mathlib.Core.Bool.{Bool, true, false, not, ◌&&◌}
@@ -23,7 +24,6 @@ use Rattle.fields.specs.Word.{is_word}
 use Rattle.fields.specs.Ident.{ident_from, ident_of, ident_text, is_ident_value}
 use Rattle.fields.specs.MessageType.{type_text}
 use Rattle.fields.specs.declared.idents.Ident.{Ident}
-use Rattle.fields.specs.declared.idents.IdentRead.TheVariants as ident
 use Rattle.fields.proofs.WordLaws.{word_packed}
 use Rattle.fields.proofs.IdentLaws.{ident_complete}
 use Rattle.table.specs.Table.{has_fields}
@@ -36,8 +36,6 @@ use Rattle.messages.specs.declared.Body.{Body}
 use Rattle.messages.specs.declared.Body.TheVariants as body
 use Rattle.line.specs.Read.{read_of, free_of, line_number}
 use Rattle.line.specs.Placed.{Placed}
-use Rattle.line.specs.declared.LineRead.{LineRead}
-use Rattle.line.specs.declared.LineRead.TheVariants as read
 use Rattle.line.proofs.Steps.{Allows, allowed_allows}
 use Rattle.line.proofs.Lines.{refusal_numbers}
 use Rattle.line.proofs.Theorems.{reads_allowed}
@@ -53,6 +51,7 @@ use Rattle.planner.specs.ByBytes.{DzOf, AzOf, TzOf, OtherOf}
 use Rattle.planner.proofs.apply.Reads as apply
 use Rattle.planner.proofs.Theorems.{apply_promise}
 use Rattle.planner.proofs.Fields.{ident_dz, from_dz, to_dz, clock_dz, ident_az, from_az, to_az, clock_az, ident_tz, speed_tz, level_tz, position_tz}
+use Rattle.line.specs.declared.Refusal.{Refusal}
 
 -- ---- a field whose text is known
 
@@ -64,8 +63,8 @@ unfolding ident_of ident_from
 key_cut i e = go (is_ident (ident_text i)) refl
   where
     go : (b : Bool) → is_ident (ident_text i) ≡ b → i.key.0 ≡ packed (before (code "/") (ident_text i))
-    go true q = let z : ident.Read (ident_from (ident_text i)) ≡ ident.Read i = rw q at (ident_complete i e) in let y : ident_from (ident_text i) ≡ i = cc in sym (ap (λ (j : Ident). j.key.0) y)
-    go false q = let z : ident.Nothing ≡ ident.Read i = rw q at (ident_complete i e) in cc
+    go true q = let z : Some (ident_from (ident_text i)) ≡ Some i = rw q at (ident_complete i e) in let y : ident_from (ident_text i) ≡ i = cc in sym (ap (λ (j : Ident). j.key.0) y)
+    go false q = let z : None ≡ Some i = rw q at (ident_complete i e) in cc
 
 key_at_lem : (i : Ident) {f : List ℕ} → is_ident_value i ≡ true → f ≡ ident_text i → i.key.0 ≡ packed (before (code "/") f)
 key_at_lem i e p = key_cut i e ∙ ap (λ (f : List ℕ). packed (before (code "/") f)) (sym p)
@@ -89,7 +88,7 @@ abbrev elsewhere : List ℕ → Bool
 elsewhere x = not (eqb (two x) (two (bytes "DZ"))) && not (eqb (two x) (two (bytes "AZ"))) && not (eqb (two x) (two (bytes "TZ")))
 
 -- the line s reads as the message m
-module _ (s : List ℕ) (m : Message) (e : read_of s ≡ read.Read m) where
+module _ (s : List ℕ) (m : Message) (e : read_of s ≡ Ok m) where
   abbrev p : Placed s m
   p = reads_placed s m e
 
@@ -178,9 +177,9 @@ known : (s : List ℕ) → Known s (line_event s)
 unfolding line_event asked_of asked_by
 known s = go (read_of s) refl
   where
-    go : (r : LineRead) → read_of s ≡ r → Known s (event_of (asked_from r))
-    go (read.Read m) e = known_body s m e m.body refl
-    go (read.Refused x) e = λ z. omega (arith, (refusal_numbers x).0, ap line_number e, z)
+    go : (r : Result Message Refusal) → read_of s ≡ r → Known s (event_of (asked_from r))
+    go (Ok m) e = known_body s m e m.body refl
+    go (Err x) e = λ z. omega (arith, (refusal_numbers x).0, ap line_number e, z)
 
 -- ---- and no other event says it
 

@@ -1,5 +1,6 @@
 -- THE CASES of a call of `apply` and `strike`: its number, its place and the board that it leaves are those of the document's case.
 -- Assumes nothing.
+use Rattle.std.specs.Prelude.{Err, Result}
 use mathlib.Core.Path.{◌≡◌, refl, sym, ap, ◌∙◌, subst}
 use mathlib.Core.Bool.{Bool, true, false, cond}
 use mathlib.Core.List.{List}
@@ -24,10 +25,10 @@ use Rattle.planner.specs.declared.asks.Asked.TheVariants as asked
 use Rattle.planner.proofs.Answers.{asks_read, asks_number}
 use Rattle.planner.specs.Apply.{line_event, strike_event, KeyIsAsked, room, apply_of, board_after, strike_of, board_struck, apply_number, apply_place, strike_number, strike_place}
 use Rattle.planner.specs.Cases.{ApplyCase, Unread, NotAllowed, Full, Taken, StrikeCase, NoKey, StrikeNotAllowed, NotListed, Struck}
-use Rattle.planner.specs.declared.LineAnswer.{LineAnswer}
-use Rattle.planner.specs.declared.LineAnswer.TheVariants as line
-use Rattle.planner.specs.declared.StrikeAnswer.{StrikeAnswer}
 use Rattle.planner.proofs.Ways.{stays}
+use Rattle.planner.specs.declared.NotTaken.TheVariants.{NotAllowed}
+use Rattle.planner.specs.declared.NotStruck.{NotStruck}
+use Rattle.planner.specs.declared.NotTaken.{NotTaken}
 
 -- the case of what `apply` gives
 abbrev Own : List ℕ → List ℕ → Type 0
@@ -43,7 +44,7 @@ module _ (l s : List ℕ) where
 
   -- a line that asks the row r of the flight k to be written
   module _ (k : ℕ) (r : Row) (key : key_of r ≡ k) (asks : KeyIsAsked (asked_of s) k) (only : (j : ℕ) → KeyIsAsked (asked_of s) j → k ≡ j) (zero : line_number (read_of s) ≡ 0)
-      (is : apply_of l s ≡ cond (is_allowed l) (room (fits (rows_of l) k)) line.NotAllowed) (rows : rows_after (rows_of l) (line_event s) ≡ written (rows_of l) r) where
+      (is : apply_of l s ≡ cond (is_allowed l) (room (fits (rows_of l) k)) (Err NotAllowed)) (rows : rows_after (rows_of l) (line_event s) ≡ written (rows_of l) r) where
     put_own : Own l s
     unfolding board_after
     put_own = go (is_allowed l) refl (fits (rows_of l) k) refl
@@ -82,7 +83,7 @@ module _ (l s : List ℕ) where
           (λ j a. subst (λ (x : Asked). KeyIsAsked x j) e a) (ap line_number (asks_read s (asked.Tz k a) e).1) (rw e) (rw e)
 
 -- so a call that gives this is in its case
-pub in_apply_case : (l s : List ℕ) {r : LineAnswer} {l' : List ℕ} → (r ≡ apply_of l s) × (l' ≡ board_after l s)
+pub in_apply_case : (l s : List ℕ) {r : (Result (Unit {0}) NotTaken)} {l' : List ℕ} → (r ≡ apply_of l s) × (l' ≡ board_after l s)
     → (r ≡ apply_of l s) × ((l' ≡ board_after l s) × ApplyCase l s (apply_number r) (apply_place r) l')
 in_apply_case l s e = (e.0, (e.1, rw (e.0, e.1) (apply_own l s)))
 
@@ -103,7 +104,7 @@ strike_own l s = go (is_form KEY s) refl (is_allowed l) refl (is_listed (rows_of
     go true f true q true p = rw (f, q, p) (Struck f q p)
     go true f true q false p = rw (f, q, p) (subst (StrikeCase l s 14 0) (stayed q p) (NotListed f q p))
 
-pub in_strike_case : (l s : List ℕ) {r : StrikeAnswer} {l' : List ℕ} → (r ≡ strike_of l s) × (l' ≡ board_struck l s)
+pub in_strike_case : (l s : List ℕ) {r : (Result (Unit {0}) NotStruck)} {l' : List ℕ} → (r ≡ strike_of l s) × (l' ≡ board_struck l s)
     → (r ≡ strike_of l s) × ((l' ≡ board_struck l s) × StrikeCase l s (strike_number r) (strike_place r) l')
 in_strike_case l s e = (e.0, (e.1, rw (e.0, e.1) (strike_own l s)))
 

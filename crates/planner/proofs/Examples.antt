@@ -1,5 +1,6 @@
 -- What the promises of `planner` require on inputs written out, and so wrong answers that they do not allow: of each, `Post` is the function's
 -- `ensures` as it stands in the source, r any result that meets it, s the state at exit. Assumes nothing.
+use Rattle.std.specs.Prelude.{None, Some}
 use Prim.Native.Nat.{ℕ}
 use mathlib.Core.Bool.{true, false}
 use mathlib.Core.List.{List, [], ◌∷◌}
@@ -26,9 +27,7 @@ use Rattle.fields.specs.Word.{word_of}
 use Rattle.board.specs.Board.{rows_of, words_of, is_allowed}
 use Rattle.board.specs.Rows.{CAP, lookup, look_row, fits, written, struck, is_listed}
 use Rattle.board.specs.declared.rows.Arrival.{Arrival}
-use Rattle.board.specs.declared.rows.ArrivalSlot.TheVariants as arrival
 use Rattle.board.specs.declared.rows.Row.{Row}
-use Rattle.board.specs.declared.rows.TrackSlot.TheVariants as track
 use Rattle.board.proofs.Allowed.{cap_is}
 use Rattle.board.proofs.Examples.{word, seen, tracked, one_row}
 use Rattle.board.proofs.Kept.{fair}
@@ -71,7 +70,7 @@ unfolding asked_of asked_by read_of read_by type_by head_of rest_of body_read bo
 asks = (refl, refl, refl)
 
 abbrev pub landed : Row
-landed = record { key = tracked.key; arrival = arrival.Entry due; track = track.Empty }
+landed = record { key = tracked.key; arrival = Some due; track = None }
 
 -- the words after the first line on a board without rows, and after the second on that board
 pub tz_after : (n : ℕ) → n ≡ 2817 → board_after (replicate n 0) tz ≡ words_of (tracked ∷ [])

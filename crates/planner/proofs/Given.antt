@@ -1,5 +1,6 @@
 -- THE LAWS of "entries such as a line could give": a key, an arrival entry, a track and a row are allowed exactly if lines give them.
 -- Assumes nothing.
+use Rattle.std.specs.Prelude.{None, Ok, Option, Some}
 use mathlib.Core.Logic.{◌↔◌}
 use mathlib.Core.Path.{◌≡◌, refl, sym, ap, ap₂, ◌∙◌, subst}
 use mathlib.Core.Bool.{true, false, ◌&&◌}
@@ -45,7 +46,6 @@ use Rattle.messages.specs.declared.Body.{Body}
 use Rattle.messages.specs.declared.Body.TheVariants as body
 use Rattle.line.specs.Line.{line_by, line_of}
 use Rattle.line.specs.Read.{read_of}
-use Rattle.line.specs.declared.LineRead.TheVariants as read
 use Rattle.line.proofs.Heads.{headed_parts}
 use Rattle.line.proofs.Steps.{Allows, head_in, allows_allowed}
 use Rattle.line.proofs.Theorems.{allowed_reads}
@@ -55,11 +55,7 @@ use Rattle.board.specs.Board.{is_allowed}
 use Rattle.board.proofs.Allowed.{cap_is}
 use Rattle.board.proofs.Theorems.{Shows, allowed_rows}
 use Rattle.board.specs.declared.rows.Arrival.{Arrival}
-use Rattle.board.specs.declared.rows.ArrivalSlot.{ArrivalSlot}
-use Rattle.board.specs.declared.rows.ArrivalSlot.TheVariants as arrival
 use Rattle.board.specs.declared.rows.Track.{Track}
-use Rattle.board.specs.declared.rows.TrackSlot.{TrackSlot}
-use Rattle.board.specs.declared.rows.TrackSlot.TheVariants as track
 use Rattle.board.specs.declared.rows.Row.{Row}
 use Rattle.history.specs.Events.{Event, dz, az, tz, is_event}
 use Rattle.planner.specs.Asked.{asked_by, asked_from, asked_of}
@@ -82,7 +78,7 @@ facility_made = (facility_sound (bytes "KZAA") (record { 0 = value 256 4 (bytes 
 
 -- it reads, where the body is allowed and short, and no FZ
 made_reads : (t : Stamp) (b : Body) → is_word STAMP t.0 ≡ true → is_body New b [] false ≡ true → length (body_text New b [] false) ≤ 1000
-    → is_long_plan New (type_in b) (length (line_of (made t b) [])) ≡ false → read_of (line_of (made t b) []) ≡ read.Read (made t b)
+    → is_long_plan New (type_in b) (length (line_of (made t b) [])) ≡ false → read_of (line_of (made t b) []) ≡ Ok (made t b)
 unfolding line_by
 made_reads t b w e l p =
     let m = made t b in
@@ -148,11 +144,11 @@ key_numbered : (k : ℕ) → is_word KEY k ≡ true → is_pair KEY NUMBER k som
 unfolding is_pair
 key_numbered k e = rw (e, number_some, form_word NUMBER (bytes "101") number_made)
 
-asks_as : (m : Message) (s : List ℕ) → read_of s ≡ read.Read m → line_event s ≡ event_of (asked_by m)
+asks_as : (m : Message) (s : List ℕ) → read_of s ≡ Ok m → line_event s ≡ event_of (asked_by m)
 unfolding line_event asked_of
 asks_as m s e = ap (λ r. event_of (asked_from r)) e
 
-pub az_line : (k : ℕ) (a : Arrival) → is_word KEY k ≡ true → is_arrival (arrival.Entry a) ≡ true → (s : List ℕ) × (line_event s ≡ az k a)
+pub az_line : (k : ℕ) (a : Arrival) → is_word KEY k ≡ true → is_arrival (Some a) ≡ true → (s : List ℕ) × (line_event s ≡ az k a)
 unfolding is_arrival asked_by fits is_of
 az_line k a e h =
     let f = is_word POINT a.departure.0 in
@@ -169,7 +165,7 @@ az_line k a e h =
           (az_short k a i (and_left f t v) (and_right f t v) (and_right (f && t) c u)) refl),
     )
 
-pub tz_line : (k : ℕ) (t : Track) → is_word KEY k ≡ true → is_track (track.Entry t) ≡ true → (s : List ℕ) × (line_event s ≡ tz k t)
+pub tz_line : (k : ℕ) (t : Track) → is_word KEY k ≡ true → is_track (Some t) ≡ true → (s : List ℕ) × (line_event s ≡ tz k t)
 unfolding is_track asked_by fits is_of
 tz_line k t e h =
     let g = is_word GROUND_SPEED t.speed.0 in
@@ -200,53 +196,53 @@ some_arrival = record {
   stamp = record { 0 = packed (bytes "01000000") };
 }
 
-some_allowed : is_arrival (arrival.Entry some_arrival) ≡ true
+some_allowed : is_arrival (Some some_arrival) ≡ true
 unfolding is_arrival is_form is_arrival_text is_clock is_stamp is_of fits run within is_numeral is_digit_to digit_of number_of value code_of all is_alnum is_digit is_letter
 some_allowed = rw (form_word POINT (bytes "AA") refl, form_word ARRIVAL (bytes "0000") refl, form_word STAMP (bytes "01000000") refl)
 
 gave : (s : List ℕ) (e : Event) → line_event s ≡ e → is_event e ≡ true
 gave s e q = subst (λ (e : Event). is_event e ≡ true) q (line_is s)
 
-pub arrival_exactly : (a : Arrival) → (is_arrival (arrival.Entry a) ≡ true) ↔ GivesArrival a
+pub arrival_exactly : (a : Arrival) → (is_arrival (Some a) ≡ true) ↔ GivesArrival a
 arrival_exactly a = (λ e. let (s, q) = az_line (packed (bytes "AA")) a some_key e in ByAz s (packed (bytes "AA")) q, back)
   where
-    back : GivesArrival a → is_arrival (arrival.Entry a) ≡ true
-    back (ByDz s k q) = and_right (is_word KEY k) (is_arrival (arrival.Entry a)) (gave s (dz k a) q)
-    back (ByAz s k q) = and_right (is_word KEY k) (is_arrival (arrival.Entry a)) (gave s (az k a) q)
+    back : GivesArrival a → is_arrival (Some a) ≡ true
+    back (ByDz s k q) = and_right (is_word KEY k) (is_arrival (Some a)) (gave s (dz k a) q)
+    back (ByAz s k q) = and_right (is_word KEY k) (is_arrival (Some a)) (gave s (az k a) q)
 
-pub track_exactly : (t : Track) → (is_track (track.Entry t) ≡ true) ↔ GivesTrack t
+pub track_exactly : (t : Track) → (is_track (Some t) ≡ true) ↔ GivesTrack t
 track_exactly t = (λ e. let (s, q) = tz_line (packed (bytes "AA")) t some_key e in ByTz s (packed (bytes "AA")) q, back)
   where
-    back : GivesTrack t → is_track (track.Entry t) ≡ true
-    back (ByTz s k q) = and_right (is_word KEY k) (is_track (track.Entry t)) (gave s (tz k t) q)
+    back : GivesTrack t → is_track (Some t) ≡ true
+    back (ByTz s k q) = and_right (is_word KEY k) (is_track (Some t)) (gave s (tz k t) q)
 
 pub key_exactly : (k : ℕ) → (is_word KEY k ≡ true) ↔ GivesKey k
 key_exactly k = (λ e. let (s, q) = az_line k some_arrival e some_allowed in OfAz s some_arrival q, back)
   where
     back : GivesKey k → is_word KEY k ≡ true
-    back (OfDz s a q) = and_left (is_word KEY k) (is_arrival (arrival.Entry a)) (gave s (dz k a) q)
-    back (OfAz s a q) = and_left (is_word KEY k) (is_arrival (arrival.Entry a)) (gave s (az k a) q)
-    back (OfTz s t q) = and_left (is_word KEY k) (is_track (track.Entry t)) (gave s (tz k t) q)
+    back (OfDz s a q) = and_left (is_word KEY k) (is_arrival (Some a)) (gave s (dz k a) q)
+    back (OfAz s a q) = and_left (is_word KEY k) (is_arrival (Some a)) (gave s (az k a) q)
+    back (OfTz s t q) = and_left (is_word KEY k) (is_track (Some t)) (gave s (tz k t) q)
 
 -- ---- and so of a row
 
-slot_arrived : (x : ArrivalSlot) → ((a : Arrival) → x ≡ arrival.Entry a → GivesArrival a) → is_arrival x ≡ true
+slot_arrived : (x : Option Arrival) → ((a : Arrival) → x ≡ Some a → GivesArrival a) → is_arrival x ≡ true
 unfolding is_arrival
-slot_arrived arrival.Empty f = refl
-slot_arrived (arrival.Entry a) f = (arrival_exactly a).1 (f a refl)
+slot_arrived None f = refl
+slot_arrived (Some a) f = (arrival_exactly a).1 (f a refl)
 
-slot_tracked : (x : TrackSlot) → ((t : Track) → x ≡ track.Entry t → GivesTrack t) → is_track x ≡ true
+slot_tracked : (x : Option Track) → ((t : Track) → x ≡ Some t → GivesTrack t) → is_track x ≡ true
 unfolding is_track
-slot_tracked track.Empty f = refl
-slot_tracked (track.Entry t) f = (track_exactly t).1 (f t refl)
+slot_tracked None f = refl
+slot_tracked (Some t) f = (track_exactly t).1 (f t refl)
 
-slot_some : (x : ArrivalSlot) (y : TrackSlot) → (x ≡ arrival.Empty → y ≡ track.Empty → ⊥) → has_entry x y ≡ true
+slot_some : (x : Option Arrival) (y : Option Track) → (x ≡ None → y ≡ None → ⊥) → has_entry x y ≡ true
 unfolding has_entry
-slot_some arrival.Empty track.Empty f = absurd (f refl refl)
-slot_some arrival.Empty (track.Entry t) f = refl
-slot_some (arrival.Entry a) y f = refl
+slot_some None None f = absurd (f refl refl)
+slot_some None (Some t) f = refl
+slot_some (Some a) y f = refl
 
-none_some : has_entry arrival.Empty track.Empty ≡ false
+none_some : has_entry None None ≡ false
 unfolding has_entry
 none_some = refl
 

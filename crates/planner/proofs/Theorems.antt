@@ -1,4 +1,5 @@
 -- DEMAND 3 ABOUT THE CALLS: whatever lines and strikes `apply` and `strike` were called with, from an empty board. Assumes nothing.
+use Rattle.std.specs.Prelude.{Err, Ok, Result}
 use mathlib.Core.Logic.{◌↔◌}
 use mathlib.Core.Path.{◌≡◌, refl, sym, ap, ◌∙◌, subst}
 use mathlib.Core.Bool.{Bool, true, false, cond}
@@ -22,13 +23,13 @@ use Rattle.planner.specs.declared.asks.Asked.{Asked}
 use Rattle.planner.specs.declared.asks.Asked.TheVariants as asked
 use Rattle.planner.specs.Apply.{line_event, strike_event, room, apply_of, board_after, strike_of, board_struck, apply_number, strike_number}
 use Rattle.planner.specs.Run.{Applies, Strikes, Run, fresh, applied, struck, AltersOne, OfCalls}
-use Rattle.planner.specs.declared.LineAnswer.{LineAnswer}
-use Rattle.planner.specs.declared.LineAnswer.TheVariants as line
-use Rattle.planner.specs.declared.StrikeAnswer.{StrikeAnswer}
-use Rattle.planner.specs.declared.StrikeAnswer.TheVariants as strike
 use Rattle.planner.proofs.apply.Reads as apply
 use Rattle.planner.proofs.strike.Reads as struck-off
 use Rattle.planner.proofs.Ways.{line_event_lem}
+use Rattle.planner.specs.declared.NotStruck.TheVariants.{NoKey, NotAllowed, NotListed}
+use Rattle.planner.specs.declared.NotTaken.TheVariants.{Full, Line, NotAllowed}
+use Rattle.planner.specs.declared.NotStruck.{NotStruck}
+use Rattle.planner.specs.declared.NotTaken.{NotTaken}
 
 -- ---- the runs are made of the promises in the source
 
@@ -58,11 +59,11 @@ stepped l l' e a v w =
     let b = step_board (rows_of l) e v (board_rows l a) in
     (ap is_allowed w ∙ allowed_words (rows_after (rows_of l) e) b, ap rows_of w ∙ rows_words (rows_after (rows_of l) e) b)
 
-applied_step : (l s : List ℕ) (r : LineAnswer) (l' : List ℕ) → is_allowed l ≡ true → Applies l s r l' → (is_allowed l' ≡ true) × (rows_of l' ≡ rows_after (rows_of l) (line_event s))
+applied_step : (l s : List ℕ) (r : Result (Unit {0}) NotTaken) (l' : List ℕ) → is_allowed l ≡ true → Applies l s r l' → (is_allowed l' ≡ true) × (rows_of l' ≡ rows_after (rows_of l) (line_event s))
 unfolding board_after
 applied_step l s r l' a p = stepped l l' (line_event s) a (line_is s) (p.1 ∙ rw a)
 
-struck_step : (l s : List ℕ) (r : StrikeAnswer) (l' : List ℕ) → is_allowed l ≡ true → Strikes l s r l' → (is_allowed l' ≡ true) × (rows_of l' ≡ rows_after (rows_of l) (strike_event s))
+struck_step : (l s : List ℕ) (r : Result (Unit {0}) NotStruck) (l' : List ℕ) → is_allowed l ≡ true → Strikes l s r l' → (is_allowed l' ≡ true) × (rows_of l' ≡ rows_after (rows_of l) (strike_event s))
 unfolding board_struck
 struck_step l s r l' a p = stepped l l' (strike_event s) a (strike_is s) (p.1 ∙ rw a)
 
@@ -83,17 +84,17 @@ run_rows (struck {l = l} {l' = l'} {r = r} s p c) =
 
 -- ---- what the calls answer is what the history says
 
-heard_line : LineAnswer → Answer
-heard_line line.Taken = Took
-heard_line (line.Line x) = Refused
-heard_line line.NotAllowed = Refused
-heard_line line.Full = NoRoom
+heard_line : Result (Unit {0}) NotTaken → Answer
+heard_line (Ok tt) = Took
+heard_line (Err (Line x)) = Refused
+heard_line (Err NotAllowed) = Refused
+heard_line (Err Full) = NoRoom
 
-heard_strike : StrikeAnswer → Answer
-heard_strike strike.Taken = Took
-heard_strike strike.NoKey = Refused
-heard_strike strike.NotAllowed = Refused
-heard_strike strike.NotListed = NotListed
+heard_strike : Result (Unit {0}) NotStruck → Answer
+heard_strike (Ok tt) = Took
+heard_strike (Err NoKey) = Refused
+heard_strike (Err NotAllowed) = Refused
+heard_strike (Err NotListed) = NotListed
 
 heard_room : (b : Bool) → heard_line (room b) ≡ cond b Took NoRoom
 unfolding heard_line
@@ -133,35 +134,35 @@ listed_took : NotListed ≡ Took → ⊥
 listed_took e = let z : ◌≡◌ {A = ℕ} 0 1 = cc in omega arith
 
 -- the numbers 0 and 12 are of these answers alone
-line_zero : (r : LineAnswer) → (apply_number r ≡ 0) ↔ (heard_line r ≡ Took)
+line_zero : (r : Result (Unit {0}) NotTaken) → (apply_number r ≡ 0) ↔ (heard_line r ≡ Took)
 unfolding heard_line
-line_zero line.Taken = (λ e. refl, λ e. refl)
-line_zero (line.Line x) = (λ e. absurd (omega (arith, (refusal_numbers x).0, e)), λ e. absurd (refused_took e))
-line_zero line.NotAllowed = (λ e. absurd (omega arith), λ e. absurd (refused_took e))
-line_zero line.Full = (λ e. absurd (omega arith), λ e. absurd (room_took e))
+line_zero (Ok tt) = (λ e. refl, λ e. refl)
+line_zero (Err (Line x)) = (λ e. absurd (omega (arith, (refusal_numbers x).0, e)), λ e. absurd (refused_took e))
+line_zero (Err NotAllowed) = (λ e. absurd (omega arith), λ e. absurd (refused_took e))
+line_zero (Err Full) = (λ e. absurd (omega arith), λ e. absurd (room_took e))
 
-line_twelve : (r : LineAnswer) → (apply_number r ≡ 12) ↔ (heard_line r ≡ NoRoom)
+line_twelve : (r : Result (Unit {0}) NotTaken) → (apply_number r ≡ 12) ↔ (heard_line r ≡ NoRoom)
 unfolding heard_line
-line_twelve line.Taken = (λ e. absurd (omega arith), λ e. absurd (room_took (sym e)))
-line_twelve (line.Line x) = (λ e. absurd (omega (arith, (refusal_numbers x).1, e)), λ e. absurd (refused_room e))
-line_twelve line.NotAllowed = (λ e. absurd (omega arith), λ e. absurd (refused_room e))
-line_twelve line.Full = (λ e. refl, λ e. refl)
+line_twelve (Ok tt) = (λ e. absurd (omega arith), λ e. absurd (room_took (sym e)))
+line_twelve (Err (Line x)) = (λ e. absurd (omega (arith, (refusal_numbers x).1, e)), λ e. absurd (refused_room e))
+line_twelve (Err NotAllowed) = (λ e. absurd (omega arith), λ e. absurd (refused_room e))
+line_twelve (Err Full) = (λ e. refl, λ e. refl)
 
-strike_zero : (r : StrikeAnswer) → (strike_number r ≡ 0) ↔ (heard_strike r ≡ Took)
+strike_zero : (r : Result (Unit {0}) NotStruck) → (strike_number r ≡ 0) ↔ (heard_strike r ≡ Took)
 unfolding heard_strike
-strike_zero strike.Taken = (λ e. refl, λ e. refl)
-strike_zero strike.NoKey = (λ e. absurd (omega arith), λ e. absurd (refused_took e))
-strike_zero strike.NotAllowed = (λ e. absurd (omega arith), λ e. absurd (refused_took e))
-strike_zero strike.NotListed = (λ e. absurd (omega arith), λ e. absurd (listed_took e))
+strike_zero (Ok tt) = (λ e. refl, λ e. refl)
+strike_zero (Err NoKey) = (λ e. absurd (omega arith), λ e. absurd (refused_took e))
+strike_zero (Err NotAllowed) = (λ e. absurd (omega arith), λ e. absurd (refused_took e))
+strike_zero (Err NotListed) = (λ e. absurd (omega arith), λ e. absurd (listed_took e))
 
 -- ---- DEMAND 3 OF EVERY BOARD THAT CALLS HAVE LED TO
 
-line_told : (h : History) (l : List ℕ) → Run h l → (s : List ℕ) (r : LineAnswer) (l' : List ℕ) → Applies l s r l' → heard_line r ≡ answer (after h) (line_event s)
+line_told : (h : History) (l : List ℕ) → Run h l → (s : List ℕ) (r : Result (Unit {0}) NotTaken) (l' : List ℕ) → Applies l s r l' → heard_line r ≡ answer (after h) (line_event s)
 line_told h l p s r l' c =
     let q = run_rows p in
     ap heard_line c.0 ∙ line_heard l s q.0 ∙ ap (λ (rs : List Row). answer rs (line_event s)) q.1
 
-strike_told : (h : History) (l : List ℕ) → Run h l → (s : List ℕ) (r : StrikeAnswer) (l' : List ℕ) → Strikes l s r l' → heard_strike r ≡ answer (after h) (strike_event s)
+strike_told : (h : History) (l : List ℕ) → Run h l → (s : List ℕ) (r : Result (Unit {0}) NotStruck) (l' : List ℕ) → Strikes l s r l' → heard_strike r ≡ answer (after h) (strike_event s)
 strike_told h l p s r l' c =
     let q = run_rows p in
     ap heard_strike c.0 ∙ strike_heard l s q.0 ∙ ap (λ (rs : List Row). answer rs (strike_event s)) q.1

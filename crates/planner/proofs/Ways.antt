@@ -1,4 +1,5 @@
 -- What each way through the code of the planner leaves is what its definition says. Assumes nothing.
+use Rattle.std.specs.Prelude.{Err, None, Ok, Option, Result, Some}
 use mathlib.Core.Path.{◌≡◌, refl, sym, ap, ◌∙◌}
 use mathlib.Core.Bool.{Bool, true, false, ◌&&◌}
 use mathlib.Core.List.{List, [], ◌∷◌}
@@ -10,22 +11,14 @@ use Rattle.text.specs.Text.{packed}
 use Rattle.rules.specs.Kind.{KEY, is_form}
 use Rattle.fields.specs.Word.{word_of, is_word}
 use Rattle.fields.specs.Typed.{as_key}
-use Rattle.fields.specs.declared.flight.KeyRead.{KeyRead}
-use Rattle.fields.specs.declared.flight.KeyRead.TheVariants as key
 use Rattle.fields.specs.declared.flight.Key.{Key}
 use Rattle.board.specs.Row.{is_arrival, is_track, has_entry, is_row}
 use Rattle.board.specs.Rows.{all_rows, look_row, written, fits, is_listed}
 use Rattle.board.specs.declared.rows.Row.{Row}
 use Rattle.board.specs.declared.rows.Arrival.{Arrival}
 use Rattle.board.specs.declared.rows.Track.{Track}
-use Rattle.board.specs.declared.rows.ArrivalSlot.{ArrivalSlot}
-use Rattle.board.specs.declared.rows.ArrivalSlot.TheVariants as arrival
-use Rattle.board.specs.declared.rows.TrackSlot.TheVariants as track
 use Rattle.board.specs.Board.{rows_of, words_of, is_allowed, done_of}
 use Rattle.board.specs.Posts.{Wrote, Stricken}
-use Rattle.board.specs.declared.Struck.{Struck}
-use Rattle.board.specs.declared.Struck.TheVariants as gone
-use Rattle.board.specs.declared.Done.{Done}
 use Rattle.board.proofs.Theorems.{board_rows, words_rows}
 use Rattle.history.specs.Events.{is_event}
 use Rattle.history.specs.Steps.{by_az, by_tz, rows_after}
@@ -37,32 +30,34 @@ use Rattle.line.specs.declared.Refusal.{Refusal}
 use Rattle.planner.specs.declared.asks.Asked.{Asked}
 use Rattle.planner.specs.declared.asks.Asked.TheVariants as asked
 use Rattle.planner.specs.Apply.{event_of, line_event, told_of, room, Entered, apply_of, board_after, strike_event, strike_of, board_struck}
-use Rattle.planner.specs.declared.LineAnswer.{LineAnswer}
-use Rattle.planner.specs.declared.LineAnswer.TheVariants as line
-use Rattle.planner.specs.declared.StrikeAnswer.TheVariants as struck
+use Rattle.planner.specs.declared.NotStruck.TheVariants.{NoKey, NotAllowed, NotListed}
+use Rattle.planner.specs.declared.NotTaken.TheVariants.{Line, NotAllowed}
+use Rattle.board.specs.declared.Full.{Full}
+use Rattle.board.specs.declared.NotListed.{NotListed}
+use Rattle.planner.specs.declared.NotTaken.{NotTaken}
 
 -- ---- a row is written that is allowed
 
 all_rows_lem : (l : List ℕ) → is_allowed l ≡ true → all_rows (rows_of l) ≡ true
 all_rows_lem l e = (fair (rows_of l) (board_rows l e)).rows
 
-some_entry : (a : ArrivalSlot) (t : Track) → has_entry a (track.Entry t) ≡ true
+some_entry : (a : Option Arrival) (t : Track) → has_entry a (Some t) ≡ true
 unfolding has_entry
-some_entry arrival.Empty t = refl
-some_entry (arrival.Entry a) t = refl
+some_entry None t = refl
+some_entry (Some a) t = refl
 
 module _ (l : List ℕ) (e : is_allowed l ≡ true) (k : Key) (h : is_word KEY k.0 ≡ true) where
-  pub dz_row : (a : Arrival) → is_arrival (arrival.Entry a) ≡ true → is_row (record { key = k; arrival = arrival.Entry a; track = track.Empty }) ≡ true
+  pub dz_row : (a : Arrival) → is_arrival (Some a) ≡ true → is_row (record { key = k; arrival = Some a; track = None }) ≡ true
   unfolding is_row is_track has_entry
   dz_row a p = rw (h, p)
 
-  pub az_row : (a : Arrival) → is_arrival (arrival.Entry a) ≡ true → (o : Row) → o ≡ look_row k.0 (rows_of l)
-      → is_row (record { key = k; arrival = arrival.Entry a; track = o.track }) ≡ true
+  pub az_row : (a : Arrival) → is_arrival (Some a) ≡ true → (o : Row) → o ≡ look_row k.0 (rows_of l)
+      → is_row (record { key = k; arrival = Some a; track = o.track }) ≡ true
   unfolding is_row has_entry
   az_row a p o q = rw (h, p, q, looked_track k.0 (rows_of l) (all_rows_lem l e))
 
-  pub tz_row : (t : Track) → is_track (track.Entry t) ≡ true → (o : Row) → o ≡ look_row k.0 (rows_of l)
-      → is_row (record { key = k; arrival = o.arrival; track = track.Entry t }) ≡ true
+  pub tz_row : (t : Track) → is_track (Some t) ≡ true → (o : Row) → o ≡ look_row k.0 (rows_of l)
+      → is_row (record { key = k; arrival = o.arrival; track = Some t }) ≡ true
   unfolding is_row
   tz_row t p o q = rw (h, p, q, looked_arrival k.0 (rows_of l) (all_rows_lem l e), some_entry (look_row k.0 (rows_of l)).arrival t)
 
@@ -72,12 +67,12 @@ told_room : (b : Bool) → told_of (done_of b) ≡ room b
 told_room true = refl
 told_room false = refl
 
-module _ (l : List ℕ) (k : Key) (d : Done) (r : LineAnswer) (told : r ≡ told_of d) (l' : List ℕ) where
-  pub dz_entered : (a : Arrival) → Wrote l (record { key = k; arrival = arrival.Entry a; track = track.Empty }) d l' → Entered l (asked.Dz k a) r l'
+module _ (l : List ℕ) (k : Key) (d : Result (Unit {0}) Full) (r : Result (Unit {0}) NotTaken) (told : r ≡ told_of d) (l' : List ℕ) where
+  pub dz_entered : (a : Arrival) → Wrote l (record { key = k; arrival = Some a; track = None }) d l' → Entered l (asked.Dz k a) r l'
   unfolding rows_after
   dz_entered a w = record { answered = told ∙ ap told_of w.done ∙ told_room (fits (rows_of l) k.0); words = w.words; still = w.still }
 
-  pub az_entered : (a : Arrival) (o : Row) → o ≡ look_row k.0 (rows_of l) → Wrote l (record { key = k; arrival = arrival.Entry a; track = o.track }) d l' → Entered l (asked.Az k a) r l'
+  pub az_entered : (a : Arrival) (o : Row) → o ≡ look_row k.0 (rows_of l) → Wrote l (record { key = k; arrival = Some a; track = o.track }) d l' → Entered l (asked.Az k a) r l'
   unfolding rows_after
   az_entered a o q w =
       record {
@@ -86,7 +81,7 @@ module _ (l : List ℕ) (k : Key) (d : Done) (r : LineAnswer) (told : r ≡ told
         still = w.still;
       }
 
-  pub tz_entered : (t : Track) (o : Row) → o ≡ look_row k.0 (rows_of l) → Wrote l (record { key = k; arrival = o.arrival; track = track.Entry t }) d l' → Entered l (asked.Tz k t) r l'
+  pub tz_entered : (t : Track) (o : Row) → o ≡ look_row k.0 (rows_of l) → Wrote l (record { key = k; arrival = o.arrival; track = Some t }) d l' → Entered l (asked.Tz k t) r l'
   unfolding rows_after
   tz_entered t o q w =
       record {
@@ -98,28 +93,28 @@ module _ (l : List ℕ) (k : Key) (d : Done) (r : LineAnswer) (told : r ≡ told
 -- ---- `enter`
 
 -- what is entered by one that is asked is entered by what is asked
-pub entered_as : (l : List ℕ) (a b : Asked) (r : LineAnswer) (l' : List ℕ) → a ≡ b → Entered l b r l' → Entered l a r l'
+pub entered_as : (l : List ℕ) (a b : Asked) (r : Result (Unit {0}) NotTaken) (l' : List ℕ) → a ≡ b → Entered l b r l' → Entered l a r l'
 entered_as l a b r l' e w = rw e w
 
 module _ (l : List ℕ) (e : is_allowed l ≡ true) where
-  pub other_entered : Entered l asked.Other line.Taken l
+  pub other_entered : Entered l asked.Other (Ok tt) l
   unfolding rows_after
   other_entered = record { answered = refl; words = sym (words_rows l e); still = e }
 
-  pub refused_entered : (x : Refusal) → Entered l (asked.Refused x) (line.Line x) l
+  pub refused_entered : (x : Refusal) → Entered l (asked.Refused x) (Err (Line x)) l
   unfolding rows_after
   refused_entered x = record { answered = refl; words = sym (words_rows l e); still = e }
 
 -- what an asked entry needs, from the event that it is
 module _ (a : Asked) (h : is_event (event_of a) ≡ true) where
-  pub dz_needs : (k : Key) (x : Arrival) → a ≡ asked.Dz k x → (is_word KEY k.0 ≡ true) × (is_arrival (arrival.Entry x) ≡ true)
-  dz_needs k x e = let p : (is_word KEY k.0 && is_arrival (arrival.Entry x)) ≡ true = rw e at h in (and_left _ _ p, and_right (is_word KEY k.0) _ p)
+  pub dz_needs : (k : Key) (x : Arrival) → a ≡ asked.Dz k x → (is_word KEY k.0 ≡ true) × (is_arrival (Some x) ≡ true)
+  dz_needs k x e = let p : (is_word KEY k.0 && is_arrival (Some x)) ≡ true = rw e at h in (and_left _ _ p, and_right (is_word KEY k.0) _ p)
 
-  pub az_needs : (k : Key) (x : Arrival) → a ≡ asked.Az k x → (is_word KEY k.0 ≡ true) × (is_arrival (arrival.Entry x) ≡ true)
-  az_needs k x e = let p : (is_word KEY k.0 && is_arrival (arrival.Entry x)) ≡ true = rw e at h in (and_left _ _ p, and_right (is_word KEY k.0) _ p)
+  pub az_needs : (k : Key) (x : Arrival) → a ≡ asked.Az k x → (is_word KEY k.0 ≡ true) × (is_arrival (Some x) ≡ true)
+  az_needs k x e = let p : (is_word KEY k.0 && is_arrival (Some x)) ≡ true = rw e at h in (and_left _ _ p, and_right (is_word KEY k.0) _ p)
 
-  pub tz_needs : (k : Key) (x : Track) → a ≡ asked.Tz k x → (is_word KEY k.0 ≡ true) × (is_track (track.Entry x) ≡ true)
-  tz_needs k x e = let p : (is_word KEY k.0 && is_track (track.Entry x)) ≡ true = rw e at h in (and_left _ _ p, and_right (is_word KEY k.0) _ p)
+  pub tz_needs : (k : Key) (x : Track) → a ≡ asked.Tz k x → (is_word KEY k.0 ≡ true) × (is_track (Some x) ≡ true)
+  tz_needs k x e = let p : (is_word KEY k.0 && is_track (Some x)) ≡ true = rw e at h in (and_left _ _ p, and_right (is_word KEY k.0) _ p)
 
 -- a line asks only what may stand on the board
 pub line_event_lem : (s : List ℕ) (a : Asked) → a ≡ asked_of s → is_event (event_of a) ≡ true
@@ -140,13 +135,13 @@ stays l s x e = go (is_allowed l) refl
     go true q = rw (q, e) (sym (words_rows l q))
     go false q = rw q
 
-pub apply_refused : (l s : List ℕ) (a : Asked) (x : Refusal) → a ≡ asked_of s → a ≡ asked.Refused x → (line.Line x ≡ apply_of l s) × (l ≡ board_after l s)
+pub apply_refused : (l s : List ℕ) (a : Asked) (x : Refusal) → a ≡ asked_of s → a ≡ asked.Refused x → (Err (Line x) ≡ apply_of l s) × (l ≡ board_after l s)
 unfolding apply_of
 apply_refused l s a x is e = let q : asked_of s ≡ asked.Refused x = sym is ∙ e in (rw q, stays l s x q)
 
 -- the code tells only that it is no refusal
 pub apply_damaged : (l s : List ℕ) (a : Asked) → a ≡ asked_of s → OneOf (0 ∷ 1 ∷ 2 ∷ 3 ∷ []) (tag_of the_type a) → is_allowed l ≡ false
-    → (line.NotAllowed ≡ apply_of l s) × (l ≡ board_after l s)
+    → ((Err NotAllowed) ≡ apply_of l s) × (l ≡ board_after l s)
 unfolding apply_of board_after
 apply_damaged l s (asked.Dz k x) is h q = rw (← is, q) (refl, refl)
 apply_damaged l s (asked.Az k x) is h q = rw (← is, q) (refl, refl)
@@ -155,7 +150,7 @@ apply_damaged l s asked.Other is h q = rw (← is, q) (refl, refl)
 apply_damaged l s (asked.Refused x) is h q = absurd (miss (0 ∷ 1 ∷ 2 ∷ 3 ∷ []) 4 tt h)
 
 pub apply_entered : (l s : List ℕ) (a : Asked) → a ≡ asked_of s → OneOf (0 ∷ 1 ∷ 2 ∷ 3 ∷ []) (tag_of the_type a) → is_allowed l ≡ true
-    → (r : LineAnswer) (l' : List ℕ) → Entered l a r l' → (r ≡ apply_of l s) × (l' ≡ board_after l s)
+    → (r : Result (Unit {0}) NotTaken) (l' : List ℕ) → Entered l a r l' → (r ≡ apply_of l s) × (l' ≡ board_after l s)
 unfolding apply_of board_after line_event
 apply_entered l s (asked.Dz k x) is h q r l' w = rw (← is, q) (w.answered, w.words)
 apply_entered l s (asked.Az k x) is h q r l' w = rw (← is, q) (w.answered, w.words)
@@ -166,52 +161,52 @@ apply_entered l s (asked.Refused x) is h q r l' w = absurd (miss (0 ∷ 1 ∷ 2 
 -- ---- `strike`
 
 -- a key is read exactly if it has a key's form
-no_key : (s : List ℕ) → as_key (word_of KEY s) ≡ key.Nothing → is_form KEY s ≡ false
+no_key : (s : List ℕ) → as_key (word_of KEY s) ≡ None → is_form KEY s ≡ false
 unfolding word_of
 no_key s e = go (is_form KEY s) refl
   where
     go : (b : Bool) → is_form KEY s ≡ b → is_form KEY s ≡ false
-    go true q = let z : key.Read (record { 0 = packed s }) ≡ key.Nothing = rw q at e in cc
+    go true q = let z : Some (record { 0 = packed s }) ≡ None = rw q at e in cc
     go false q = q
 
-key_word : (s : List ℕ) (k : Key) → as_key (word_of KEY s) ≡ key.Read k → (is_form KEY s ≡ true) × (k.0 ≡ packed s)
+key_word : (s : List ℕ) (k : Key) → as_key (word_of KEY s) ≡ Some k → (is_form KEY s ≡ true) × (k.0 ≡ packed s)
 unfolding word_of
 key_word s k e = go (is_form KEY s) refl
   where
     go : (b : Bool) → is_form KEY s ≡ b → (is_form KEY s ≡ true) × (k.0 ≡ packed s)
-    go true q = let z : key.Read (record { 0 = packed s }) ≡ key.Read k = rw q at e in (q, (cc))
-    go false q = let z : key.Nothing ≡ key.Read k = rw q at e in ((cc), (cc))
+    go true q = let z : Some (record { 0 = packed s }) ≡ Some k = rw q at e in (q, (cc))
+    go false q = let z : None ≡ Some k = rw q at e in ((cc), (cc))
 
-module _ (l s : List ℕ) (r : KeyRead) (is : r ≡ as_key (word_of KEY s)) where
-  pub strike_no_key : r ≡ key.Nothing → (struck.NoKey ≡ strike_of l s) × (l ≡ board_struck l s)
+module _ (l s : List ℕ) (r : Option Key) (is : r ≡ as_key (word_of KEY s)) where
+  pub strike_no_key : r ≡ None → ((Err NoKey) ≡ strike_of l s) × (l ≡ board_struck l s)
   unfolding strike_of board_struck strike_event rows_after
   strike_no_key e = go (is_allowed l) refl
     where
       none : is_form KEY s ≡ false
       none = no_key s (sym is ∙ e)
 
-      go : (b : Bool) → is_allowed l ≡ b → (struck.NoKey ≡ strike_of l s) × (l ≡ board_struck l s)
+      go : (b : Bool) → is_allowed l ≡ b → ((Err NoKey) ≡ strike_of l s) × (l ≡ board_struck l s)
       go true q = rw (none, q) (refl, sym (words_rows l q))
       go false q = rw (none, q) (refl, refl)
 
-  module _ (k : Key) (e : r ≡ key.Read k) where
-    pub strike_damaged : is_allowed l ≡ false → (struck.NotAllowed ≡ strike_of l s) × (l ≡ board_struck l s)
+  module _ (k : Key) (e : r ≡ Some k) where
+    pub strike_damaged : is_allowed l ≡ false → ((Err NotAllowed) ≡ strike_of l s) × (l ≡ board_struck l s)
     unfolding strike_of board_struck
     strike_damaged q = rw ((key_word s k (sym is ∙ e)).0, q) (refl, refl)
 
-    module _ (q : is_allowed l ≡ true) (d : Struck) (l' : List ℕ) (w : Stricken l k.0 d l') where
-      pub strike_gone : d ≡ gone.Gone → (struck.Taken ≡ strike_of l s) × (l' ≡ board_struck l s)
+    module _ (q : is_allowed l ≡ true) (d : Result (Unit {0}) NotListed) (l' : List ℕ) (w : Stricken l k.0 d l') where
+      pub strike_gone : d ≡ Ok tt → ((Ok tt) ≡ strike_of l s) × (l' ≡ board_struck l s)
       unfolding strike_of board_struck strike_event rows_after
       strike_gone g = go (is_listed (rows_of l) k.0) refl
         where
-          go : (b : Bool) → is_listed (rows_of l) k.0 ≡ b → (struck.Taken ≡ strike_of l s) × (l' ≡ board_struck l s)
+          go : (b : Bool) → is_listed (rows_of l) k.0 ≡ b → ((Ok tt) ≡ strike_of l s) × (l' ≡ board_struck l s)
           go true p = let f = key_word s k (sym is ∙ e) in rw (f.0, q, ← f.1, p) (refl, w.words)
-          go false p = let z : gone.Gone ≡ gone.Missing = sym g ∙ w.done ∙ rw p in ((cc), (cc))
+          go false p = let z : (Ok tt) ≡ Err (record {}) = sym g ∙ w.done ∙ rw p in ((cc), (cc))
 
-      pub strike_missing : d ≡ gone.Missing → (struck.NotListed ≡ strike_of l s) × (l' ≡ board_struck l s)
+      pub strike_missing : d ≡ Err (record {}) → ((Err NotListed) ≡ strike_of l s) × (l' ≡ board_struck l s)
       unfolding strike_of board_struck strike_event rows_after
       strike_missing g = go (is_listed (rows_of l) k.0) refl
         where
-          go : (b : Bool) → is_listed (rows_of l) k.0 ≡ b → (struck.NotListed ≡ strike_of l s) × (l' ≡ board_struck l s)
-          go true p = let z : gone.Missing ≡ gone.Gone = sym g ∙ w.done ∙ rw p in ((cc), (cc))
+          go : (b : Bool) → is_listed (rows_of l) k.0 ≡ b → ((Err NotListed) ≡ strike_of l s) × (l' ≡ board_struck l s)
+          go true p = let z : (Err (record {})) ≡ Ok tt = sym g ∙ w.done ∙ rw p in ((cc), (cc))
           go false p = let f = key_word s k (sym is ∙ e) in rw (f.0, q, ← f.1, p) (refl, w.words)

@@ -1,23 +1,22 @@
 -- A line and a strike on a board (document 01, "Board", "Answer numbers"): the line's own answer, "then 13, then 12"; a strike "9 for a key
 -- not of that form, place 1, then 13, 14". Assumes nothing.
-use Rattle.std.specs.Prelude.{◌≡◌, Bool, true, false, cond, List, ℕ}
+use Rattle.std.specs.Prelude.{◌≡◌, Bool, true, false, cond, List, ℕ, Err, Ok, Result}
 use Rattle.text.specs.Text.{packed}
 use Rattle.rules.specs.Kind.{KEY, is_form}
 use Rattle.board.specs.Rows.{fits, is_listed}
 use Rattle.board.specs.declared.rows.Row.{Row}
 use Rattle.board.specs.Board.{rows_of, words_of, is_allowed}
-use Rattle.board.specs.declared.Done.{Done}
-use Rattle.board.specs.declared.Done.TheVariants as done
 use Rattle.history.specs.Events.{Event, dz, az, tz, other, unread, strike, misnamed}
 use Rattle.history.specs.Steps.{rows_after}
 use Rattle.line.specs.Read.{refusal_number, refusal_place}
 use Rattle.planner.specs.Asked.{asked_of}
 use Rattle.planner.specs.declared.asks.Asked.{Asked}
 use Rattle.planner.specs.declared.asks.Asked.TheVariants as asked
-use Rattle.planner.specs.declared.LineAnswer.{LineAnswer}
-use Rattle.planner.specs.declared.LineAnswer.TheVariants as line
-use Rattle.planner.specs.declared.StrikeAnswer.{StrikeAnswer}
-use Rattle.planner.specs.declared.StrikeAnswer.TheVariants as struck
+use Rattle.planner.specs.declared.NotStruck.TheVariants.{NoKey, NotAllowed, NotListed}
+use Rattle.planner.specs.declared.NotTaken.TheVariants.{Full, Line, NotAllowed}
+use Rattle.board.specs.declared.Full.{Full}
+use Rattle.planner.specs.declared.NotStruck.{NotStruck}
+use Rattle.planner.specs.declared.NotTaken.{NotTaken}
 
 -- ---- a line and a strike as the board sees them
 
@@ -44,36 +43,36 @@ KeyIsAsked (asked.Refused x) k = ⊥
 
 -- ---- a line on an allowed board
 
-abbrev pub told_of : Done → LineAnswer
-told_of done.Written = line.Taken
-told_of done.Full = line.Full
+abbrev pub told_of : Result (Unit {0}) Full → Result (Unit {0}) NotTaken
+told_of (Ok tt) = Ok tt
+told_of (Err (record {})) = Err Full
 
-abbrev pub room : Bool → LineAnswer
-room true = line.Taken
-room false = line.Full
+abbrev pub room : Bool → Result (Unit {0}) NotTaken
+room true = Ok tt
+room false = Err Full
 
-abbrev pub answer_to : List Row → Asked → LineAnswer
+abbrev pub answer_to : List Row → Asked → Result (Unit {0}) NotTaken
 answer_to rs (asked.Dz k a) = room (fits rs k.0)
 answer_to rs (asked.Az k a) = room (fits rs k.0)
 answer_to rs (asked.Tz k t) = room (fits rs k.0)
-answer_to rs asked.Other = line.Taken
-answer_to rs (asked.Refused x) = line.Line x
+answer_to rs asked.Other = Ok tt
+answer_to rs (asked.Refused x) = Err (Line x)
 
-pub record Entered (l : List ℕ) (a : Asked) (r : LineAnswer) (l' : List ℕ) : Type 0 where
+pub record Entered (l : List ℕ) (a : Asked) (r : Result (Unit {0}) NotTaken) (l' : List ℕ) : Type 0 where
   pub answered : r ≡ answer_to (rows_of l) a
   pub words : l' ≡ words_of (rows_after (rows_of l) (event_of a))
   pub still : is_allowed l' ≡ true
 
 -- ---- a line on any words
 
-abbrev pub apply_by : List ℕ → Asked → LineAnswer
-apply_by l (asked.Refused x) = line.Line x
-apply_by l (asked.Dz k a) = cond (is_allowed l) (answer_to (rows_of l) (asked.Dz k a)) line.NotAllowed
-apply_by l (asked.Az k a) = cond (is_allowed l) (answer_to (rows_of l) (asked.Az k a)) line.NotAllowed
-apply_by l (asked.Tz k t) = cond (is_allowed l) (answer_to (rows_of l) (asked.Tz k t)) line.NotAllowed
-apply_by l asked.Other = cond (is_allowed l) line.Taken line.NotAllowed
+abbrev pub apply_by : List ℕ → Asked → Result (Unit {0}) NotTaken
+apply_by l (asked.Refused x) = Err (Line x)
+apply_by l (asked.Dz k a) = cond (is_allowed l) (answer_to (rows_of l) (asked.Dz k a)) (Err NotAllowed)
+apply_by l (asked.Az k a) = cond (is_allowed l) (answer_to (rows_of l) (asked.Az k a)) (Err NotAllowed)
+apply_by l (asked.Tz k t) = cond (is_allowed l) (answer_to (rows_of l) (asked.Tz k t)) (Err NotAllowed)
+apply_by l asked.Other = cond (is_allowed l) (Ok tt) (Err NotAllowed)
 
-unfoldable pub apply_of : List ℕ → List ℕ → LineAnswer
+unfoldable pub apply_of : List ℕ → List ℕ → Result (Unit {0}) NotTaken
 apply_of l s = apply_by l (asked_of s)
 
 unfoldable pub board_after : List ℕ → List ℕ → List ℕ
@@ -81,35 +80,35 @@ board_after l s = cond (is_allowed l) (words_of (rows_after (rows_of l) (line_ev
 
 -- ---- a strike on any words
 
-unfoldable pub strike_of : List ℕ → List ℕ → StrikeAnswer
+unfoldable pub strike_of : List ℕ → List ℕ → Result (Unit {0}) NotStruck
 strike_of l s =
-    cond (is_form KEY s) (cond (is_allowed l) (cond (is_listed (rows_of l) (packed s)) struck.Taken struck.NotListed) struck.NotAllowed) struck.NoKey
+    cond (is_form KEY s) (cond (is_allowed l) (cond (is_listed (rows_of l) (packed s)) (Ok tt) (Err NotListed)) (Err NotAllowed)) (Err NoKey)
 
 unfoldable pub board_struck : List ℕ → List ℕ → List ℕ
 board_struck l s = cond (is_allowed l) (words_of (rows_after (rows_of l) (strike_event s))) l
 
 -- ---- the answer numbers, and the place; 0 where there is none
 
-abbrev pub apply_number : LineAnswer → ℕ
-apply_number line.Taken = 0
-apply_number (line.Line x) = refusal_number x
-apply_number line.NotAllowed = 13
-apply_number line.Full = 12
+abbrev pub apply_number : Result (Unit {0}) NotTaken → ℕ
+apply_number (Ok tt) = 0
+apply_number (Err (Line x)) = refusal_number x
+apply_number (Err NotAllowed) = 13
+apply_number (Err Full) = 12
 
-abbrev pub apply_place : LineAnswer → ℕ
-apply_place line.Taken = 0
-apply_place (line.Line x) = refusal_place x
-apply_place line.NotAllowed = 0
-apply_place line.Full = 0
+abbrev pub apply_place : Result (Unit {0}) NotTaken → ℕ
+apply_place (Ok tt) = 0
+apply_place (Err (Line x)) = refusal_place x
+apply_place (Err NotAllowed) = 0
+apply_place (Err Full) = 0
 
-abbrev pub strike_number : StrikeAnswer → ℕ
-strike_number struck.Taken = 0
-strike_number struck.NoKey = 9
-strike_number struck.NotAllowed = 13
-strike_number struck.NotListed = 14
+abbrev pub strike_number : Result (Unit {0}) NotStruck → ℕ
+strike_number (Ok tt) = 0
+strike_number (Err NoKey) = 9
+strike_number (Err NotAllowed) = 13
+strike_number (Err NotListed) = 14
 
-abbrev pub strike_place : StrikeAnswer → ℕ
-strike_place struck.Taken = 0
-strike_place struck.NoKey = 1
-strike_place struck.NotAllowed = 0
-strike_place struck.NotListed = 0
+abbrev pub strike_place : Result (Unit {0}) NotStruck → ℕ
+strike_place (Ok tt) = 0
+strike_place (Err NoKey) = 1
+strike_place (Err NotAllowed) = 0
+strike_place (Err NotListed) = 0

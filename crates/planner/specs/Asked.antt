@@ -1,6 +1,6 @@
 -- What a line asks of the board (document 01, "Board"): "DZ writes the arrival entry and empties the track. AZ writes
 -- the arrival entry. TZ writes the track. .. Other types change nothing". Assumes nothing.
-use Rattle.std.specs.Prelude.{ℕ, List}
+use Rattle.std.specs.Prelude.{ℕ, List, Err, Ok, Result}
 use Rattle.fields.specs.declared.frame.Stamp.{Stamp}
 use Rattle.messages.specs.declared.Message.{Message}
 use Rattle.messages.specs.declared.Az.{Az as Message-Az}
@@ -9,10 +9,9 @@ use Rattle.messages.specs.declared.Tz.{Tz as Message-Tz}
 use Rattle.messages.specs.declared.Body.{Body}
 use Rattle.messages.specs.declared.Body.TheVariants as body
 use Rattle.line.specs.Read.{read_of, refusal_number, refusal_place}
-use Rattle.line.specs.declared.LineRead.{LineRead}
-use Rattle.line.specs.declared.LineRead.TheVariants as read
 use Rattle.planner.specs.declared.asks.Asked.{Asked}
 use Rattle.planner.specs.declared.asks.Asked.TheVariants.{Dz, Az, Tz, Other, Refused}
+use Rattle.line.specs.declared.Refusal.{Refusal}
 
 -- of a line with the stamp s; "the flight's key is the part before the slash"
 abbrev pub dz_asks : Message-Dz → Stamp → Asked
@@ -40,9 +39,9 @@ unfoldable pub asked_by : Message → Asked
 asked_by m = asked_in m.stamp m.body
 
 -- the line's own answer, where it is not read
-abbrev pub asked_from : LineRead → Asked
-asked_from (read.Read m) = asked_by m
-asked_from (read.Refused x) = Refused x
+abbrev pub asked_from : Result Message Refusal → Asked
+asked_from (Ok m) = asked_by m
+asked_from (Err x) = Refused x
 
 -- document 01's number and place of what is asked: the line's own, 0 for a line that is read
 abbrev pub asked_number : Asked → ℕ

@@ -1,12 +1,10 @@
 -- "Entries such as a line could give", "keys of ident form without slash or computer number" (document 01, "Board"): said of lines. Assumes
 -- nothing.
-use Rattle.std.specs.Prelude.{ℕ, ◌≤◌, ◌≡◌, true, List, [], ◌∷◌, length}
+use Rattle.std.specs.Prelude.{ℕ, ◌≤◌, ◌≡◌, true, List, [], ◌∷◌, length, None, Some}
 use Rattle.board.specs.Rows.{rises_by_bytes}
 use Rattle.board.specs.Board.{words_of}
 use Rattle.board.specs.declared.rows.Arrival.{Arrival}
-use Rattle.board.specs.declared.rows.ArrivalSlot.TheVariants as arrival
 use Rattle.board.specs.declared.rows.Track.{Track}
-use Rattle.board.specs.declared.rows.TrackSlot.TheVariants as track
 use Rattle.board.specs.declared.rows.Row.{Row}
 use Rattle.history.specs.Events.{dz, az, tz}
 use Rattle.planner.specs.Apply.{line_event}
@@ -29,9 +27,9 @@ pub data GivesKey (k : ℕ) : Type 0 where
 -- a row of which lines give the key and each entry that it has; "no row with both none"
 pub record GivesRow (r : Row) : Type 0 where
   pub key : GivesKey r.key.0
-  pub arrived : (a : Arrival) → r.arrival ≡ arrival.Entry a → GivesArrival a
-  pub tracked : (t : Track) → r.track ≡ track.Entry t → GivesTrack t
-  pub some : r.arrival ≡ arrival.Empty → r.track ≡ track.Empty → ⊥
+  pub arrived : (a : Arrival) → r.arrival ≡ Some a → GivesArrival a
+  pub tracked : (t : Track) → r.track ≡ Some t → GivesTrack t
+  pub some : r.arrival ≡ None → r.track ≡ None → ⊥
 
 abbrev pub EachGiven : List Row → Type 0
 EachGiven [] = Unit

@@ -6,7 +6,7 @@ use board::rows::{Arrival, Track};
 use fields::flight::Key;
 use fields::frame::Stamp;
 use fields::track::ArrivalClock;
-use line::{LineRead, Refusal};
+use line::Refusal;
 use messages::{Az, Body, Dz, Message, Tz};
 
 #[derive(Clone, Copy)]
@@ -90,7 +90,7 @@ pub(crate) fn read(line: &[u8]) -> Asked
 {
     let read = line::read(line);
     match read {
-        LineRead::Read(m) => ask(m),
-        LineRead::Refused(refusal) => Asked::Refused(refusal),
+        Ok(m) => ask(m),
+        Err(refusal) => Asked::Refused(refusal),
     }
 }

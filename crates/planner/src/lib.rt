@@ -4,12 +4,10 @@
 
 pub mod asks;
 
-ghost use Rattle.std.specs.Prelude.{◌≡◌, true};
+ghost use Rattle.std.specs.Prelude.{◌≡◌, true, Some};
 ghost use Rattle.rules.specs.Kind.{KEY};
 ghost use Rattle.fields.specs.Word.{is_word};
 ghost use Rattle.board.specs.Row.{is_arrival, is_track};
-ghost use Rattle.board.specs.declared.rows.ArrivalSlot.TheVariants as arrival;
-ghost use Rattle.board.specs.declared.rows.TrackSlot.TheVariants as track;
 ghost use Rattle.board.specs.Board.{is_allowed};
 ghost use Rattle.history.specs.Events.{is_event};
 ghost use Rattle.planner.specs.declared.asks.Asked.TheVariants as asked;
@@ -19,66 +17,64 @@ ghost use Rattle.planner.specs.Cases.{ApplyCase, StrikeCase};
 
 use crate::asks::Asked;
 use board::listing::{look, write};
-use board::rows::{Arrival, ArrivalSlot, Row, Track, TrackSlot};
-use board::{Done, Struck, is_allowed, listing};
-use fields::flight::{Key, KeyRead};
+use board::rows::{Arrival, Row, Track};
+use board::{Full, NotListed, is_allowed, listing};
+use fields::flight::Key;
 use line::Refusal;
 
 // What `apply` answers: 0; the line's own answer; 13; 12.
-#[derive(Clone, Copy)]
-pub enum LineAnswer {
-    Taken,
+#[derive(Clone, Copy, PartialEq, Eq)]
+pub enum NotTaken {
     Line(Refusal),
     NotAllowed,
     Full,
 }
 
 // What `strike` answers: 0; 9 with place 1; 13; 14.
-#[derive(Clone, Copy)]
-pub enum StrikeAnswer {
-    Taken,
+#[derive(Clone, Copy, PartialEq, Eq)]
+pub enum NotStruck {
     NoKey,
     NotAllowed,
     NotListed,
 }
 
-fn told(done: Done) -> LineAnswer
+fn told(done: Result<(), Full>) -> Result<(), NotTaken>
     ensures { result ≡ told_of done }
 {
     match done {
-        Done::Written => LineAnswer::Taken,
-        Done::Full => LineAnswer::Full,
+        Ok(()) => Ok(()),
+        Err(Full) => Err(NotTaken::Full),
     }
 }
 
 // A DZ writes the arrival entry and empties the track.
-fn put_dz(board: &mut [u64], key: Key, entry: Arrival) -> LineAnswer
+fn put_dz(board: &mut [u64], key: Key, entry: Arrival) -> Result<(), NotTaken>
     requires board_value { is_allowed board.old ≡ true }
     requires key_value { is_word KEY key.0 ≡ true }
-    requires value { is_arrival (arrival.Entry entry) ≡ true }
+    requires value { is_arrival (Some entry) ≡ true }
     ensures { Entered board.old (asked.Dz key entry) result board.new }
 {
     let row = Row {
         key,
-        arrival: ArrivalSlot::Entry(entry),
-        track: TrackSlot::Empty,
+        arrival: Some(entry),
+        track: None,
     };
     let done = write(board, row);
     told(done)
 }
 
 // An AZ writes the arrival entry.
-fn put_az(board: &mut [u64], key: Key, entry: Arrival) -> LineAnswer
+fn put_az(board: &mut [u64], key: Key, entry: Arrival) -> Result<(), NotTaken>
     requires board_value { is_allowed board.old ≡ true }
     requires key_value { is_word KEY key.0 ≡ true }
-    requires value { is_arrival (arrival.Entry entry) ≡ true }
+    requires value { is_arrival (Some entry) ≡ true }
     ensures { Entered board.old (asked.Az key entry) result board.new }
 {
     let old = look(&board[..], key);
     let track = old.track;
     let row = Row {
         key,
-        arrival: ArrivalSlot::Entry(entry),
+        arrival: Some(entry),
         track,
     };
     let done = write(board, row);
@@ -86,10 +82,10 @@ fn put_az(board: &mut [u64], key: Key, entry: Arrival) -> LineAnswer
 }
 
 // A TZ writes the track.
-fn put_tz(board: &mut [u64], key: Key, entry: Track) -> LineAnswer
+fn put_tz(board: &mut [u64], key: Key, entry: Track) -> Result<(), NotTaken>
     requires board_value { is_allowed board.old ≡ true }
     requires key_value { is_word KEY key.0 ≡ true }
-    requires value { is_track (track.Entry entry) ≡ true }
+    requires value { is_track (Some entry) ≡ true }
     ensures { Entered board.old (asked.Tz key entry) result board.new }
 {
     let old = look(&board[..], key);
@@ -97,14 +93,14 @@ fn put_tz(board: &mut [u64], key: Key, entry: Track) -> LineAnswer
     let row = Row {
         key,
         arrival,
-        track: TrackSlot::Entry(entry),
+        track: Some(entry),
     };
     let done = write(board, row);
     told(done)
 }
 
 // What a line asks, done on an allowed board.
-fn enter(board: &mut [u64], asked: Asked) -> LineAnswer
+fn enter(board: &mut [u64], asked: Asked) -> Result<(), NotTaken>
     requires board_value { is_allowed board.old ≡ true }
     requires asked_value { is_event (event_of asked) ≡ true }
     ensures { Entered board.old asked result board.new }
@@ -113,13 +109,13 @@ fn enter(board: &mut [u64], asked: Asked) -> LineAnswer
         Asked::Dz(key, entry) => put_dz(board, key, entry),
         Asked::Az(key, entry) => put_az(board, key, entry),
         Asked::Tz(key, entry) => put_tz(board, key, entry),
-        Asked::Other => LineAnswer::Taken,
-        Asked::Refused(refusal) => LineAnswer::Line(refusal),
+        Asked::Other => Ok(()),
+        Asked::Refused(refusal) => Err(NotTaken::Line(refusal)),
     }
 }
 
 // A line on a board that is known to be allowed, so that a run of lines tests it once.
-pub fn apply_allowed(board: &mut [u64], line: &[u8]) -> LineAnswer
+pub fn apply_allowed(board: &mut [u64], line: &[u8]) -> Result<(), NotTaken>
     requires { is_allowed board.old ≡ true }
     ensures { Entered board.old (asked_of line.now) result board.new }
 {
@@ -128,36 +124,36 @@ pub fn apply_allowed(board: &mut [u64], line: &[u8]) -> LineAnswer
 }
 
 // The line's own answer first, then 13, then 12.
-pub fn apply(board: &mut [u64], line: &[u8]) -> LineAnswer
+pub fn apply(board: &mut [u64], line: &[u8]) -> Result<(), NotTaken>
     ensures value { result ≡ apply_of board.old line.now }
     ensures board_after { board.new ≡ board_after board.old line.now }
     ensures apply_case { ApplyCase board.old line.now (apply_number result) (apply_place result) board.new }
 {
     let asked = asks::read(line);
     if let Asked::Refused(refusal) = asked {
-        return LineAnswer::Line(refusal);
+        return Err(NotTaken::Line(refusal));
     }
     if !is_allowed(&board[..]) {
-        return LineAnswer::NotAllowed;
+        return Err(NotTaken::NotAllowed);
     }
     enter(board, asked)
 }
 
 // 9 with place 1 for a key not of that form, then 13, then 14.
-pub fn strike(board: &mut [u64], key: &[u8]) -> StrikeAnswer
+pub fn strike(board: &mut [u64], key: &[u8]) -> Result<(), NotStruck>
     ensures value { result ≡ strike_of board.old key.now }
     ensures board_after { board.new ≡ board_struck board.old key.now }
     ensures strike_case { StrikeCase board.old key.now (strike_number result) (strike_place result) board.new }
 {
-    let KeyRead::Read(key) = Key::read(key) else {
-        return StrikeAnswer::NoKey;
+    let Some(key) = Key::read(key) else {
+        return Err(NotStruck::NoKey);
     };
     if !is_allowed(&board[..]) {
-        return StrikeAnswer::NotAllowed;
+        return Err(NotStruck::NotAllowed);
     }
     let struck = listing::strike(board, key);
     match struck {
-        Struck::Gone => StrikeAnswer::Taken,
-        Struck::Missing => StrikeAnswer::NotListed,
+        Ok(()) => Ok(()),
+        Err(NotListed) => Err(NotStruck::NotListed),
     }
 }

@@ -1,18 +1,19 @@
 -- THE CASES of a call of `print` and of `print_counts`: its number and the buffer that it leaves are those of the document's case. Assumes nothing.
+use Rattle.std.specs.Prelude.{Err, Ok, Result}
 use mathlib.Core.Path.{◌≡◌, refl}
 use mathlib.Core.Bool.{Bool, true, false}
 use mathlib.Core.List.{List}
 use Prim.Native.Nat.{ℕ, ◌+◌}
 use lib.ListN.{length}
 use Rattle.text.specs.Text.{has_room, spliced, written_next, written_bytes}
-use Rattle.text.specs.declared.Written.{Written}
 use Rattle.text.proofs.Logic.{true_false}
 use Rattle.fields.specs.Answer.{write_answer}
 use Rattle.board.specs.Board.{is_allowed}
 use Rattle.printer.specs.Print.{text_in, print_of, out_after, print_number, PrintCase, BoardNotAllowed, NoRoomLeft, Fits, CountsCase, CountsNoRoom, CountsFit}
 use Rattle.printer.specs.Text.{counts_text}
-use Rattle.printer.specs.declared.Printed.{Printed}
-use Rattle.printer.specs.declared.Printed.TheVariants.{Next, NoRoom, NotAllowed}
+use Rattle.printer.specs.declared.NotPrinted.TheVariants.{NoRoom, NotAllowed}
+use Rattle.printer.specs.declared.NotPrinted.{NotPrinted}
+use Rattle.text.specs.declared.NotWritten.{NotWritten}
 
 print_own : (board out : List ℕ) (at : ℕ) → PrintCase board out at (print_number (print_of board out at)) (out_after board out at)
 unfolding print_of out_after
@@ -24,22 +25,22 @@ print_own board out at = go (is_allowed board) refl (has_room (text_in board) ou
     go true q true p = rw (q, p) (Fits q p)
 
 -- a call that gives this is in its case
-pub in_print_case : (board out : List ℕ) (at : ℕ) {r : Printed} {o : List ℕ} → (r ≡ print_of board out at) × (o ≡ out_after board out at)
+pub in_print_case : (board out : List ℕ) (at : ℕ) {r : (Result ℕ NotPrinted)} {o : List ℕ} → (r ≡ print_of board out at) × (o ≡ out_after board out at)
     → (r ≡ print_of board out at) × ((o ≡ out_after board out at) × PrintCase board out at (print_number r) o)
 in_print_case board out at e = (e.0, (e.1, rw (e.0, e.1) (print_own board out at)))
 
 -- ---- the ways of `print`
 
 module _ (board out : List ℕ) (at : ℕ) where
-  pub not_allowed : is_allowed board ≡ false → (NotAllowed ≡ print_of board out at) × (out ≡ out_after board out at)
+  pub not_allowed : is_allowed board ≡ false → ((Err NotAllowed) ≡ print_of board out at) × (out ≡ out_after board out at)
   unfolding print_of out_after
   not_allowed q = (rw q, rw q)
 
-  pub no_room : is_allowed board ≡ true → has_room (text_in board) out at ≡ false → (NoRoom ≡ print_of board out at) × (out ≡ out_after board out at)
+  pub no_room : is_allowed board ≡ true → has_room (text_in board) out at ≡ false → ((Err NoRoom) ≡ print_of board out at) × (out ≡ out_after board out at)
   unfolding print_of out_after
   no_room q p = (rw (q, p), rw (q, p))
 
-  pub printed : is_allowed board ≡ true → has_room (text_in board) out at ≡ true → (Next (at + length (text_in board)) ≡ print_of board out at) × (spliced out at (text_in board) ≡ out_after board out at)
+  pub printed : is_allowed board ≡ true → has_room (text_in board) out at ≡ true → (Ok (at + length (text_in board)) ≡ print_of board out at) × (spliced out at (text_in board) ≡ out_after board out at)
   unfolding print_of out_after
   printed q p = (rw (q, p), rw (q, p))
 
@@ -67,7 +68,7 @@ counts_own lines taken out at = go (has_room (counts_text lines taken) out at) r
     go false q = rw q (CountsNoRoom q)
     go true q = rw q (CountsFit q)
 
-pub in_counts_case : (lines taken : ℕ) (out : List ℕ) (at : ℕ) {r : Written} {o : List ℕ}
+pub in_counts_case : (lines taken : ℕ) (out : List ℕ) (at : ℕ) {r : (Result ℕ NotWritten)} {o : List ℕ}
     → (r ≡ written_next true (counts_text lines taken) out at) × (o ≡ written_bytes true (counts_text lines taken) out at)
     → (r ≡ written_next true (counts_text lines taken) out at) × ((o ≡ written_bytes true (counts_text lines taken) out at) × CountsCase lines taken out at (write_answer r) o)
 in_counts_case lines taken out at e = (e.0, (e.1, rw (e.0, e.1) (counts_own lines taken out at)))

@@ -1,5 +1,6 @@
 -- What the promises of `printer` require on inputs written out, and so wrong answers that they do not allow: of each, `Post` is the function's
 -- `ensures` as it stands in the source, r any result that meets it, s the state at exit. Assumes nothing.
+use Rattle.std.specs.Prelude.{Err}
 use Prim.Native.Nat.{ℕ, ◌+◌}
 use native.Mathlib.Omega.{arith}
 use mathlib.Core.Bool.{false}
@@ -14,7 +15,6 @@ use Rattle.text.specs.Decimal.{width_by, decimal}
 use Rattle.text.specs.Number.{padded}
 use Rattle.text.specs.Place.{value, places, digits}
 use Rattle.text.specs.Text.{packed, text_of, spliced, has_room, written_next, written_bytes}
-use Rattle.text.specs.declared.Written.TheVariants as written
 use Rattle.text.proofs.Logic.{true_false}
 use Rattle.fields.specs.Answer.{write_answer}
 use Rattle.board.specs.Board.{words_of, is_allowed}
@@ -29,6 +29,7 @@ use Rattle.printer.specs.Parts.{part_text}
 use Rattle.printer.proofs.print_counts.Reads as print-counts
 use Rattle.printer.proofs.put_count.Reads as put_count
 use Rattle.printer.proofs.slips.put_part.Reads as put-part
+use Rattle.text.specs.declared.NotWritten.TheVariants.{NoRoom}
 
 -- ---- `print`, of the board of one row
 
@@ -69,7 +70,7 @@ counts_exchanged κs a r s p e f g h = p.1.0 ∙ rw (e, f, g, h)
 
 -- the line feed needs room too: without it nothing is written
 pub no_room_for_the_line_feed : (κs : _) (a : _) (r : _) (s : _) → print-counts.Post κs a r s → a.0 ≡ 5 → a.1.0 ≡ 4 → a.1.1.0.now ≡ replicate 15 0 → a.1.1.1.0 ≡ 0
-    → (r ≡ written.NoRoom) × (s.1.1.0.now ≡ replicate 15 0)
+    → (r ≡ Err NoRoom) × (s.1.1.0.now ≡ replicate 15 0)
 unfolding written_next written_bytes has_room counts_text line_text byte_of decimal padded places width_by
 no_room_for_the_line_feed κs a r s p e f g h = (p.0 ∙ rw (e, f, g, h), p.1.0 ∙ rw (e, f, g, h))
 

@@ -1,4 +1,5 @@
 -- The line of words, part by part: what is left from a part on, written after what stands before it. Assumes nothing.
+use Rattle.std.specs.Prelude.{Err, None, Ok, Some}
 use mathlib.Core.Path.{◌≡◌, refl, sym, ap, ◌∙◌}
 use mathlib.Core.Bool.{Bool, true, false}
 use mathlib.Core.List.{List, [], ◌∷◌, ◌++◌, append_assoc}
@@ -9,8 +10,6 @@ use lib.ListN.{length, get_or, set, drop, length-append, drop_of_length-le}
 use borrow.Author.Tests.{eq-eqb, ne_eqb}
 use Rattle.text.specs.Class.{all}
 use Rattle.text.specs.Text.{text_of, is_packed, spliced, size_of, written_next, written_bytes}
-use Rattle.text.specs.declared.Sized.TheVariants.{Bytes, NotOne}
-use Rattle.text.specs.declared.Written.TheVariants.{Next, NoRoom, NoText}
 use Rattle.text.proofs.Logic.{and_left, and_right, true_false}
 use Rattle.text.proofs.Laws.{text_short, size_known, size_none, has_room_lem, next_known, no_room_known, no_text_known}
 use Rattle.text.proofs.Splice.{spliced_next, set-spliced, next_store}
@@ -18,6 +17,7 @@ use Rattle.shapes.proofs.Laws.{next_byte}
 use Rattle.rules.specs.Frame.{line_feed}
 use Rattle.printer.specs.RowText.{space, hyphen, line_text}
 use Rattle.printer.specs.Parts.{part_text, slip_text, SlipWords}
+use Rattle.text.specs.declared.NotWritten.TheVariants.{NoRoom, NoText}
 
 -- ---- one part
 
@@ -40,10 +40,10 @@ part_short w e = go (eqb w 0) refl
 -- ---- the ways of `part_size`
 
 module _ (w : ℕ) (e : is_packed w ≡ true) (some : w ≡ 0 → ⊥) where
-  pub size_some : {n : ℕ} → size_of w ≡ Bytes n → n ≡ length (part_text w)
+  pub size_some : {n : ℕ} → size_of w ≡ Some n → n ≡ length (part_text w)
   size_some told = (size_known w told).1 ∙ ap length (sym (part_some w some))
 
-  pub size_never : {X : Type 0} → size_of w ≡ NotOne → X
+  pub size_never : {X : Type 0} → size_of w ≡ None → X
   size_never told = true_false e (size_none w told)
 
 -- ---- the ways of `put_text`
@@ -59,16 +59,16 @@ module _ (w : ℕ) (out : List ℕ) (at : ℕ) (e : is_packed w ≡ true) (room 
     fits : at + length (text_of w) ≤ length out
     fits = omega (arith, ap length (part_some w some))
 
-    pub put_some : {n : ℕ} {o : List ℕ} → written_next (is_packed w) (text_of w) out at ≡ Next n → o ≡ written_bytes (is_packed w) (text_of w) out at
+    pub put_some : {n : ℕ} {o : List ℕ} → written_next (is_packed w) (text_of w) out at ≡ Ok n → o ≡ written_bytes (is_packed w) (text_of w) out at
         → (n ≡ at + length (part_text w)) × (o ≡ spliced out at (part_text w))
     put_some told is =
         let t = part_some w some in
         (rw t (next_known (text_of w) out at told).1, rw t (is ∙ sym (has_room_lem (text_of w) out at e fits).1))
 
-    pub put_roomy : {X : Type 0} → written_next (is_packed w) (text_of w) out at ≡ NoRoom → X
+    pub put_roomy : {X : Type 0} → written_next (is_packed w) (text_of w) out at ≡ Err NoRoom → X
     put_roomy told = absurd (omega (arith, fits, (no_room_known (text_of w) out at told).1))
 
-    pub put_text : {X : Type 0} → written_next (is_packed w) (text_of w) out at ≡ NoText → X
+    pub put_text : {X : Type 0} → written_next (is_packed w) (text_of w) out at ≡ Err NoText → X
     put_text told = true_false e (no_text_known (text_of w) out at told)
 
 -- the byte after a part

@@ -1,4 +1,5 @@
 -- THE LAW of `slips`: the line of an allowed row is the line of its words in their order, each the number of a text. Assumes nothing.
+use Rattle.std.specs.Prelude.{None, Option, Some}
 use mathlib.Core.Path.{◌≡◌, refl, sym, ap, ◌∙◌}
 use mathlib.Core.Bool.{true}
 use mathlib.Core.List.{List, [], ◌∷◌, ◌++◌, map, map-append}
@@ -14,10 +15,6 @@ use Rattle.rules.specs.Kind.{STAMP, KEY, POINT, ARRIVAL, GROUND_SPEED, TRACK_LEV
 use Rattle.fields.specs.Word.{is_word}
 use Rattle.fields.proofs.WordLaws.{word_packed}
 use Rattle.board.specs.Row.{is_arrival, is_track, has_entry, is_row, arrival_words, track_words, row_words, row_of, is_row_words}
-use Rattle.board.specs.declared.rows.ArrivalSlot.{ArrivalSlot}
-use Rattle.board.specs.declared.rows.ArrivalSlot.TheVariants as arrival
-use Rattle.board.specs.declared.rows.TrackSlot.{TrackSlot}
-use Rattle.board.specs.declared.rows.TrackSlot.TheVariants as track
 use Rattle.board.specs.declared.rows.Arrival.{Arrival}
 use Rattle.board.specs.declared.rows.Track.{Track}
 use Rattle.board.specs.declared.rows.Row.{Row}
@@ -38,13 +35,13 @@ pub record Tracks (t : Track) : Type 0 where
   pub level : is_word TRACK_LEVEL t.level.0 ≡ true
   pub position : is_word POSITION t.position.0 ≡ true
 
-pub arrives : (a : Arrival) → is_arrival (arrival.Entry a) ≡ true → Arrives a
+pub arrives : (a : Arrival) → is_arrival (Some a) ≡ true → Arrives a
 unfolding is_arrival
 arrives a e =
     let f = and_four (is_word POINT a.departure.0) (is_word POINT a.destination.0) (is_word ARRIVAL a.clock.0) (is_word STAMP a.stamp.0) e in
     record { departure = f.0; destination = f.1; clock = f.2 }
 
-pub tracks : (t : Track) → is_track (track.Entry t) ≡ true → Tracks t
+pub tracks : (t : Track) → is_track (Some t) ≡ true → Tracks t
 unfolding is_track
 tracks t e =
     let f = and_four (is_word GROUND_SPEED t.speed.0) (is_word TRACK_LEVEL t.level.0) (is_word POSITION t.position.0) (is_word STAMP t.stamp.0) e in
@@ -63,13 +60,13 @@ allowed r e =
 
 -- ---- the words of a row in the order of its line
 
-arrival_order : ArrivalSlot → List ℕ
-arrival_order arrival.Empty = 0 ∷ 0 ∷ 0 ∷ []
-arrival_order (arrival.Entry a) = a.departure.0 ∷ a.destination.0 ∷ a.clock.0 ∷ []
+arrival_order : Option Arrival → List ℕ
+arrival_order None = 0 ∷ 0 ∷ 0 ∷ []
+arrival_order (Some a) = a.departure.0 ∷ a.destination.0 ∷ a.clock.0 ∷ []
 
-track_order : TrackSlot → List ℕ
-track_order track.Empty = 0 ∷ 0 ∷ 0 ∷ 0 ∷ []
-track_order (track.Entry t) = t.stamp.0 ∷ t.speed.0 ∷ t.level.0 ∷ t.position.0 ∷ []
+track_order : Option Track → List ℕ
+track_order None = 0 ∷ 0 ∷ 0 ∷ 0 ∷ []
+track_order (Some t) = t.stamp.0 ∷ t.speed.0 ∷ t.level.0 ∷ t.position.0 ∷ []
 
 order : Row → List ℕ
 order r = r.key.0 ∷ (arrival_order r.arrival ++ track_order r.track)
@@ -78,11 +75,11 @@ row_order : (r : Row) → parts_of (row_words r) ≡ order r
 unfolding parts_of row_words arrival_words track_words order arrival_order track_order
 row_order r = go r.arrival r.track
   where
-    go : (a : ArrivalSlot) (t : TrackSlot) → parts_of (r.key.0 ∷ (arrival_words a ++ (track_words t ++ 0 ∷ 0 ∷ []))) ≡ r.key.0 ∷ (arrival_order a ++ track_order t)
-    go arrival.Empty track.Empty = refl
-    go arrival.Empty (track.Entry t) = refl
-    go (arrival.Entry a) track.Empty = refl
-    go (arrival.Entry a) (track.Entry t) = refl
+    go : (a : Option Arrival) (t : Option Track) → parts_of (r.key.0 ∷ (arrival_words a ++ (track_words t ++ 0 ∷ 0 ∷ []))) ≡ r.key.0 ∷ (arrival_order a ++ track_order t)
+    go None None = refl
+    go None (Some t) = refl
+    go (Some a) None = refl
+    go (Some a) (Some t) = refl
 
 parts_take : (w : List ℕ) → parts_of (take 11 w) ≡ parts_of w
 unfolding parts_of
@@ -112,17 +109,17 @@ zero_packed : is_packed 0 ≡ true
 unfolding is_packed tight
 zero_packed = refl
 
-arrival_parts_lem : (a : ArrivalSlot) → is_arrival a ≡ true → map part_text (arrival_order a) ≡ arrival_parts a
+arrival_parts_lem : (a : Option Arrival) → is_arrival a ≡ true → map part_text (arrival_order a) ≡ arrival_parts a
 unfolding arrival_order
-arrival_parts_lem arrival.Empty e = rw zero_part
-arrival_parts_lem (arrival.Entry a) e =
+arrival_parts_lem None e = rw zero_part
+arrival_parts_lem (Some a) e =
     let p = arrives a e in
     rw (word_part POINT a.departure.0 p.departure, word_part POINT a.destination.0 p.destination, word_part ARRIVAL a.clock.0 p.clock)
 
-track_parts_lem : (t : TrackSlot) → is_track t ≡ true → map part_text (track_order t) ≡ track_parts t
+track_parts_lem : (t : Option Track) → is_track t ≡ true → map part_text (track_order t) ≡ track_parts t
 unfolding track_order
-track_parts_lem track.Empty e = rw zero_part
-track_parts_lem (track.Entry t) e =
+track_parts_lem None e = rw zero_part
+track_parts_lem (Some t) e =
     let p = tracks t e in
     rw (
       word_part STAMP t.stamp.0 p.stamp,
@@ -131,17 +128,17 @@ track_parts_lem (track.Entry t) e =
       word_part POSITION t.position.0 p.position,
     )
 
-arrival_packed : (a : ArrivalSlot) (ws : List ℕ) → is_arrival a ≡ true → all is_packed ws ≡ true → all is_packed (arrival_order a ++ ws) ≡ true
+arrival_packed : (a : Option Arrival) (ws : List ℕ) → is_arrival a ≡ true → all is_packed ws ≡ true → all is_packed (arrival_order a ++ ws) ≡ true
 unfolding arrival_order all
-arrival_packed arrival.Empty ws e h = rw (zero_packed, h)
-arrival_packed (arrival.Entry a) ws e h =
+arrival_packed None ws e h = rw (zero_packed, h)
+arrival_packed (Some a) ws e h =
     let p = arrives a e in
     rw (word_packed POINT a.departure.0 p.departure, word_packed POINT a.destination.0 p.destination, word_packed ARRIVAL a.clock.0 p.clock, h)
 
-track_packed : (t : TrackSlot) → is_track t ≡ true → all is_packed (track_order t) ≡ true
+track_packed : (t : Option Track) → is_track t ≡ true → all is_packed (track_order t) ≡ true
 unfolding track_order all
-track_packed track.Empty e = rw zero_packed
-track_packed (track.Entry t) e =
+track_packed None e = rw zero_packed
+track_packed (Some t) e =
     let p = tracks t e in
     rw (
       word_packed STAMP t.stamp.0 p.stamp,

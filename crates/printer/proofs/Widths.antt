@@ -1,4 +1,5 @@
 -- How long the line of an allowed row can be: at most 71 bytes, the line feed among them. Assumes nothing.
+use Rattle.std.specs.Prelude.{None, Option, Some}
 use mathlib.Core.Path.{◌≡◌}
 use mathlib.Core.Bool.{true}
 use mathlib.Core.List.{List, [], ◌∷◌, ◌++◌}
@@ -12,13 +13,11 @@ use Rattle.fields.specs.Word.{is_word}
 use Rattle.fields.proofs.WordLaws.{word_form}
 use Rattle.board.specs.Row.{is_row, is_track}
 use Rattle.board.specs.Row as rows
-use Rattle.board.specs.declared.rows.ArrivalSlot.{ArrivalSlot}
-use Rattle.board.specs.declared.rows.ArrivalSlot.TheVariants as arrival
-use Rattle.board.specs.declared.rows.TrackSlot.{TrackSlot}
-use Rattle.board.specs.declared.rows.TrackSlot.TheVariants as track
 use Rattle.board.specs.declared.rows.Row.{Row}
 use Rattle.printer.specs.RowText.{line_text, arrival_parts, track_parts, row_text}
 use Rattle.printer.proofs.RowLines.{allowed, arrives, tracks}
+use Rattle.board.specs.declared.rows.Arrival.{Arrival}
+use Rattle.board.specs.declared.rows.Track.{Track}
 
 -- the bytes of parts, with one more for each
 widths : List (List ℕ) → ℕ
@@ -34,20 +33,20 @@ line_width p (q ∷ ps) = rw length-append (omega (arith, line_width q ps))
 word_width : (k n t : ℕ) → ((s : List ℕ) → is_form k s ≡ true → length s ≤ n) → is_word k t ≡ true → length (text_of t) ≤ n
 word_width k n t f e = f (text_of t) (word_form k t e)
 
-arrival_widths : (a : ArrivalSlot) (ps : List (List ℕ)) → rows.is_arrival a ≡ true → widths (arrival_parts a ++ ps) ≤ 32 + widths ps
+arrival_widths : (a : Option Arrival) (ps : List (List ℕ)) → rows.is_arrival a ≡ true → widths (arrival_parts a ++ ps) ≤ 32 + widths ps
 unfolding widths
-arrival_widths arrival.Empty ps e = omega arith
-arrival_widths (arrival.Entry a) ps e =
+arrival_widths None ps e = omega arith
+arrival_widths (Some a) ps e =
     let p = arrives a e in
     omega (arith, point_word a.departure.0 p.departure, point_word a.destination.0 p.destination, word_width ARRIVAL 5 a.clock.0 arrival_width p.clock)
   where
     point_word : (t : ℕ) → is_word POINT t ≡ true → length (text_of t) ≤ 12
     point_word t h = word_width POINT 12 t point_width h
 
-track_widths : (t : TrackSlot) → is_track t ≡ true → widths (track_parts t) ≤ 31
+track_widths : (t : Option Track) → is_track t ≡ true → widths (track_parts t) ≤ 31
 unfolding widths
-track_widths track.Empty e = omega arith
-track_widths (track.Entry t) e =
+track_widths None e = omega arith
+track_widths (Some t) e =
     let p = tracks t e in
     omega (
       arith,

@@ -1,11 +1,9 @@
 -- The example of document 01, "The printer": the rows of its input, and "the whole output". Assumes nothing.
-use Rattle.std.specs.Prelude.{ℕ, List, [], ◌∷◌, ◌++◌}
+use Rattle.std.specs.Prelude.{ℕ, List, [], ◌∷◌, ◌++◌, None, Some}
 use Prim.Native.String.{String}
 use Rattle.text.specs.Bytes.{bytes}
 use Rattle.text.specs.Text.{packed}
 use Rattle.board.specs.declared.rows.Row.{Row}
-use Rattle.board.specs.declared.rows.ArrivalSlot.TheVariants as arrival
-use Rattle.board.specs.declared.rows.TrackSlot.TheVariants as track
 
 abbrev pub word : String → ℕ
 word s = packed (bytes s)
@@ -15,23 +13,23 @@ abbrev pub example_rows : List Row
 example_rows =
     record {
       key = record { 0 = word "N5AB" };
-      arrival = arrival.Entry (record {
+      arrival = Some (record {
         departure = record { 0 = word "GHI" };
         destination = record { 0 = word "JKL" };
         clock = record { 0 = word "A0810" };
         stamp = record { 0 = word "06081800" };
       });
-      track = track.Empty;
+      track = None;
     }
     ∷ record {
       key = record { 0 = word "QQX12" };
-      arrival = arrival.Entry (record {
+      arrival = Some (record {
         departure = record { 0 = word "ABC" };
         destination = record { 0 = word "DEF" };
         clock = record { 0 = word "0930" };
         stamp = record { 0 = word "06081600" };
       });
-      track = track.Entry (record {
+      track = Some (record {
         speed = record { 0 = word "315" };
         level = record { 0 = word "250C" };
         position = record { 0 = word "3020N/08430W" };

@@ -15,12 +15,11 @@ ghost use Rattle.printer.specs.Asks.{counted, RowsAsk, BoardAsks};
 
 use board::is_allowed;
 use text::writing::{has_room, put_bytes};
-use text::{Written, decimals};
+use text::{NotWritten, decimals};
 
 // What `print` answers: 0 with the place after the text; 15; 13.
-#[derive(Clone, Copy)]
-pub enum Printed {
-    Next(usize),
+#[derive(Clone, Copy, PartialEq, Eq)]
+pub enum NotPrinted {
     NoRoom,
     NotAllowed,
 }
@@ -83,20 +82,20 @@ fn put_board(board: &[u64], out: &mut [u8], at: usize)
 
 // Writes the board from place `at`: 13 for a board that is not allowed, then 15 where its text does not fit; every other byte
 // stays, and where it refuses it writes nothing.
-pub fn print(board: &[u64], out: &mut [u8], at: usize) -> Printed
+pub fn print(board: &[u64], out: &mut [u8], at: usize) -> Result<usize, NotPrinted>
     ensures value { result ≡ print_of board.now out.old at }
     ensures out_after { out.new ≡ out_after board.now out.old at }
     ensures print_case { PrintCase board.now out.old at (print_number result) out.new }
 {
     if !is_allowed(board) {
-        return Printed::NotAllowed;
+        return Err(NotPrinted::NotAllowed);
     }
     let n = board_size(board);
     if !has_room(n, out.len(), at) {
-        return Printed::NoRoom;
+        return Err(NotPrinted::NoRoom);
     }
     put_board(board, out, at);
-    Printed::Next(at + n)
+    Ok(at + n)
 }
 
 fn put_counts(lines: u64, taken: u64, out: &mut [u8], at: usize)
@@ -108,15 +107,15 @@ fn put_counts(lines: u64, taken: u64, out: &mut [u8], at: usize)
 }
 
 // Writes the line of how many lines were read, and how many of them taken, from place `at`: 15 where it does not fit, and then it writes nothing.
-pub fn print_counts(lines: u32, taken: u32, out: &mut [u8], at: usize) -> Written
+pub fn print_counts(lines: u32, taken: u32, out: &mut [u8], at: usize) -> Result<usize, NotWritten>
     ensures value { result ≡ written_next true (counts_text lines taken) out.old at }
     ensures out_after { out.new ≡ written_bytes true (counts_text lines taken) out.old at }
     ensures counts_case { CountsCase lines taken out.old at (write_answer result) out.new }
 {
     let n = 14 + decimals::size(lines as u64) + decimals::size(taken as u64);
     if !has_room(n, out.len(), at) {
-        return Written::NoRoom;
+        return Err(NotWritten::NoRoom);
     }
     put_counts(lines as u64, taken as u64, out, at);
-    Written::Next(at + n)
+    Ok(at + n)
 }

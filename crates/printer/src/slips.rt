@@ -5,7 +5,7 @@ ghost use Rattle.board.specs.Row.{row_of, is_row_words};
 ghost use Rattle.printer.specs.RowText.{row_text};
 ghost use Rattle.printer.specs.Parts.{part_text, parts_of, slip_text, SlipWords};
 
-use text::{Sized, Written, writing};
+use text::{NotWritten, writing};
 
 // The words of the row that stands from p on, in the order of its line.
 fn parts(board: &[u64], p: usize) -> [u64; 8]
@@ -34,8 +34,8 @@ fn part_size(word: u64) -> usize
     }
     let found = writing::size(word);
     match found {
-        Sized::Bytes(n) => n,
-        Sized::NotOne => 0,
+        Some(n) => n,
+        None => 0,
     }
 }
 
@@ -51,9 +51,8 @@ fn put_text(word: u64, out: &mut [u8], at: usize) -> usize
     }
     let written = writing::put(word, out, at);
     match written {
-        Written::Next(n) => n,
-        Written::NoRoom => at,
-        Written::NoText => at,
+        Ok(n) => n,
+        Err(_) => at,
     }
 }
 

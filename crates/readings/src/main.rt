@@ -4,14 +4,14 @@
 #![tactic(auto)]
 
 use check::same;
-use line::{LineRead, OldRead, free, read, read_old};
+use line::{free, read, read_old};
 use messages::values::values_in;
 use messages::{Body, Message, OldMessage, marks_in, type_in};
 use rules::{LONGEST_LINE, Rule};
 use std::rt::Env;
 use table::kinds::{AMENDMENT, Value};
 use table::{field_count, kinds_of};
-use text::{Written, writing};
+use text::writing;
 use writer::{write, write_old};
 
 // The descriptors that every program has.
@@ -45,7 +45,7 @@ fn say_part(before: u8, part: u64) {
         return;
     }
     let written = writing::put(part, &mut room, 1);
-    let Written::Next(n) = written else {
+    let Ok(n) = written else {
         return;
     };
     say(&room[..n]);
@@ -86,7 +86,7 @@ fn writes_same(m: Message, line: &[u8]) -> bool {
     let rest = free(Rule::New, line);
     let mut room = [0u8; LONGEST_LINE];
     let written = write(m, rest, &mut room, 0);
-    let Written::Next(n) = written else {
+    let Ok(n) = written else {
         return false;
     };
     same(&room[..n], line)
@@ -96,7 +96,7 @@ fn writes_old_same(m: OldMessage, line: &[u8]) -> bool {
     let rest = free(Rule::Old, line);
     let mut room = [0u8; LONGEST_LINE];
     let written = write_old(m, rest, &mut room, 0);
-    let Written::Next(n) = written else {
+    let Ok(n) = written else {
         return false;
     };
     same(&room[..n], line)
@@ -126,22 +126,22 @@ fn show(rule: Rule, body: Body, as_it_was: bool) {
 fn show_new(line: &[u8]) {
     let read = read(line);
     match read {
-        LineRead::Read(m) => {
+        Ok(m) => {
             let body = m.body;
             show(Rule::New, body, writes_same(m, line));
         }
-        LineRead::Refused(refusal) => refuse(refusal.number() as u64, refusal.place()),
+        Err(refusal) => refuse(refusal.number() as u64, refusal.place()),
     }
 }
 
 fn show_old(line: &[u8]) {
     let read = read_old(line);
     match read {
-        OldRead::Read(m) => {
+        Ok(m) => {
             let body = m.body;
             show(Rule::Old, body, writes_old_same(m, line));
         }
-        OldRead::Refused(refusal) => refuse(refusal.number() as u64, refusal.place()),
+        Err(refusal) => refuse(refusal.number() as u64, refusal.place()),
     }
 }
 

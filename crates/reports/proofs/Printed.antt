@@ -1,5 +1,6 @@
 -- THE PRINTED CASE of document 01, from the bytes of the feed to the bytes of the output: the report of the five lines is the whole output, and whatever the
 -- parts in which they are read, this is what is printed. Assumes nothing.
+use Rattle.std.specs.Prelude.{Ok, Result}
 use Prim.Native.Nat.{ℕ, ◌+◌, ◌≤◌}
 use mathlib.Core.List.{List, [], ◌∷◌, map}
 use mathlib.Core.Path.{◌≡◌, refl, sym, ap, ◌∙◌}
@@ -10,8 +11,6 @@ use Rattle.text.specs.Class.{is_digit, is_letter}
 use Rattle.text.specs.Code.{code_of}
 use Rattle.text.specs.Place.{value}
 use Rattle.text.specs.Text.{packed, spliced}
-use Rattle.text.specs.declared.Written.{Written}
-use Rattle.text.specs.declared.Written.TheVariants as written
 use Rattle.shapes.specs.Cut.{up_to, has}
 use Rattle.shapes.specs.Pieces.{none_has}
 use Rattle.board.specs.Rows.{CAP, fits, written as placed, look_row}
@@ -26,8 +25,6 @@ use Rattle.cutter.proofs.Feeds.{feed_only}
 use Rattle.printer.specs.Example.{example_rows, example_board}
 use Rattle.printer.specs.Print.{text_in}
 use Rattle.printer.specs.Text.{board_text}
-use Rattle.printer.specs.declared.Printed.{Printed}
-use Rattle.printer.specs.declared.Printed.TheVariants as printed
 use Rattle.printer.proofs.Example.{example_board_lem, example_counts_lem}
 use Rattle.feeding.specs.Tally.{event_of, rows_by, taken_by, line_feeds}
 use Rattle.feeding.specs.Fed.{read_in}
@@ -38,6 +35,8 @@ use Rattle.reports.specs.Run.{Read, Prints, Counts}
 use Rattle.reports.proofs.Limit.{report_of_limit}
 use Rattle.reports.proofs.PrintedLines.{asks_later}
 use Rattle.reports.proofs.Theorems.{read_stands, report_printed}
+use Rattle.printer.specs.declared.NotPrinted.{NotPrinted}
+use Rattle.text.specs.declared.NotWritten.{NotWritten}
 
 -- the lines of the input
 abbrev texts : List (List ℕ)
@@ -80,10 +79,10 @@ last_line = let q = asks_number (bytes line5) _ asks_later.2 in (sym q.0, sym q.
 -- byte stays
 pub printed_in_parts : {board held : List ℕ} {begun : Begun} {lines taken : ℕ} → Read most_lines example_input board held begun lines taken
     → (out : List ℕ) (at : ℕ) → at + length example_output ≤ length out
-    → (r : Printed) (out₁ : List ℕ) → Prints board out at r out₁
-    → (r ≡ printed.Next (at + length example_board))
-    × ((w : Written) (out₂ : List ℕ) → Counts lines taken out₁ (at + length example_board) w out₂
-    → (w ≡ written.Next (at + length example_output)) × (out₂ ≡ spliced out at example_output))
+    → (r : Result ℕ NotPrinted) (out₁ : List ℕ) → Prints board out at r out₁
+    → (r ≡ Ok (at + length example_board))
+    × ((w : Result ℕ NotWritten) (out₂ : List ℕ) → Counts lines taken out₁ (at + length example_board) w out₂
+    → (w ≡ Ok (at + length example_output)) × (out₂ ≡ spliced out at example_output))
 printed_in_parts {board} p out at room r out₁ c =
     let q = read_stands most_lines p in
     let b : text_in board ≡ example_board = ap board_text (q.rows ∙ rw (all_read, its_lines) its_rows) ∙ example_board_lem in

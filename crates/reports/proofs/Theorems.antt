@@ -1,4 +1,5 @@
 -- THE REPORT OF A FEED: whatever the parts in which it is read, what is printed then is fixed by its bytes. Assumes nothing.
+use Rattle.std.specs.Prelude.{Ok, Result}
 use mathlib.Core.Path.{◌≡◌, refl, sym, ap, ◌∙◌}
 use mathlib.Core.Bool.{true}
 use mathlib.Core.List.{List, [], ◌++◌}
@@ -8,13 +9,9 @@ use borrow.Author.Tests.{le-leb}
 use lib.ListN.{length, length-append}
 use Rattle.shapes.specs.Pieces.{pieces}
 use Rattle.text.specs.Text.{has_room, spliced, written_next, written_bytes}
-use Rattle.text.specs.declared.Written.{Written}
-use Rattle.text.specs.declared.Written.TheVariants as written
 use Rattle.text.proofs.Splice.{length-spliced, spliced_next}
 use Rattle.printer.specs.Text.{counts_text}
 use Rattle.printer.specs.Print.{text_in, print_of, out_after}
-use Rattle.printer.specs.declared.Printed.{Printed}
-use Rattle.printer.specs.declared.Printed.TheVariants as printed
 use Rattle.printer.proofs.print.Reads as print
 use Rattle.printer.proofs.print_counts.Reads as counts
 use Rattle.board.specs.Board.{rows_of, is_allowed as is_board}
@@ -33,6 +30,8 @@ use Rattle.feeding.proofs.Turns.{fed_ready, board_ready, held_ready, board_still
 use Rattle.reports.specs.Report.{rows_after_feed, lines_in, taken_in, report_of}
 use Rattle.reports.specs.Run.{Read, begin, go_on, Prints, Counts}
 use Rattle.reports.proofs.Joins.{rows_then, taken_then, feeds_then, feeds_are, read_empty, read_then}
+use Rattle.printer.specs.declared.NotPrinted.{NotPrinted}
+use Rattle.text.specs.declared.NotWritten.{NotWritten}
 
 -- what stands after the parts of a feed have been read
 pub record Stands (limit : ℕ) (feed board held : List ℕ) (begun : Begun) (lines taken : ℕ) : Type 0 where
@@ -147,7 +146,7 @@ module _ (board out : List ℕ) (at : ℕ) (b : is_board board ≡ true) (line :
   unfolding has_room
   room_first = le-leb (at + length (text_in board)) (length out) fits_first
 
-  first : (print_of board out at ≡ printed.Next (at + length (text_in board))) × (out_after board out at ≡ spliced out at (text_in board))
+  first : (print_of board out at ≡ Ok (at + length (text_in board))) × (out_after board out at ≡ spliced out at (text_in board))
   unfolding print_of out_after
   first = (rw (b, room_first), rw (b, room_first))
 
@@ -157,20 +156,20 @@ module _ (board out : List ℕ) (at : ℕ) (b : is_board board ≡ true) (line :
       le-leb (at + length (text_in board) + length line) (length (spliced out at (text_in board)))
       (omega (arith, length-spliced out (text_in board) at fits_first, length-append (text_in board) line))
 
-  second : (written_next true line (spliced out at (text_in board)) (at + length (text_in board)) ≡ written.Next (at + length (text_in board ++ line)))
+  second : (written_next true line (spliced out at (text_in board)) (at + length (text_in board)) ≡ Ok (at + length (text_in board ++ line)))
       × (written_bytes true line (spliced out at (text_in board)) (at + length (text_in board)) ≡ spliced out at (text_in board ++ line))
   unfolding written_next written_bytes
   second =
-      (rw room_second (ap written.Next (omega (arith, length-append (text_in board) line))), rw room_second (spliced_next out (text_in board) line at fits_first))
+      (rw room_second (ap Ok (omega (arith, length-append (text_in board) line))), rw room_second (spliced_next out (text_in board) line at fits_first))
 
 -- THE REPORT: after the calls, `print` at a place and `print_counts` after it write the report of the feed there, where it fits, and every
 -- other byte stays
 pub report_printed : (limit : ℕ) {feed board held : List ℕ} {begun : Begun} {lines taken : ℕ} → Read limit feed board held begun lines taken
     → (out : List ℕ) (at : ℕ) → at + length (report_of limit feed) ≤ length out
-    → (r : Printed) (out₁ : List ℕ) → Prints board out at r out₁
-    → (r ≡ printed.Next (at + length (text_in board)))
-    × ((w : Written) (out₂ : List ℕ) → Counts lines taken out₁ (at + length (text_in board)) w out₂
-    → (w ≡ written.Next (at + length (report_of limit feed))) × (out₂ ≡ spliced out at (report_of limit feed)))
+    → (r : Result ℕ NotPrinted) (out₁ : List ℕ) → Prints board out at r out₁
+    → (r ≡ Ok (at + length (text_in board)))
+    × ((w : Result ℕ NotWritten) (out₂ : List ℕ) → Counts lines taken out₁ (at + length (text_in board)) w out₂
+    → (w ≡ Ok (at + length (report_of limit feed))) × (out₂ ≡ spliced out at (report_of limit feed)))
 unfolding report_of
 report_printed limit {feed} {board} {held} {begun} {lines} {taken} p out at room r out₁ c =
     let q = read_stands limit p in

@@ -1,5 +1,6 @@
 -- WHAT MUST NOT PASS, as document 01 names it: no reader that refuses all lines, or reads every line as one message, no board that never
 -- changes, or applies the first line and then only nods, and no printer that makes up LINES or TAKEN meets the promises. Assumes nothing.
+use Rattle.std.specs.Prelude.{Ok, Result}
 use Prim.Native.Nat.{ℕ, ◌<◌, ◌≤◌, ◌^◌}
 use native.Mathlib.Omega.{arith}
 use mathlib.Core.Path.{◌≡◌, refl, sym, ap, ◌∙◌}
@@ -22,15 +23,12 @@ use Rattle.board.proofs.Theorems.{rows_words, empty_board}
 use Rattle.board.proofs.Examples.{tracked, one_row}
 use Rattle.messages.specs.declared.Message.{Message}
 use Rattle.line.specs.Read.{read_of}
-use Rattle.line.specs.declared.LineRead.{LineRead}
-use Rattle.line.specs.declared.LineRead.TheVariants.{Read}
 use Rattle.line.proofs.read.Reads as read
 use Rattle.planner.specs.Asked.{asked_by, asked_from, asked_of}
 use Rattle.planner.specs.declared.asks.Asked.{Asked}
 use Rattle.planner.specs.declared.asks.Asked.TheVariants as asked
 use Rattle.planner.proofs.Answers.{unread_refused}
 use Rattle.planner.specs.Run.{Applies}
-use Rattle.planner.specs.declared.LineAnswer.{LineAnswer}
 use Rattle.planner.proofs.Examples.{tz, dz, hb, landed, asks, tz_after, dz_after}
 use Rattle.printer.specs.RowText.{line_text}
 use Rattle.text.specs.Decimal.{decimal}
@@ -41,10 +39,12 @@ use Rattle.feeding.specs.Fed.{read_in}
 use Rattle.feeding.proofs.Tallies.{feeds_most, taken_le}
 use Rattle.reports.specs.Report.{rows_after_feed, lines_in, taken_in, report_of}
 use Rattle.reports.proofs.Joins.{feeds_are}
+use Rattle.planner.specs.declared.NotTaken.{NotTaken}
+use Rattle.line.specs.declared.Refusal.{Refusal}
 
 -- ---- READERS: what answers each line as `line::read` promises, which is the promise in the source
 
-abbrev Reads : List ℕ → LineRead → Type 0
+abbrev Reads : List ℕ → Result Message Refusal → Type 0
 Reads s r = r ≡ read_of s
 
 pub read_promise : (κs : _) (a : _) (r : _) (s : _) → read.Post κs a r s → Reads a.0.now r
@@ -58,30 +58,30 @@ kind (asked.Dz k a) = 2
 kind (asked.Az k a) = 3
 kind (asked.Tz k t) = 4
 
-module _ (reader : List ℕ → LineRead) (promise : (s : List ℕ) → Reads s (reader s)) where
-  is_read : (s : List ℕ) → 1 ≤ kind (asked_of s) → ((m : Message) → reader s ≡ Read m → ⊥) → ⊥
+module _ (reader : List ℕ → Result Message Refusal) (promise : (s : List ℕ) → Reads s (reader s)) where
+  is_read : (s : List ℕ) → 1 ≤ kind (asked_of s) → ((m : Message) → reader s ≡ Ok m → ⊥) → ⊥
   is_read s k none = let q = unread_refused s (λ m e. none m (promise s ∙ e)) in omega (arith, k, ap kind q.1)
 
-  hb_read : ((m : Message) → reader hb ≡ Read m → ⊥) → ⊥
+  hb_read : ((m : Message) → reader hb ≡ Ok m → ⊥) → ⊥
   hb_read = is_read hb (rw asks.2 (omega arith))
 
   -- "a reader that refuses all lines": the starred heartbeat is read
-  pub refuses_all : ((s : List ℕ) (m : Message) → reader s ≡ Read m → ⊥) → ⊥
+  pub refuses_all : ((s : List ℕ) (m : Message) → reader s ≡ Ok m → ⊥) → ⊥
   refuses_all none = hb_read (none hb)
 
   -- "or reads every line as one message": the heartbeat and the first line of the printed example are read, as two
-  pub reads_all_as_one : (one : Message) → ((s : List ℕ) (m : Message) → reader s ≡ Read m → m ≡ one) → ⊥
+  pub reads_all_as_one : (one : Message) → ((s : List ℕ) (m : Message) → reader s ≡ Ok m → m ≡ one) → ⊥
   unfolding asked_of
   reads_all_as_one one same =
       hb_read (λ m e. is_read tz (rw asks.0 (omega arith)) (λ n f.
       let q : kind (asked_of hb) ≡ kind (asked_of tz) = ap kind (as_one hb m e ∙ sym (as_one tz n f)) in omega (arith, rw (asks.2, asks.0) at q)))
     where
-      as_one : (s : List ℕ) (m : Message) → reader s ≡ Read m → asked_of s ≡ asked_by one
-      as_one s m e = ap asked_from (sym (promise s) ∙ e ∙ ap Read (same s m e))
+      as_one : (s : List ℕ) (m : Message) → reader s ≡ Ok m → asked_of s ≡ asked_by one
+      as_one s m e = ap asked_from (sym (promise s) ∙ e ∙ ap Ok (same s m e))
 
 -- ---- BOARDS: what answers each line, and leaves the words, as `planner::apply` promises (`apply_promise`)
 
-module _ (answer : List ℕ → List ℕ → LineAnswer) (next : List ℕ → List ℕ → List ℕ) (promise : (l s : List ℕ) → Applies l s (answer l s) (next l s)) where
+module _ (answer : List ℕ → List ℕ → Result (Unit {0}) NotTaken) (next : List ℕ → List ℕ → List ℕ) (promise : (l s : List ℕ) → Applies l s (answer l s) (next l s)) where
   -- from a board without rows, n words of 0
   module _ (n : ℕ) (e : n ≡ 2817) where
     first : next (replicate n 0) tz ≡ words_of (tracked ∷ [])

@@ -1,4 +1,5 @@
 -- What stamps, clocks and times are, said of their numbers: each way out of a test is a case of it. Assumes nothing.
+use Rattle.std.specs.Prelude.{None, Some}
 use mathlib.Core.Path.{◌≡◌, refl, sym}
 use mathlib.Core.Bool.{Bool, true, false, ◌&&◌, and_assoc}
 use mathlib.Core.List.{List, [], ◌∷◌}
@@ -10,7 +11,6 @@ use lib.ListN.{length, drop, get_or}
 use lib.Seq.{take_all, drop-drop}
 use Rattle.text.specs.Bytes.{bytes}
 use Rattle.text.specs.Number.{number_of, is_numeral, read_number}
-use Rattle.text.specs.declared.Numeral.TheVariants.{Value, Nothing}
 use Rattle.text.proofs.Numbers.{number_known, number_none}
 use Rattle.text.proofs.Logic.{and_left_comm}
 use Rattle.shapes.specs.Picture.{is_of, fits, within, part}
@@ -27,7 +27,7 @@ abbrev is_moment : ℕ → Bool
 is_moment n = leb 1 (n / 1000000) && leb (n / 1000000) 31 && is_time_of_day n
 
 module _ (s : List ℕ) (long : length s ≡ 8) where
-  pub no_stamp : read_number 10 s ≡ Nothing → false ≡ is_stamp s
+  pub no_stamp : read_number 10 s ≡ None → false ≡ is_stamp s
   unfolding is_stamp
   no_stamp told = rw (digits_fit 8 s (lit≤ tt) long, number_none 10 s told)
 
@@ -38,15 +38,15 @@ module _ (s : List ℕ) (long : length s ≡ 8) where
       rw (digits_fit 8 s (lit≤ tt) long, e, within_part s e 0 2 6 long 1 31, within_part s e 2 2 4 long 0 23, within_part s e 4 2 2 long 0 59, within_part s e 6 2 0 long 0 59, div-one)
       (simp (leb-zero, and_assoc) (rw (mod-eq_of_lt small)))
 
-  pub stamp_is : {n : ℕ} → read_number 10 s ≡ Value n → is_moment n ≡ is_stamp s
+  pub stamp_is : {n : ℕ} → read_number 10 s ≡ Some n → is_moment n ≡ is_stamp s
   stamp_is told = let k = number_known 10 s told in rw k.1 (moment_is k.0)
 
 module _ (s : List ℕ) (long : length s ≡ 6) where
-  pub no_old_stamp : read_number 10 s ≡ Nothing → false ≡ is_old_stamp s
+  pub no_old_stamp : read_number 10 s ≡ None → false ≡ is_old_stamp s
   unfolding is_old_stamp
   no_old_stamp told = rw (digits_fit 6 s (lit≤ tt) long, number_none 10 s told)
 
-  pub old_stamp_is : {n : ℕ} → read_number 10 s ≡ Value n → is_time_of_day n ≡ is_old_stamp s
+  pub old_stamp_is : {n : ℕ} → read_number 10 s ≡ Some n → is_time_of_day n ≡ is_old_stamp s
   unfolding is_old_stamp
   old_stamp_is told =
       let k = number_known 10 s told in

@@ -1,5 +1,6 @@
 -- LEVELS: a text has the form of a level exactly if it is one number of 2 or 3 digits, or two with B between them of which the second is no
 -- smaller. What is used of the digits is the one law over their width (`shapes/proofs/Digits`). Assumes nothing.
+use Rattle.std.specs.Prelude.{None, Option, Some}
 use mathlib.Core.Path.{◌≡◌, refl, sym, ap, ◌∙◌}
 use mathlib.Core.Bool.{true, false, cond, ◌&&◌}
 use mathlib.Core.List.{List}
@@ -11,8 +12,6 @@ use lib.ListN.{length, take, drop}
 use borrow.Author.Tests.{le-leb, lt-leb, leb-true}
 use Rattle.text.specs.Class.{is_digit}
 use Rattle.text.specs.Number.{number_of, is_numeral, read_number}
-use Rattle.text.specs.declared.Numeral.{Numeral}
-use Rattle.text.specs.declared.Numeral.TheVariants.{Value, Nothing}
 use Rattle.text.proofs.Logic.{and_left, and_right, not_holds, true_false, either_of}
 use Rattle.text.proofs.Numbers.{told_known, told_none, number_padded}
 use Rattle.shapes.specs.Picture.{is_of}
@@ -25,8 +24,8 @@ use Rattle.rules.specs.Level.{Digits, Block, Level, One, Two, Falls, Down}
 
 -- ---- what `height` tells
 
-abbrev height_of : List ℕ → Numeral
-height_of s = cond (is_height s) (Value (number_of 10 s)) Nothing
+abbrev height_of : List ℕ → Option ℕ
+height_of s = cond (is_height s) (Some (number_of 10 s)) None
 
 height_numeral : (s : List ℕ) → is_height s ≡ true → is_numeral 10 s ≡ true
 height_numeral s e = sym (digits_run 2 3 s (lit≤ tt) (run_least (code "d") 2 3 s e) (run_most (code "d") 2 3 s e)) ∙ e
@@ -53,14 +52,14 @@ module _ (s : List ℕ) (i : ℕ) (at : i ≡ up_to (code "B") s) where
     unfolding is_block
     cut = rw (joins_is (code "B") s i at is_height is_height h, cut_before (code "B") s i at h, cut_after (code "B") s i at h)
 
-    pub block_first : height_of first ≡ Nothing → false ≡ is_block s
+    pub block_first : height_of first ≡ None → false ≡ is_block s
     block_first e = rw (cut, told_none (is_height first) (number_of 10 first) e)
 
-    module _ (n : ℕ) (told : height_of first ≡ Value n) where
-      pub block_second : height_of second ≡ Nothing → false ≡ is_block s
+    module _ (n : ℕ) (told : height_of first ≡ Some n) where
+      pub block_second : height_of second ≡ None → false ≡ is_block s
       block_second e = rw (cut, (told_known (is_height first) (number_of 10 first) told).0, told_none (is_height second) (number_of 10 second) e)
 
-      pub block_told : (m : ℕ) → height_of second ≡ Value m → leb n m ≡ is_block s
+      pub block_told : (m : ℕ) → height_of second ≡ Some m → leb n m ≡ is_block s
       block_told m e =
           let a = told_known (is_height first) (number_of 10 first) told in
           let b = told_known (is_height second) (number_of 10 second) e in
@@ -89,7 +88,7 @@ module _ (n : ℕ) (s : List ℕ) (d : Digits n s) where
   digits_number : number_of 10 s ≡ n
   digits_number = ap (number_of 10) d.text ∙ number_padded 9 (lit≤ tt) (length s) n d.small
 
-  pub digits_read : read_number 10 s ≡ Value n
+  pub digits_read : read_number 10 s ≡ Some n
   unfolding read_number
   digits_read = rw (digits_numeral, digits_number)
 

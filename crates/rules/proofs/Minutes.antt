@@ -1,4 +1,5 @@
 -- Digits whose last two are minutes, said of their number: a clock, and the two halves of a position. Assumes nothing.
+use Rattle.std.specs.Prelude.{None, Some}
 use mathlib.Core.Path.{◌≡◌, refl}
 use mathlib.Core.Bool.{Bool, true, false, ◌&&◌, and_assoc, and_comm, and-true}
 use mathlib.Core.List.{List}
@@ -11,7 +12,6 @@ use lib.ListN.{length, drop, get_or, replicate, drop_of_length-le, length-drop}
 use lib.Seq.{drop-drop, length-take-le}
 use Rattle.text.specs.Bytes.{bytes}
 use Rattle.text.specs.Number.{is_numeral, number_of, read_number}
-use Rattle.text.specs.declared.Numeral.TheVariants.{Value, Nothing}
 use Rattle.text.proofs.Logic.{and_left_comm}
 use Rattle.text.proofs.Numbers.{number_known, number_none}
 use Rattle.shapes.specs.Picture.{is_of, fits, within, part}
@@ -25,7 +25,7 @@ abbrev pub with_minutes : ℕ → List ℕ → Bool
 with_minutes most s = within 0 most s && leb (number_of 10 s % 100) 59
 
 module _ (most : ℕ) (s : List ℕ) where
-  pub told_minutes : {n : ℕ} → read_number 10 s ≡ Value n → (leb n most && leb (n % 100) 59) ≡ with_minutes most s
+  pub told_minutes : {n : ℕ} → read_number 10 s ≡ Some n → (leb n most && leb (n % 100) 59) ≡ with_minutes most s
   unfolding within
   told_minutes e = let k = number_known 10 s e in rw (k.0, k.1, leb-zero)
 
@@ -33,7 +33,7 @@ module _ (most : ℕ) (s : List ℕ) where
   unfolding within
   no_numeral e = rw e
 
-  pub no_minutes : read_number 10 s ≡ Nothing → false ≡ with_minutes most s
+  pub no_minutes : read_number 10 s ≡ None → false ≡ with_minutes most s
   no_minutes e = no_numeral (number_none 10 s e)
 
   -- the same said of the digits, as document 01 says it

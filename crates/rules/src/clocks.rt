@@ -5,7 +5,6 @@ ghost use Rattle.shapes.specs.Picture.{fits, part};
 ghost use Rattle.rules.specs.Form.{is_stamp, is_old_stamp, is_clock, is_time, is_arrival};
 
 use shapes::is_of;
-use text::Numeral;
 
 // The last six digits of a number as HHMMSS, each pair in its range.
 fn is_time_of_day(n: u64) -> bool
@@ -42,7 +41,7 @@ pub fn is_stamp(s: &[u8]) -> bool
     if s.len() != 8 {
         return false;
     }
-    let Numeral::Value(n) = text::number(s, 10) else {
+    let Some(n) = text::number(s, 10) else {
         return false;
     };
     is_moment(n)
@@ -55,7 +54,7 @@ pub(crate) fn is_old_stamp(s: &[u8]) -> bool
     if s.len() != 6 {
         return false;
     }
-    let Numeral::Value(n) = text::number(s, 10) else {
+    let Some(n) = text::number(s, 10) else {
         return false;
     };
     is_time_of_day(n)
@@ -68,7 +67,7 @@ pub(crate) fn is_clock(s: &[u8]) -> bool
     if s.len() != 4 {
         return false;
     }
-    let Numeral::Value(n) = text::number(s, 10) else {
+    let Some(n) = text::number(s, 10) else {
         return false;
     };
     n <= 2359 && n % 100 <= 59

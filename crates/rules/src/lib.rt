@@ -5,9 +5,8 @@
 
 pub mod clocks;
 
-ghost use Rattle.std.specs.Prelude.{◌≡◌, ◌&&◌, cond, ◌%◌, leb};
+ghost use Rattle.std.specs.Prelude.{◌≡◌, ◌&&◌, cond, ◌%◌, leb, None, Some};
 ghost use Rattle.text.specs.Number.{number_of};
-ghost use Rattle.text.specs.declared.Numeral.TheVariants.{Value, Nothing};
 ghost use Rattle.shapes.specs.Picture.{within};
 ghost use Rattle.rules.specs.Form.{is_facility, is_key, is_fix, is_position, is_route, is_height, is_block, is_level, is_number, is_track_level};
 ghost use Rattle.rules.specs.Kind.{is_form};
@@ -15,7 +14,6 @@ ghost use Rattle.rules.specs.Drawn.{is_drawn};
 
 use crate::clocks::{is_arrival, is_clock, is_old_stamp, is_stamp, is_time};
 use shapes::{find, is_of, one_of, run};
-use text::Numeral;
 
 // The two rules for lines: that of the feed, and that of the old feed, which ended in 1999. The caller names the one meant.
 #[derive(Clone, Copy)]
@@ -98,7 +96,7 @@ pub(crate) fn is_fix(s: &[u8]) -> bool
 fn is_degrees(most: u64, s: &[u8]) -> bool
     ensures { result ≡ (within 0 most s.now && leb (number_of 10 s.now % 100) 59) }
 {
-    let Numeral::Value(n) = text::number(s, 10) else {
+    let Some(n) = text::number(s, 10) else {
         return false;
     };
     n <= most && n % 100 <= 59
@@ -139,11 +137,11 @@ fn is_height(s: &[u8]) -> bool
 }
 
 // Its number; nothing of what is no height.
-fn height(s: &[u8]) -> Numeral
-    ensures { result ≡ cond (is_height s.now) (Value (number_of 10 s.now)) Nothing }
+fn height(s: &[u8]) -> Option<u64>
+    ensures { result ≡ cond (is_height s.now) (Some (number_of 10 s.now)) None }
 {
     if !is_height(s) {
-        return Numeral::Nothing;
+        return None;
     }
     text::number(s, 10)
 }
@@ -157,10 +155,10 @@ fn is_block(s: &[u8]) -> bool
         return false;
     }
     let j = i + 1;
-    let Numeral::Value(first) = height(&s[..i]) else {
+    let Some(first) = height(&s[..i]) else {
         return false;
     };
-    let Numeral::Value(second) = height(&s[j..]) else {
+    let Some(second) = height(&s[j..]) else {
         return false;
     };
     first <= second

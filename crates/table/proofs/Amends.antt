@@ -1,5 +1,6 @@
 -- THE THEOREMS of the marks: how many there are in the end, and that an amendment has a route exactly if the mark of the route
 -- is among them. Assumes nothing.
+use Rattle.std.specs.Prelude.{Ok}
 use mathlib.Core.Path.{◌≡◌, refl, sym, ◌∙◌}
 use mathlib.Core.Bool.{Bool, true, false, not, ◌&&◌, ◌||◌}
 use mathlib.Core.List.{List, [], ◌∷◌, map}
@@ -18,7 +19,6 @@ use Rattle.table.specs.Field.{AMENDMENT, ROUTE, kind_by, plain, trace_of, marks_
 use Rattle.table.specs.declared.kinds.Value.{Value}
 use Rattle.table.specs.Read.{answer_from}
 use Rattle.table.specs.Show.{texts_from, allowed_from, marks_from, routed}
-use Rattle.table.specs.declared.walk.Answer.TheVariants.{Taken}
 use Rattle.table.proofs.Theorems.{taken_more, allowed_taken}
 use Rattle.table.proofs.KindRules.{is_content, by_amendment, by_route, by_content}
 use Rattle.table.proofs.MarksKept.{times, times_by, left_route, routeless, step, marks_number, marks_stay}
@@ -54,7 +54,7 @@ unfolding amends one_route
 amends_one ks e = rw (and_left (eqb (times ROUTE ks) 0) (followed ks) e)
 
 -- a route that is content has its mark
-routed_set : (i : ℕ) (t : Bool) (ks : List ℕ) (p m : ℕ) (fs : List (List ℕ)) (u : Bool) (n : ℕ) → m < 256 → times ROUTE ks ≡ 0 → (eqb p 128 ≡ true → routeless m ≡ false) → answer_from i t ks p m fs ≡ Taken u n → routed_in ks p fs ≡ true → routeless n ≡ false
+routed_set : (i : ℕ) (t : Bool) (ks : List ℕ) (p m : ℕ) (fs : List (List ℕ)) (u : Bool) (n : ℕ) → m < 256 → times ROUTE ks ≡ 0 → (eqb p 128 ≡ true → routeless m ≡ false) → answer_from i t ks p m fs ≡ Ok (u, n) → routed_in ks p fs ≡ true → routeless n ≡ false
 unfolding routed_in
 routed_set i t [] p m fs u n l a h e r = true_false r refl
 routed_set i t (k ∷ ks) p m [] u n l a h e r = true_false r refl
@@ -76,7 +76,7 @@ content_next (k ∷ ks) p [] h c e = absurd (omega arith)
 content_next (k ∷ ks) p (f ∷ fs) h c e = let z : eqb (plain k p) ROUTE ≡ true = plain_route k p ∙ rw (c, e) in rw z
 
 -- so where each number has its content, the mark comes with a route
-set-routed : (i : ℕ) (t : Bool) (ks : List ℕ) (p m : ℕ) (fs : List (List ℕ)) (u : Bool) (n : ℕ) → m < 256 → length fs ≡ length ks → followed ks ≡ true → routeless m ≡ true → answer_from i t ks p m fs ≡ Taken u n → routed_in ks p fs ≡ false → routeless n ≡ true
+set-routed : (i : ℕ) (t : Bool) (ks : List ℕ) (p m : ℕ) (fs : List (List ℕ)) (u : Bool) (n : ℕ) → m < 256 → length fs ≡ length ks → followed ks ≡ true → routeless m ≡ true → answer_from i t ks p m fs ≡ Ok (u, n) → routed_in ks p fs ≡ false → routeless n ≡ true
 unfolding routed_in answer_from followed
 set-routed i t [] p m fs u n l h w g e r = let z : m ≡ n = cc in rw z at g
 set-routed i t (k ∷ ks) p m [] u n l h w g e r = absurd (omega arith)
@@ -96,7 +96,7 @@ set-routed i t (k ∷ ks) p m (f ∷ fs) u n l h w g e r =
     number q = not_fails (eqb k AMENDMENT) (λ x. true_false q (left_route k f ∙ rw x))
 
 -- 8. an amendment has a route exactly if the mark of the route is among those that are set in the end
-pub routed_answer : (ks : List ℕ) (fs : List (List ℕ)) (t : Bool) (m : ℕ) → amends ks ≡ true → length fs ≡ length ks → answer_from 1 t ks 0 0 fs ≡ Taken t m → routed_in ks 0 fs ≡ not (eqb (bit_and m 128) 0)
+pub routed_answer : (ks : List ℕ) (fs : List (List ℕ)) (t : Bool) (m : ℕ) → amends ks ≡ true → length fs ≡ length ks → answer_from 1 t ks 0 0 fs ≡ Ok (t, m) → routed_in ks 0 fs ≡ not (eqb (bit_and m 128) 0)
 unfolding amends
 routed_answer ks fs t m w h e = go (routed_in ks 0 fs) refl
   where

@@ -1,5 +1,6 @@
 -- What the promises of `table` require on inputs written out, and so wrong answers that they do not allow: of each, `Post` is the function's
 -- `ensures` as it stands in the source, r any result that meets it, s the state at exit. Assumes nothing.
+use Rattle.std.specs.Prelude.{Bool, Err, Ok, Result}
 use mathlib.Core.Bool.{false, true}
 use Prim.Native.Nat.{ℕ}
 use Prim.Native.String.{String}
@@ -12,7 +13,6 @@ use Rattle.text.specs.Code.{code_of}
 use Rattle.text.specs.Number.{is_numeral, is_digit_to, digit_of, number_of}
 use Rattle.text.specs.Place.{value}
 use Rattle.text.specs.Text.{packed, spliced, has_room, written_next, written_bytes}
-use Rattle.text.specs.declared.Written.TheVariants.{NoText}
 use Rattle.shapes.specs.Cut.{up_to, has, before, after}
 use Rattle.shapes.specs.Picture.{is_of, fits, run, within}
 use Rattle.shapes.specs.Pieces.{pieces}
@@ -31,8 +31,6 @@ use Rattle.table.specs.Field.{IDENT, AIRCRAFT, AMENDMENT, mark_of, content_of, t
 use Rattle.table.specs.Read.{answer_of, answers, counted, answer_from, route_in, route_of}
 use Rattle.table.specs.Spacing.{ended, fields_of}
 use Rattle.table.specs.Table.{is_count, table_by, dotted, kinds_of, count_in, answer_by, route_by, count_with}
-use Rattle.table.specs.declared.walk.Answer.{Answer}
-use Rattle.table.specs.declared.walk.Answer.TheVariants.{Taken, Refused}
 use Rattle.table.specs.declared.walk.Fault.TheVariants.{Spacing, Field, Number}
 use Rattle.table.proofs.field.put_field.Reads as put-field
 use Rattle.table.proofs.field_count.Reads as field-count
@@ -49,6 +47,8 @@ use Rattle.table.proofs.kinds.plain.Reads as plain-read
 use Rattle.table.proofs.kinds_of.Reads as kinds-of
 use Rattle.table.proofs.read.Reads as read
 use Rattle.table.proofs.route.Reads as route
+use Rattle.text.specs.declared.NotWritten.TheVariants.{NoText}
+use Rattle.table.specs.declared.walk.Fault.{Fault}
 
 -- a TZ has an ident with a number, a ground speed, a track level and a position
 pub tz_by_the_az_table : (κs : _) (r : _) (s : _) → kinds-of.Post κs (New, (Tz, tt)) r s → r ≡ bytes "JGMO..............."
@@ -103,8 +103,8 @@ unfolding dotted table_by
 old_dz_with_a_letter κs r s p = p
 
 -- answer 8
-abbrev spacing : Answer
-spacing = Refused Spacing
+abbrev spacing : Result (Bool × ℕ) Fault
+spacing = Err Spacing
 
 -- "Splitting at any run of spaces, so that a missing field shifts the rest": a TZ with two spaces in a row
 pub run_of_spaces : (κs : _) (x : _) (r : _) (s : _) → read.Post κs (New, (Tz, (x, tt))) r s
@@ -120,7 +120,7 @@ counted_as_an_az κs x r s p e = p.0 ∙ ap (answer_by New Rz) e
 
 -- the fourth field of an AZ is asked for too: one that is a clock is taken
 pub three_kinds_for_every_body : (κs : _) (x : _) (r : _) (s : _) → read.Post κs (New, (Az, (x, tt))) r s
-    → x.now ≡ bytes " N5 AB CD 0810" → r.answer ≡ Taken false 0
+    → x.now ≡ bytes " N5 AB CD 0810" → r.answer ≡ Ok (false, 0)
 unfolding answer_by is_count count_in fields_of ended pieces kinds_of table_by answer_of answers counted answer_from read_in follows read_kind plain trace_of marks_of
     ident_of word_of is_form is_ident is_key is_arrival is_clock run fits is_of all is_alnum is_digit is_letter within is_numeral is_digit_to digit_of code_of number_of value
 three_kinds_for_every_body κs x r s p e = p.0 ∙ ap (answer_by New Az) e
@@ -275,34 +275,34 @@ number_asks κs x m s p κs' k s' q = (on, (on, (on, (on, (on, (on, (on, (on, tt
     on e = q ∙ ap (plain CONTENT) (p ∙ ap (trace_of AMENDMENT) e)
 
 -- "an AF number field that is none of the eight (never 9)": 04 and 11 are answered 10, with their place
-none_of_the_eight : (answer_by New Af (bytes " N5 AB CD 04 120") ≡ Refused (Number 4)) × (answer_by New Af (bytes " N5 AB CD 11 120") ≡ Refused (Number 4))
+none_of_the_eight : (answer_by New Af (bytes " N5 AB CD 04 120") ≡ Err (Number 4)) × (answer_by New Af (bytes " N5 AB CD 11 120") ≡ Err (Number 4))
 unfolding answer_by is_count count_in fields_of ended pieces kinds_of table_by answer_of answers counted answer_from read_in follows read_kind read_mark mark_of barred plain
     trace_of marks_of ident_of word_of is_form is_ident is_key run fits is_of all is_alnum is_digit is_letter
 none_of_the_eight = (refl, refl)
 
-pub number_04 : (κs : _) (x : _) (r : _) (s : _) → read.Post κs (New, (Af, (x, tt))) r s → x.now ≡ bytes " N5 AB CD 04 120" → r.answer ≡ Refused (Number 4)
+pub number_04 : (κs : _) (x : _) (r : _) (s : _) → read.Post κs (New, (Af, (x, tt))) r s → x.now ≡ bytes " N5 AB CD 04 120" → r.answer ≡ Err (Number 4)
 number_04 κs x r s p e = p.0 ∙ rw e none_of_the_eight.0
 
-pub number_11 : (κs : _) (x : _) (r : _) (s : _) → read.Post κs (New, (Af, (x, tt))) r s → x.now ≡ bytes " N5 AB CD 11 120" → r.answer ≡ Refused (Number 4)
+pub number_11 : (κs : _) (x : _) (r : _) (s : _) → read.Post κs (New, (Af, (x, tt))) r s → x.now ≡ bytes " N5 AB CD 11 120" → r.answer ≡ Err (Number 4)
 number_11 κs x r s p e = p.0 ∙ rw e none_of_the_eight.1
 
 -- ---- the old feed: "An aircraft field with a last letter, or an AZ clock with a prefix, has no reading there"
 
-old_refused : (answer_by Old Dz (bytes " N5 C172/A AB D0810 CD 0930") ≡ Refused (Field 2)) × (answer_by Old Az (bytes " N5 AB CD A0810") ≡ Refused (Field 4))
-    × (answer_by Old Af (bytes " N5 AB CD 03 C172/A") ≡ Refused (Field 5))
+old_refused : (answer_by Old Dz (bytes " N5 C172/A AB D0810 CD 0930") ≡ Err (Field 2)) × (answer_by Old Az (bytes " N5 AB CD A0810") ≡ Err (Field 4))
+    × (answer_by Old Af (bytes " N5 AB CD 03 C172/A") ≡ Err (Field 5))
 unfolding answer_by is_count count_in fields_of ended pieces kinds_of table_by answer_of answers counted answer_from read_in follows read_kind read_mark mark_of content_of
     plain trace_of marks_of ident_of word_of is_form is_ident is_key is_clock run fits is_of all is_alnum is_digit is_letter aircraft_by aircraft_of plain_of pair_of is_pair_form
     has up_to before after packed value code_of
 old_refused = (refl, refl, refl)
 
-pub old_dz_letter_taken : (κs : _) (x : _) (r : _) (s : _) → read.Post κs (Old, (Dz, (x, tt))) r s → x.now ≡ bytes " N5 C172/A AB D0810 CD 0930" → r.answer ≡ Refused (Field 2)
+pub old_dz_letter_taken : (κs : _) (x : _) (r : _) (s : _) → read.Post κs (Old, (Dz, (x, tt))) r s → x.now ≡ bytes " N5 C172/A AB D0810 CD 0930" → r.answer ≡ Err (Field 2)
 old_dz_letter_taken κs x r s p e = p.0 ∙ rw e old_refused.0
 
-pub old_az_prefix_taken : (κs : _) (x : _) (r : _) (s : _) → read.Post κs (Old, (Az, (x, tt))) r s → x.now ≡ bytes " N5 AB CD A0810" → r.answer ≡ Refused (Field 4)
+pub old_az_prefix_taken : (κs : _) (x : _) (r : _) (s : _) → read.Post κs (Old, (Az, (x, tt))) r s → x.now ≡ bytes " N5 AB CD A0810" → r.answer ≡ Err (Field 4)
 old_az_prefix_taken κs x r s p e = p.0 ∙ rw e old_refused.1
 
 -- so too where it is the content of an 03
-pub old_03_letter_taken : (κs : _) (x : _) (r : _) (s : _) → read.Post κs (Old, (Af, (x, tt))) r s → x.now ≡ bytes " N5 AB CD 03 C172/A" → r.answer ≡ Refused (Field 5)
+pub old_03_letter_taken : (κs : _) (x : _) (r : _) (s : _) → read.Post κs (Old, (Af, (x, tt))) r s → x.now ≡ bytes " N5 AB CD 03 C172/A" → r.answer ≡ Err (Field 5)
 old_03_letter_taken κs x r s p e = p.0 ∙ rw e old_refused.2
 
 -- ---- showing
@@ -315,6 +315,6 @@ number_08_written_09 κs l x y r s p e = p.1 ∙ ap (λ b. written_bytes true (b
 
 -- bytes with a space among them are no route: values that no line has
 pub route_any_bytes : (κs : _) (l : _) (x : _) (y : _) (n : _) (r : _) (s : _) → put-field.Post κs (ROUTE, (l, (valued 0 0 0, (x, (y, (n, tt)))))) r s
-    → x.now ≡ bytes "A B" → r ≡ NoText
+    → x.now ≡ bytes "A B" → r ≡ Err NoText
 unfolding written_next is_value is_kind_value plain is_route all is_of
 route_any_bytes κs l x y n r s p e = p.0 ∙ ap (λ b. written_next (is_value ROUTE l b (valued 0 0 0)) (shown ROUTE l b (valued 0 0 0)) y.now n) e

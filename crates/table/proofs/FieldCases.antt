@@ -1,5 +1,6 @@
 -- THE CASES of the fields of a body: what the reader answers of a field after those before it is the field's case, and a field is in one case only.
 -- Assumes nothing.
+use Rattle.std.specs.Prelude.{Result}
 use mathlib.Core.Path.{◌≡◌, refl, sym, ap, ◌∙◌, subst}
 use mathlib.Core.Bool.{Bool, true, false, cond}
 use mathlib.Core.List.{List, [], ◌∷◌, map, Memᴰ}
@@ -20,7 +21,6 @@ use Rattle.rules.specs.declared.Rule.TheVariants.{New, Old}
 use Rattle.table.specs.Amends.{Amends, the_eight, mark_of, mark_text, is_mark, content_of}
 use Rattle.table.specs.Field.{AIRCRAFT, PLAN_TIME, AMENDMENT, CONTENT, kind_by, read_kind, read_in, trace_of, marks_of}
 use Rattle.table.specs.Fault.{kind_at, field_at, FormCase, Formed, Unformed, Asked, Content, Time, Plain, NoPosition, FieldCase, ByForm, ERule, NoneOfEight, Twice, Fresh}
-use Rattle.table.specs.declared.kinds.FieldRead.{FieldRead}
 use Rattle.fields.specs.declared.heads.MessageType.{MessageType}
 use Rattle.table.specs.Table.{table_of, table_by, kinds_of}
 use Rattle.table.proofs.CountWays.{each_type}
@@ -29,6 +29,8 @@ use Rattle.table.proofs.Eight.{eight_or_none, mark_zero, eight_marks, mark_is, t
 use Rattle.table.proofs.MarkSets.{marks_apart, both_apart}
 use Rattle.table.specs.Read.{field_number}
 use Rattle.table.proofs.FieldForms.{form_own, form_one, in_number, in_time, in_content, in_plain, number_left, fix_left, time_form}
+use Rattle.table.specs.declared.kinds.NotRead.{NotRead}
+use Rattle.table.specs.declared.kinds.Value.{Value}
 
 -- ---- what the fields before one leave for it, and what is answered of it
 
@@ -40,7 +42,7 @@ abbrev pub marks_at : List ℕ → List (List ℕ) → ℕ → ℕ
 marks_at ks fs zero = 0
 marks_at ks fs (suc i) = marks_of (kind_at ks i) (marks_at ks fs i) (field_at fs i)
 
-abbrev pub read_at : List ℕ → List (List ℕ) → ℕ → FieldRead
+abbrev pub read_at : List ℕ → List (List ℕ) → ℕ → Result Value NotRead
 read_at ks fs i = read_in (kind_at ks i) (trace_at ks fs i) (marks_at ks fs i) (field_at fs i)
 
 -- ---- the tables: a content stands after a number, the time of FZ and UZ after the fix

@@ -1,5 +1,6 @@
 -- The reader and the forms: what one field is answered by its form, and of a number, a time, a content and any other field after those before it.
 -- Assumes nothing.
+use Rattle.std.specs.Prelude.{None, Option, Some}
 use mathlib.Core.Path.{◌≡◌, refl, sym, ap, ◌∙◌, subst}
 use mathlib.Core.Bool.{Bool, true, false, cond}
 use mathlib.Core.List.{List}
@@ -18,20 +19,19 @@ use Rattle.fields.specs.Word.{word_of}
 use Rattle.fields.specs.Ident.{ident_of, tz_ident_of}
 use Rattle.fields.specs.Aircraft.{aircraft_by, aircraft_answer}
 use Rattle.fields.specs.Aircraft as aircraft
-use Rattle.fields.specs.declared.aircraft.AircraftRead.{AircraftRead}
-use Rattle.fields.specs.declared.aircraft.AircraftRead.TheVariants as read
 use Rattle.fields.proofs.Answers.{aircraft_answer_lem}
 use Rattle.table.specs.Amends.{mark_of, content_of}
 use Rattle.table.specs.Fault.{has_form, FormCase, Readings, Formed, Unformed}
 use Rattle.table.specs.Field.{IDENT, TZ_IDENT, AIRCRAFT, ROUTE, PLAN_TIME, AMENDMENT, CONTENT, kind_by, trace_of, follows, plain, of_aircraft, read_kind, read_mark, barred, read_in}
 use Rattle.table.specs.Read.{field_number}
 use Rattle.table.proofs.KindRules.{is_for, some_rule, no_rule, not_for, one_rule, is_content}
+use Rattle.fields.specs.declared.aircraft.Aircraft.{Aircraft}
 
 -- ---- by its form
 
-aircraft_number : (x : AircraftRead) → aircraft_answer x ≡ field_number (of_aircraft x)
-aircraft_number (read.Read a) = refl
-aircraft_number read.Nothing = refl
+aircraft_number : (x : Option Aircraft) → aircraft_answer x ≡ field_number (of_aircraft x)
+aircraft_number (Some a) = refl
+aircraft_number None = refl
 
 -- of every kind but an aircraft
 kind_number : (k : ℕ) (s : List ℕ) → is_for AIRCRAFT k ≡ false → field_number (read_kind k s) ≡ cond (has_form k s) 0 9

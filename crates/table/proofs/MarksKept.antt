@@ -1,5 +1,6 @@
 -- The marks that the fields of a body set, by any list of kinds: one for each number, and whether that of the route, 128, is
 -- among them. Assumes nothing.
+use Rattle.std.specs.Prelude.{Ok}
 use mathlib.Core.Path.{◌≡◌, refl, sym, ap, ◌∙◌}
 use mathlib.Core.Bool.{Bool, true, false, cond, ◌&&◌}
 use mathlib.Core.List.{List, [], ◌∷◌, map}
@@ -17,12 +18,10 @@ use Rattle.rules.specs.Kind.{FIX}
 use Rattle.rules.specs.declared.Rule.{Rule}
 use Rattle.table.specs.Field.{AMENDMENT, kind_by, mark_of, mark_text, is_mark, is_one, read_in, trace_of, marks_of, follows, is_value, shown}
 use Rattle.table.specs.declared.kinds.Value.{Value}
-use Rattle.table.specs.declared.kinds.FieldRead.TheVariants as field
 use Rattle.table.proofs.FieldLaws.{in_sound}
 use Rattle.table.proofs.Eight.{mark_text_lem}
 use Rattle.table.proofs.MarkSets.{set_more, set_keeps, set-has, set_other}
 use Rattle.table.specs.Read.{answer_from}
-use Rattle.table.specs.declared.walk.Answer.TheVariants.{Taken}
 use Rattle.table.proofs.Theorems.{taken_more}
 
 -- how often the kind k stands in a list
@@ -60,7 +59,7 @@ pub record Step (k m : ℕ) (s : List ℕ) : Type 0 where
   pub fresh : routeless m ≡ false → eqb (trace_of k s) 128 ≡ false
 
 -- a number that is read has a mark, which is not in the set yet
-number_read : (k p m : ℕ) (s : List ℕ) (v : Value) → eqb k AMENDMENT ≡ true → read_in k p m s ≡ field.Read v → (is_mark (mark_of s) ≡ true) × (bit_and m (mark_of s) ≡ 0)
+number_read : (k p m : ℕ) (s : List ℕ) (v : Value) → eqb k AMENDMENT ≡ true → read_in k p m s ≡ Ok v → (is_mark (mark_of s) ≡ true) × (bit_and m (mark_of s) ≡ 0)
 unfolding is_value follows shown
 number_read k p m s v a e =
     let x = in_sound k p m s s v e (λ q. refl) in
@@ -74,7 +73,7 @@ set_route : (m b : ℕ) → m < 256 → eqb b 128 ≡ true → routeless (bit_or
 unfolding is_mark
 set_route m b l q = rw (eqb-true b 128 q) (set-has m 128 l refl)
 
-pub step : (k p m : ℕ) (s : List ℕ) (v : Value) → m < 256 → read_in k p m s ≡ field.Read v → Step k m s
+pub step : (k p m : ℕ) (s : List ℕ) (v : Value) → m < 256 → read_in k p m s ≡ Ok v → Step k m s
 unfolding marks_of
 step k p m s v l e = go (eqb k AMENDMENT) refl
   where
@@ -96,7 +95,7 @@ step k p m s v l e = go (eqb k AMENDMENT) refl
         record { small = rw q l; count = rw q; keeps = λ h. rw q h; sets = λ h. true_false h is; other = λ h g. rw q h; fresh = λ h. is }
 
 -- the marks that are set in the end: one more for each number
-pub marks_number : (i : ℕ) (t : Bool) (ks : List ℕ) (p m : ℕ) (fs : List (List ℕ)) (u : Bool) (n : ℕ) → m < 256 → length fs ≡ length ks → answer_from i t ks p m fs ≡ Taken u n → (n < 256) × (ones n ≡ times AMENDMENT ks + ones m)
+pub marks_number : (i : ℕ) (t : Bool) (ks : List ℕ) (p m : ℕ) (fs : List (List ℕ)) (u : Bool) (n : ℕ) → m < 256 → length fs ≡ length ks → answer_from i t ks p m fs ≡ Ok (u, n) → (n < 256) × (ones n ≡ times AMENDMENT ks + ones m)
 unfolding answer_from times
 marks_number i t [] p m fs u n l h e = let z : m ≡ n = cc in (omega arith, omega (arith, ap ones z))
 marks_number i t (k ∷ ks) p m [] u n l h e = absurd (omega arith)
@@ -111,7 +110,7 @@ marks_number i t (k ∷ ks) p m (f ∷ fs) u n l h e =
     go false q z y = let w : ones (marks_of k m f) ≡ ones m = rw q at z in rw q (omega (arith, w, y))
 
 -- a mark that is set stays
-pub marks_stay : (i : ℕ) (t : Bool) (ks : List ℕ) (p m : ℕ) (fs : List (List ℕ)) (u : Bool) (n : ℕ) → m < 256 → routeless m ≡ false → answer_from i t ks p m fs ≡ Taken u n → routeless n ≡ false
+pub marks_stay : (i : ℕ) (t : Bool) (ks : List ℕ) (p m : ℕ) (fs : List (List ℕ)) (u : Bool) (n : ℕ) → m < 256 → routeless m ≡ false → answer_from i t ks p m fs ≡ Ok (u, n) → routeless n ≡ false
 unfolding answer_from
 marks_stay i t [] p m fs u n l h e = let z : m ≡ n = cc in rw z at h
 marks_stay i t (k ∷ ks) p m [] u n l h e = let z : m ≡ n = cc in rw z at h

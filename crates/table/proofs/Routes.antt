@@ -1,5 +1,6 @@
 -- THE THEOREMS of the route: where a list of kinds has one route at most, the one that is found is the only one, and the one
 -- that is shown is found. Assumes nothing.
+use Rattle.std.specs.Prelude.{Ok}
 use mathlib.Core.Path.{◌≡◌, refl, sym, ap, ◌∙◌}
 use mathlib.Core.Bool.{Bool, true, false, cond, not, ◌&&◌, ◌||◌}
 use mathlib.Core.List.{List, [], ◌∷◌, map}
@@ -20,7 +21,6 @@ use Rattle.table.specs.Field.{AMENDMENT, ROUTE, PLAN_TIME, CONTENT, kind_by, is_
 use Rattle.table.specs.declared.kinds.Value.{Value}
 use Rattle.table.specs.Read.{answer_from, answer_of, values_of, route_in, route_of}
 use Rattle.table.specs.Show.{texts_from, allowed_from, marks_from, routed}
-use Rattle.table.specs.declared.walk.Answer.TheVariants.{Taken}
 use Rattle.table.proofs.Theorems.{RoutesAre, all_visible, taken_more, allowed_visible, sound, complete}
 use Rattle.table.proofs.KindRules.{is_content, some_rule, not_for, plain_content, by_route, by_content, all_by}
 use Rattle.table.proofs.MarksKept.{times, times_by, routeless, step}
@@ -159,7 +159,7 @@ no_letters (k ∷ ks) p (f ∷ fs) e h =
     rw z (no_letters ks (trace_of k f) fs a.1 c.1)
 
 -- none once the mark of the route is set, and its content past: "no number comes twice"
-none_after : (i : ℕ) (t : Bool) (ks : List ℕ) (p m : ℕ) (fs : List (List ℕ)) (u : Bool) (n : ℕ) → m < 256 → times ROUTE ks ≡ 0 → routeless m ≡ false → eqb p 128 ≡ false → answer_from i t ks p m fs ≡ Taken u n → routed_in ks p fs ≡ false
+none_after : (i : ℕ) (t : Bool) (ks : List ℕ) (p m : ℕ) (fs : List (List ℕ)) (u : Bool) (n : ℕ) → m < 256 → times ROUTE ks ≡ 0 → routeless m ≡ false → eqb p 128 ≡ false → answer_from i t ks p m fs ≡ Ok (u, n) → routed_in ks p fs ≡ false
 unfolding routed_in
 none_after i t [] p m fs u n l a h g e = refl
 none_after i t (k ∷ ks) p m [] u n l a h g e = refl
@@ -170,7 +170,7 @@ none_after i t (k ∷ ks) p m (f ∷ fs) u n l a h g e =
     rw (not_route k p b.0 g) (none_after (suc i) t ks (trace_of k f) (marks_of k m f) fs u n s.small b.1 (s.keeps h) (s.fresh h) c.2)
 
 -- the route of an amendment
-content_routes : (i : ℕ) (t : Bool) (ks : List ℕ) (p m : ℕ) (fs : List (List ℕ)) (u : Bool) (n : ℕ) → m < 256 → times ROUTE ks ≡ 0 → (eqb p 128 ≡ true → routeless m ≡ false) → answer_from i t ks p m fs ≡ Taken u n → RoutesAre ks p (route_in ks p fs) fs
+content_routes : (i : ℕ) (t : Bool) (ks : List ℕ) (p m : ℕ) (fs : List (List ℕ)) (u : Bool) (n : ℕ) → m < 256 → times ROUTE ks ≡ 0 → (eqb p 128 ≡ true → routeless m ≡ false) → answer_from i t ks p m fs ≡ Ok (u, n) → RoutesAre ks p (route_in ks p fs) fs
 unfolding route_in
 content_routes i t [] p m fs u n l a h e = tt
 content_routes i t (k ∷ ks) p m [] u n l a h e = tt
@@ -206,7 +206,7 @@ letter_routes (k ∷ ks) p (f ∷ fs) a h =
     go false q z none ih = let l : times ROUTE ks ≤ 1 = rw q at a in ((λ x. true_false x (z ∙ q)), rw (z, q) (ih l))
 
 -- 5. where a list of kinds has one route at most, the one that is found is the only one
-pub routes : (ks : List ℕ) (fs : List (List ℕ)) (t : Bool) (m : ℕ) → one_route ks ≡ true → answer_from 1 t ks 0 0 fs ≡ Taken t m → RoutesAre ks 0 (route_in ks 0 fs) fs
+pub routes : (ks : List ℕ) (fs : List (List ℕ)) (t : Bool) (m : ℕ) → one_route ks ≡ true → answer_from 1 t ks 0 0 fs ≡ Ok (t, m) → RoutesAre ks 0 (route_in ks 0 fs) fs
 unfolding one_route
 routes ks fs t m o e =
     let a = eqb (times ROUTE ks) 1 in
@@ -271,7 +271,7 @@ pub record Back (ks body : List ℕ) (t : Bool) (m : ℕ) : Type 0 where
   pub text : body_of (texts_from ks 0 (route_of ks body) (values_of ks body)) t ≡ body
   pub marks : marks_from ks 0 0 (route_of ks body) (values_of ks body) ≡ m
 
-pub written_back : (ks body : List ℕ) (t : Bool) (m : ℕ) → one_route ks ≡ true → answer_of ks body ≡ Taken t m → Back ks body t m
+pub written_back : (ks body : List ℕ) (t : Bool) (m : ℕ) → one_route ks ≡ true → answer_of ks body ≡ Ok (t, m) → Back ks body t m
 unfolding route_of
 written_back ks body t m o e =
     let s = sound ks body t m e in

@@ -1,5 +1,6 @@
 -- What the spaces of a body tell: its spacing is wrong exactly if two stand side by side, and else it has a field for each space
 -- before its last byte. Assumes nothing.
+use Rattle.std.specs.Prelude.{None, Option, Some}
 use mathlib.Core.Path.{◌≡◌, refl, sym, ap, ◌∙◌}
 use mathlib.Core.Bool.{Bool, true, false, cond, ◌&&◌, ◌||◌}
 use mathlib.Core.List.{List, [], ◌∷◌}
@@ -12,18 +13,16 @@ use Rattle.shapes.specs.Pieces.{grow, pieces}
 use Rattle.shapes.proofs.Pieces.{pieces_turn}
 use Rattle.shapes.specs.Many.{how_many, twice}
 use Rattle.table.specs.Spacing.{space, Split, Fields, Wrong, more, ended, fields_of, counts, count_of}
-use Rattle.table.specs.declared.spacing.Counted.{Counted}
-use Rattle.table.specs.declared.spacing.Counted.TheVariants as counted
 
 -- two spaces side by side; how many there are before the last byte; whether that is one
-unfoldable pub told : Bool → ℕ → Bool → Counted
-told true n t = counted.Wrong
-told false n t = counted.Fields n t
+unfoldable pub told : Bool → ℕ → Bool → Option (ℕ × Bool)
+told true n t = None
+told false n t = Some (n, t)
 
 -- one field more
-plus : Counted → Counted
-plus counted.Wrong = counted.Wrong
-plus (counted.Fields n t) = counted.Fields (suc n) t
+plus : Option (ℕ × Bool) → Option (ℕ × Bool)
+plus None = None
+plus (Some (n, t)) = Some (suc n, t)
 
 counts_more : (f : List ℕ) (r : Split) → counts (more f r) ≡ plus (counts r)
 unfolding counts plus
@@ -61,7 +60,7 @@ after_first : (x : ℕ) (s : List ℕ)
 unfolding counts ended pieces twice how_many told
 after_first x [] = go (eqb x space)
   where
-    go : (t : Bool) → counts (ended (drop 1 (cond t ([] ∷ [] ∷ []) (grow x ([] ∷ []))))) ≡ counted.Fields 0 t
+    go : (t : Bool) → counts (ended (drop 1 (cond t ([] ∷ [] ∷ []) (grow x ([] ∷ []))))) ≡ Some (0, t)
     go true = refl
     go false = refl
 after_first x (y ∷ s) =

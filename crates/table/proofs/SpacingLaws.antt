@@ -1,4 +1,5 @@
 -- The laws of the spacing: a body and its fields give each other, and a walk goes from one field to the next. Assumes nothing.
+use Rattle.std.specs.Prelude.{None, Some}
 use mathlib.Core.Path.{◌≡◌, refl, sym, ap, ◌∙◌}
 use mathlib.Core.Bool.{Bool, true, false, ◌&&◌, not}
 use mathlib.Core.List.{List, [], ◌∷◌, ◌++◌}
@@ -17,7 +18,6 @@ use Rattle.shapes.specs.Pieces.{grow, pieces, each_after}
 use Rattle.shapes.proofs.Laws.{up_to_le}
 use Rattle.shapes.proofs.Pieces.{pieces_after, pieces_turn, pieces_text}
 use Rattle.table.specs.Spacing.{space, body_of, no_space, is_field, all_fields, Split, Fields, Wrong, more, ended, fields_of, fields_in, counts, count_of, end_of}
-use Rattle.table.specs.declared.spacing.Counted.TheVariants as counted
 
 -- what is left of a body, from a space on
 unfoldable pub rest : List ℕ → Split
@@ -242,19 +242,19 @@ wrong_none s fs t e f h =
 
 -- ---- what `count` tells
 
-pub count_known : (body : List ℕ) {n : ℕ} {t : Bool} → count_of body ≡ counted.Fields n t → (fields_of body ≡ Fields (fields_in (fields_of body)) t) × (n ≡ length (fields_in (fields_of body)))
+pub count_known : (body : List ℕ) {n : ℕ} {t : Bool} → count_of body ≡ Some (n, t) → (fields_of body ≡ Fields (fields_in (fields_of body)) t) × (n ≡ length (fields_in (fields_of body)))
 unfolding count_of counts
 count_known body {n} {t} e = go (fields_of body) e
   where
-    go : (p : Split) → counts p ≡ counted.Fields n t → (p ≡ Fields (fields_in p) t) × (n ≡ length (fields_in p))
+    go : (p : Split) → counts p ≡ Some (n, t) → (p ≡ Fields (fields_in p) t) × (n ≡ length (fields_in p))
     go Wrong d = ((cc), (cc))
     go (Fields fs u) d = (ap (Fields fs) (cc), (cc))
 
-pub count_wrong : (body : List ℕ) → count_of body ≡ counted.Wrong → fields_of body ≡ Wrong
+pub count_wrong : (body : List ℕ) → count_of body ≡ None → fields_of body ≡ Wrong
 unfolding count_of counts
 count_wrong body e = go (fields_of body) e
   where
-    go : (p : Split) → counts p ≡ counted.Wrong → p ≡ Wrong
+    go : (p : Split) → counts p ≡ None → p ≡ Wrong
     go Wrong d = refl
     go (Fields fs u) d = cc
 

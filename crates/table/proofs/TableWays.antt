@@ -1,4 +1,5 @@
 -- The ways of the functions: a body by the table, and its route. Assumes nothing.
+use Rattle.std.specs.Prelude.{Err, None, Some}
 use mathlib.Core.Path.{◌≡◌, refl, sym, ◌∙◌}
 use mathlib.Core.Bool.{Bool, true, false}
 use mathlib.Core.List.{List, [], ◌∷◌, ◌++◌}
@@ -12,11 +13,9 @@ use Rattle.rules.specs.declared.Rule.{Rule}
 use Rattle.fields.specs.declared.heads.MessageType.{MessageType}
 use Rattle.fields.specs.declared.heads.MessageType.TheVariants.{Af}
 use Rattle.table.specs.Spacing.{fields_of, fields_in, count_of}
-use Rattle.table.specs.declared.spacing.Counted.TheVariants as counted
 use Rattle.table.proofs.SpacingLaws.{count_known}
 use Rattle.table.specs.Field.{plain, trace_of}
 use Rattle.table.specs.Read.{Ready, padded, answer_of, values_of, route_in, route_of, route_from, route_at}
-use Rattle.table.specs.declared.walk.Answer.TheVariants.{Refused}
 use Rattle.table.specs.declared.walk.Fault.TheVariants.{Spacing}
 use Rattle.table.proofs.WalkWays.{read_wrong, ready, route_no_kinds, route_no_fields, route_later, start_no_kinds, start_no_fields, start_later}
 use Rattle.table.specs.Table.{table_of, is_count, table_by, dotted, kinds_of, count_in, answer_by, values_by, route_by, route_at_by}
@@ -45,20 +44,20 @@ unfolding dotted kinds_of
 dotted_kinds ρ t n e = take-append-le n (table_by ρ t) _ (count_kinds ρ t n e)
 
 module _ (ρ : Rule) (t : MessageType) (s : List ℕ) where
-  pub by_wrong : count_of s ≡ counted.Wrong → (Refused Spacing ≡ answer_by ρ t s) × (padded [] ≡ padded (values_by ρ t s))
+  pub by_wrong : count_of s ≡ None → (Err Spacing ≡ answer_by ρ t s) × (padded [] ≡ padded (values_by ρ t s))
   unfolding answer_by values_by
   by_wrong e = go (is_count t (count_in s)) refl
     where
-      go : (b : Bool) → is_count t (count_in s) ≡ b → (Refused Spacing ≡ answer_by ρ t s) × (padded [] ≡ padded (values_by ρ t s))
+      go : (b : Bool) → is_count t (count_in s) ≡ b → (Err Spacing ≡ answer_by ρ t s) × (padded [] ≡ padded (values_by ρ t s))
       go true q = let r = read_wrong (kinds_of ρ t (count_in s)) s e in (rw q r.0, rw q r.1)
       go false q = (rw q, rw q)
 
-  module _ {n : ℕ} {b : Bool} (e : count_of s ≡ counted.Fields n b) where
+  module _ {n : ℕ} {b : Bool} (e : count_of s ≡ Some (n, b)) where
     count_in_lem : count_in s ≡ n
     unfolding count_in
     count_in_lem = sym (count_known s e).1
 
-    pub by_not : is_count t n ≡ false → (Refused Spacing ≡ answer_by ρ t s) × (padded [] ≡ padded (values_by ρ t s))
+    pub by_not : is_count t n ≡ false → (Err Spacing ≡ answer_by ρ t s) × (padded [] ≡ padded (values_by ρ t s))
     unfolding answer_by values_by
     by_not f = (rw (count_in_lem, f), rw (count_in_lem, f))
 

@@ -1,5 +1,6 @@
 -- THE THEOREMS of reading by any list of kinds: what is taken is shown again, what is shown is taken, and what is refused is
 -- refused exactly. Assumes nothing.
+use Rattle.std.specs.Prelude.{Err, Ok, Result}
 use mathlib.Core.Path.{◌≡◌, refl, sym, ap}
 use mathlib.Core.Bool.{Bool, true, false, ◌&&◌}
 use mathlib.Core.List.{List, [], ◌∷◌, ◌++◌}
@@ -19,15 +20,13 @@ use Rattle.table.specs.Spacing.{body_of, all_fields, Split, Fields, Wrong, field
 use Rattle.table.proofs.SpacingLaws.{fields_text_lem, fields_body, visible_field}
 use Rattle.table.specs.Field.{ROUTE, read_in, plain, trace_of, marks_of, follows, is_value, shown}
 use Rattle.table.specs.declared.kinds.Value.{Value}
-use Rattle.table.specs.declared.kinds.FieldRead.{FieldRead}
-use Rattle.table.specs.declared.kinds.FieldRead.TheVariants as field
 use Rattle.table.proofs.FieldLaws.{in_sound, in_complete, in_visible}
 use Rattle.table.specs.Read.{values_from, answer_from, counted, answers, values, answer_of, values_of}
 use Rattle.table.specs.Show.{texts_from, allowed_from, marks_from}
-use Rattle.table.specs.declared.walk.Answer.{Answer}
-use Rattle.table.specs.declared.walk.Answer.TheVariants.{Taken, Refused}
 use Rattle.table.specs.declared.walk.Fault.{Fault}
 use Rattle.table.specs.declared.walk.Fault.TheVariants.{Spacing}
+use Rattle.table.specs.declared.kinds.NotRead.TheVariants.{Nothing, Number}
+use Rattle.table.specs.declared.kinds.NotRead.{NotRead}
 
 -- ---- what the theorems speak of
 
@@ -96,7 +95,7 @@ unfolding counted
 counted_is ks fs e h = rw (eq-eqb (length fs) (length ks) e) (le-leb (length ks) 19 h)
 
 -- a body whose answer is a, found in its fields
-pub record Parted (ks body : List ℕ) (a : Answer) : Type 0 where
+pub record Parted (ks body : List ℕ) (a : Result (Bool × ℕ) Fault) : Type 0 where
   pub fields : List (List ℕ)
   pub trailing : Bool
   pub split : fields_of body ≡ Fields fields trailing
@@ -105,7 +104,7 @@ pub record Parted (ks body : List ℕ) (a : Answer) : Type 0 where
   pub answer : answer_from 1 trailing ks 0 0 fields ≡ a
   pub values : values_of ks body ≡ values_from ks 0 0 fields
 
-pub parted : (ks body : List ℕ) (a : Answer) → answer_of ks body ≡ a → (Refused Spacing ≡ a → ⊥) → Parted ks body a
+pub parted : (ks body : List ℕ) (a : Result (Bool × ℕ) Fault) → answer_of ks body ≡ a → (Err Spacing ≡ a → ⊥) → Parted ks body a
 unfolding answer_of values_of answers values
 parted ks body a e h = go (fields_of body) refl
   where
@@ -128,7 +127,7 @@ pub record Sound (ks body : List ℕ) (t : Bool) (m : ℕ) : Type 0 where
   pub few : length ks ≤ 19
   pub every : all_fields fields ≡ true
   pub visible : all_visible fields ≡ true
-  pub answer : answer_from 1 t ks 0 0 fields ≡ Taken t m
+  pub answer : answer_from 1 t ks 0 0 fields ≡ Ok (t, m)
   pub values : values_of ks body ≡ values_from ks 0 0 fields
   pub whole : length (values_of ks body) ≡ length ks
   pub shows : (r : List ℕ) → RoutesAre ks 0 r fields → Shows ks 0 0 r (values_of ks body) fields m
@@ -142,21 +141,21 @@ unfolding allowed_from texts_from marks_from
 shows_more k ks p m r v vs f fs n i g s h = record { allowed = rw (s, i, g, h.allowed); texts = rw (s, h.texts); marks = rw s h.marks }
 
 -- what is refused is not taken
-pub not_taken : {X : Type 0} (u : Bool) (n : ℕ) (x : Fault) → Refused x ≡ Taken u n → X
+pub not_taken : {X : Type 0} (u : Bool) (n : ℕ) (x : Fault) → Err x ≡ Ok (u, n) → X
 not_taken u n x e = absurd (let z : ◌≡◌ {A = ℕ} 0 1 = cc in omega arith)
 
 -- where all fields are read, the first is, and all others are
-pub taken_more : (i : ℕ) (t : Bool) (k : ℕ) (ks : List ℕ) (p m : ℕ) (f : List ℕ) (fs : List (List ℕ)) (u : Bool) (n : ℕ) → answer_from i t (k ∷ ks) p m (f ∷ fs) ≡ Taken u n
-    → (v : Value) × (read_in k p m f ≡ field.Read v) × (answer_from (suc i) t ks (trace_of k f) (marks_of k m f) fs ≡ Taken u n)
+pub taken_more : (i : ℕ) (t : Bool) (k : ℕ) (ks : List ℕ) (p m : ℕ) (f : List ℕ) (fs : List (List ℕ)) (u : Bool) (n : ℕ) → answer_from i t (k ∷ ks) p m (f ∷ fs) ≡ Ok (u, n)
+    → (v : Value) × (read_in k p m f ≡ Ok v) × (answer_from (suc i) t ks (trace_of k f) (marks_of k m f) fs ≡ Ok (u, n))
 unfolding answer_from
 taken_more i t k ks p m f fs u n e = go (read_in k p m f) refl
   where
-    go : (a : FieldRead) → read_in k p m f ≡ a → (v : Value) × (read_in k p m f ≡ field.Read v) × (answer_from (suc i) t ks (trace_of k f) (marks_of k m f) fs ≡ Taken u n)
-    go (field.Read v) q = (v, q, rw q at e)
-    go field.Nothing q = not_taken u n _ (rw q at e)
-    go field.Number q = not_taken u n _ (rw q at e)
+    go : (a : Result Value NotRead) → read_in k p m f ≡ a → (v : Value) × (read_in k p m f ≡ Ok v) × (answer_from (suc i) t ks (trace_of k f) (marks_of k m f) fs ≡ Ok (u, n))
+    go (Ok v) q = (v, q, rw q at e)
+    go (Err Nothing) q = not_taken u n _ (rw q at e)
+    go (Err Number) q = not_taken u n _ (rw q at e)
 
-pub answer_taken : (i : ℕ) (t : Bool) (ks : List ℕ) (p m : ℕ) (fs : List (List ℕ)) (u : Bool) (n : ℕ) → length fs ≡ length ks → answer_from i t ks p m fs ≡ Taken u n → (u ≡ t) × Reads ks p m fs n
+pub answer_taken : (i : ℕ) (t : Bool) (ks : List ℕ) (p m : ℕ) (fs : List (List ℕ)) (u : Bool) (n : ℕ) → length fs ≡ length ks → answer_from i t ks p m fs ≡ Ok (u, n) → (u ≡ t) × Reads ks p m fs n
 unfolding answer_from values_from allowed_from texts_from marks_from all_visible
 answer_taken i t [] p m [] u n h e = ((cc), record { count = refl; visible = refl; shows = λ r a. record { allowed = refl; texts = refl; marks = cc } })
 answer_taken i t [] p m (f ∷ fs) u n h e = absurd (omega arith)
@@ -178,7 +177,7 @@ answer_taken i t (k ∷ ks) p m (f ∷ fs) u n h e =
 -- ---- the texts of values that are allowed
 
 pub record Allowed (ks : List ℕ) (p m : ℕ) (r : List ℕ) (vs : List Value) : Type 0 where
-  pub answer : (i : ℕ) (t : Bool) → answer_from i t ks p m (texts_from ks p r vs) ≡ Taken t (marks_from ks p m r vs)
+  pub answer : (i : ℕ) (t : Bool) → answer_from i t ks p m (texts_from ks p r vs) ≡ Ok (t, marks_from ks p m r vs)
   pub values : values_from ks p m (texts_from ks p r vs) ≡ vs
   pub visible : all_visible (texts_from ks p r vs) ≡ true
   pub texts : length (texts_from ks p r vs) ≡ length ks
@@ -205,9 +204,9 @@ allowed_taken (k ∷ ks) p m r (v ∷ vs) e =
     }
 
 -- 1. what is taken
-pub sound : (ks body : List ℕ) (t : Bool) (m : ℕ) → answer_of ks body ≡ Taken t m → Sound ks body t m
+pub sound : (ks body : List ℕ) (t : Bool) (m : ℕ) → answer_of ks body ≡ Ok (t, m) → Sound ks body t m
 sound ks body t m e =
-    let s = parted ks body (Taken t m) e (not_taken t m Spacing) in
+    let s = parted ks body (Ok (t, m)) e (not_taken t m Spacing) in
     let fs = s.fields in
     let x = answer_taken 1 s.trailing ks 0 0 fs t m s.count s.answer in
     let y = fields_text_lem body fs s.trailing s.split in
@@ -230,7 +229,7 @@ sound ks body t m e =
 -- 2. the text of values that are allowed is taken, as these values
 pub complete : (ks r : List ℕ) (vs : List Value) (t : Bool) → length ks ≤ 19 → allowed_from ks 0 0 r vs ≡ true
     → let body = body_of (texts_from ks 0 r vs) t in
-    (answer_of ks body ≡ Taken t (marks_from ks 0 0 r vs)) × (values_of ks body ≡ vs) × (fields_of body ≡ Fields (texts_from ks 0 r vs) t) × (length vs ≡ length ks)
+    (answer_of ks body ≡ Ok (t, marks_from ks 0 0 r vs)) × (values_of ks body ≡ vs) × (fields_of body ≡ Fields (texts_from ks 0 r vs) t) × (length vs ≡ length ks)
 unfolding answer_of values_of answers values
 complete ks r vs t few e =
     let a = allowed_taken ks 0 0 r vs e in

@@ -1,5 +1,6 @@
 -- The ways of the functions that read a body by its kinds: a walk from field to field, one field that is read or at fault, the
 -- values in their nineteen places, the refusals, and the route. Assumes nothing.
+use Rattle.std.specs.Prelude.{Err, None, Ok, Result, Some}
 use mathlib.Core.Path.{◌≡◌, refl, sym, ◌∙◌}
 use mathlib.Core.Bool.{Bool, true}
 use mathlib.Core.List.{List, [], ◌∷◌}
@@ -14,17 +15,15 @@ use lib.ListN.{length, drop, get_or, replicate}
 use lib.Seq.{sets, sets-eq, drop-cons}
 use borrow.Author.Tests.{eq-eqb, ne_eqb, le-leb}
 use Rattle.table.specs.Spacing.{Fields, fields_of, fields_in, count_of, end_of}
-use Rattle.table.specs.declared.spacing.Counted.TheVariants as counting
 use Rattle.table.proofs.SpacingLaws.{rest, Turn, turn, split_rest, count_known, count_wrong}
 use Rattle.table.specs.Field.{ROUTE, read_in, plain, trace_of, marks_of}
 use Rattle.table.specs.declared.kinds.Value.{Value}
-use Rattle.table.specs.declared.kinds.FieldRead.{FieldRead}
-use Rattle.table.specs.declared.kinds.FieldRead.TheVariants as field
 use Rattle.table.specs.contracts.kinds.FieldRead.{the_type}
 use Rattle.table.specs.Read.{none, padded, more, values_from, fault_at, or_else, answer_from, counted, answers, values, answer_of, values_of, Ready, route_in, route_of, route_from, route_at}
-use Rattle.table.specs.declared.walk.Answer.{Answer}
-use Rattle.table.specs.declared.walk.Answer.TheVariants.{Taken, Refused}
 use Rattle.table.specs.declared.walk.Fault.TheVariants.{Spacing}
+use Rattle.table.specs.declared.kinds.NotRead.TheVariants.{Nothing, Number}
+use Rattle.table.specs.declared.walk.Fault.{Fault}
+use Rattle.table.specs.declared.kinds.NotRead.{NotRead}
 
 abbrev pub fields_on : List ℕ → List (List ℕ)
 fields_on body = fields_in (fields_of body)
@@ -53,7 +52,7 @@ module _ {body : List ℕ} {at k : ℕ} (v : At body at k) (h : k < length (fiel
 
 -- ---- one field
 
-pub answer_done : (i : ℕ) (t : Bool) (p m : ℕ) (fs : List (List ℕ)) → answer_from i t [] p m fs ≡ Taken t m
+pub answer_done : (i : ℕ) (t : Bool) (p m : ℕ) (fs : List (List ℕ)) → answer_from i t [] p m fs ≡ Ok (t, m)
 unfolding answer_from
 answer_done i t p m fs = refl
 
@@ -63,33 +62,33 @@ values_done p m fs = refl
 
 module _ (k : ℕ) (ks : List ℕ) (p m : ℕ) (f : List ℕ) (fs : List (List ℕ)) where
   -- it is read: the walk goes on
-  pub answer_read : {v : Value} → read_in k p m f ≡ field.Read v → (i : ℕ) (t : Bool)
+  pub answer_read : {v : Value} → read_in k p m f ≡ Ok v → (i : ℕ) (t : Bool)
       → answer_from i t (k ∷ ks) p m (f ∷ fs) ≡ answer_from (suc i) t ks (trace_of k f) (marks_of k m f) fs
   unfolding answer_from
   answer_read e i t = rw e
 
-  pub values_read : {v : Value} → read_in k p m f ≡ field.Read v → values_from (k ∷ ks) p m (f ∷ fs) ≡ v ∷ values_from ks (trace_of k f) (marks_of k m f) fs
+  pub values_read : {v : Value} → read_in k p m f ≡ Ok v → values_from (k ∷ ks) p m (f ∷ fs) ≡ v ∷ values_from ks (trace_of k f) (marks_of k m f) fs
   unfolding values_from
   values_read e = rw e
 
   -- it is not read, of which the code tells only the variant's number: its fault is the answer
-  pub answer_stop : (x : FieldRead) → read_in k p m f ≡ x → OneOf (1 ∷ 2 ∷ []) (tag_of the_type x) → (i : ℕ) (t : Bool) → Refused (fault_at i x) ≡ answer_from i t (k ∷ ks) p m (f ∷ fs)
+  pub answer_stop : (x : Result Value NotRead) → read_in k p m f ≡ x → OneOf (1 ∷ 2 ∷ []) (tag_of the_type x) → (i : ℕ) (t : Bool) → Err (fault_at i x) ≡ answer_from i t (k ∷ ks) p m (f ∷ fs)
   unfolding answer_from
   answer_stop x e h i t = rw e (go x h (answer_from (suc i) t ks (trace_of k f) (marks_of k m f) fs))
     where
-      go : (x : FieldRead) → OneOf (1 ∷ 2 ∷ []) (tag_of the_type x) → (r : Answer) → Refused (fault_at i x) ≡ or_else i x r
-      go (field.Read v) h r = absurd (miss (1 ∷ 2 ∷ []) 0 tt h)
-      go field.Nothing h r = refl
-      go field.Number h r = refl
+      go : (x : Result Value NotRead) → OneOf (1 ∷ 2 ∷ []) (tag_of the_type x) → (r : Result (Bool × ℕ) Fault) → Err (fault_at i x) ≡ or_else i x r
+      go (Ok v) h r = absurd (miss (1 ∷ 2 ∷ []) 0 tt h)
+      go (Err Nothing) h r = refl
+      go (Err Number) h r = refl
 
-  pub values_stop : (x : FieldRead) → read_in k p m f ≡ x → OneOf (1 ∷ 2 ∷ []) (tag_of the_type x) → values_from (k ∷ ks) p m (f ∷ fs) ≡ []
+  pub values_stop : (x : Result Value NotRead) → read_in k p m f ≡ x → OneOf (1 ∷ 2 ∷ []) (tag_of the_type x) → values_from (k ∷ ks) p m (f ∷ fs) ≡ []
   unfolding values_from
   values_stop x e h = rw e (go x h (values_from ks (trace_of k f) (marks_of k m f) fs))
     where
-      go : (x : FieldRead) → OneOf (1 ∷ 2 ∷ []) (tag_of the_type x) → (vs : List Value) → more x vs ≡ []
-      go (field.Read v) h vs = absurd (miss (1 ∷ 2 ∷ []) 0 tt h)
-      go field.Nothing h vs = refl
-      go field.Number h vs = refl
+      go : (x : Result Value NotRead) → OneOf (1 ∷ 2 ∷ []) (tag_of the_type x) → (vs : List Value) → more x vs ≡ []
+      go (Ok v) h vs = absurd (miss (1 ∷ 2 ∷ []) 0 tt h)
+      go (Err Nothing) h vs = refl
+      go (Err Number) h vs = refl
 
 -- ---- the values in their places
 
@@ -99,10 +98,10 @@ values_few [] p m fs = omega arith
 values_few (k ∷ ks) p m [] = omega arith
 values_few (k ∷ ks) p m (f ∷ fs) = go (read_in k p m f) (values_from ks (trace_of k f) (marks_of k m f) fs) (values_few ks (trace_of k f) (marks_of k m f) fs)
   where
-    go : (x : FieldRead) (vs : List Value) → length vs ≤ length ks → length (more x vs) ≤ suc (length ks)
-    go (field.Read v) vs h = omega arith
-    go field.Nothing vs h = omega arith
-    go field.Number vs h = omega arith
+    go : (x : Result Value NotRead) (vs : List Value) → length vs ≤ length ks → length (more x vs) ≤ suc (length ks)
+    go (Ok v) vs h = omega arith
+    go (Err Nothing) vs h = omega arith
+    go (Err Number) vs h = omega arith
 
 drop-replicate : {A : Type 0} (n i : ℕ) (a : A) → drop i (replicate n a) ≡ replicate (n - i) a
 drop-replicate n zero a = rw sub-zero
@@ -121,11 +120,11 @@ pub through : {A B : Type 0} {r a a' : A} {s b b' : B} → (r ≡ a) × (s ≡ b
 through p q = (p.0 ∙ q.0, p.1 ∙ q.1)
 
 module _ (ks body : List ℕ) where
-  pub read_wrong : count_of body ≡ counting.Wrong → (Refused Spacing ≡ answer_of ks body) × (padded [] ≡ padded (values_of ks body))
+  pub read_wrong : count_of body ≡ None → (Err Spacing ≡ answer_of ks body) × (padded [] ≡ padded (values_of ks body))
   unfolding answer_of answers values_of values
   read_wrong e = let w = count_wrong body e in (rw w, rw w)
 
-  pub ready : {n : ℕ} {t : Bool} → count_of body ≡ counting.Fields n t → n ≡ length ks → n ≤ 19 → Ready ks body t
+  pub ready : {n : ℕ} {t : Bool} → count_of body ≡ Some (n, t) → n ≡ length ks → n ≤ 19 → Ready ks body t
   ready e h m = let k = count_known body e in record { split = k.0; count = sym k.1 ∙ h; few = omega arith }
 
   pub read_ready : {t : Bool} → Ready ks body t → (answer_from 1 t ks 0 0 (fields_on body) ≡ answer_of ks body) × (values_from ks 0 0 (fields_on body) ≡ values_of ks body)
@@ -173,10 +172,10 @@ module _ (k : ℕ) (ks : List ℕ) (p : ℕ) (f : List ℕ) (fs : List (List ℕ
   unfolding route_from
   start_later e j = rw (ne_eqb (plain k p) ROUTE e)
 
-pub route_wrong : (ks body : List ℕ) → count_of body ≡ counting.Wrong → [] ≡ route_of ks body
+pub route_wrong : (ks body : List ℕ) → count_of body ≡ None → [] ≡ route_of ks body
 unfolding route_of
 route_wrong ks body e = rw (count_wrong body e, route_no_fields)
 
-pub start_wrong : (ks body : List ℕ) → count_of body ≡ counting.Wrong → 0 ≡ route_at ks body
+pub start_wrong : (ks body : List ℕ) → count_of body ≡ None → 0 ≡ route_at ks body
 unfolding route_at
 start_wrong ks body e = rw (count_wrong body e, start_no_fields)

@@ -1,11 +1,11 @@
 -- One field of document 01's table ("Fields"), of any kind: its reading, its text, and the values that some text gives; and what may follow
 -- what. The letters of the kinds (FieldKind) and an amendment's numbers (Amends) are handed on. Assumes nothing.
-use Rattle.std.specs.Prelude.{ℕ, Bool, true, cond, not, ◌&&◌, ◌||◌, List, eqb, get_or}
+unfoldable pub use Rattle.table.specs.FieldKind.{IDENT, TZ_IDENT, AIRCRAFT, ROUTE, PLAN_TIME, AMENDMENT, CONTENT, OLD_AIRCRAFT, OLD_CONTENT, kind_by}
+unfoldable pub use Rattle.table.specs.Amends.{mark_of, mark_text, is_mark, content_of}
+use Rattle.std.specs.Prelude.{ℕ, Bool, true, cond, not, ◌&&◌, ◌||◌, List, eqb, get_or, Err, None, Ok, Option, Result, Some}
 use Prim.Native.Char.{code}
 use Rattle.std.specs.Int.Bits.{bit_and, bit_or}
 use Rattle.text.specs.Text.{text_of}
-use Rattle.text.specs.declared.Packed.{Packed}
-use Rattle.text.specs.declared.Packed.TheVariants as word
 use Rattle.rules.specs.Form.{is_position, is_route}
 use Rattle.rules.specs.Kind.{FIX, TIME}
 use Rattle.rules.specs.declared.Rule.TheVariants.{New, Old}
@@ -13,16 +13,10 @@ use Rattle.fields.specs.Word.{word_of, is_word}
 use Rattle.fields.specs.Ident.{ident_of, tz_ident_of, ident_text, is_ident_value}
 use Rattle.fields.specs.Aircraft.{aircraft_by, aircraft_text, is_aircraft_value, is_letter_by}
 use Rattle.fields.specs.declared.idents.Ident.{Ident}
-use Rattle.fields.specs.declared.idents.IdentRead.{IdentRead}
-use Rattle.fields.specs.declared.idents.IdentRead.TheVariants as ident
 use Rattle.fields.specs.declared.aircraft.Aircraft.{Aircraft}
-use Rattle.fields.specs.declared.aircraft.AircraftRead.{AircraftRead}
-use Rattle.fields.specs.declared.aircraft.AircraftRead.TheVariants as aircraft
-unfoldable pub use Rattle.table.specs.FieldKind.{IDENT, TZ_IDENT, AIRCRAFT, ROUTE, PLAN_TIME, AMENDMENT, CONTENT, OLD_AIRCRAFT, OLD_CONTENT, kind_by}
-unfoldable pub use Rattle.table.specs.Amends.{mark_of, mark_text, is_mark, content_of}
 use Rattle.table.specs.declared.kinds.Value.{Value}
-use Rattle.table.specs.declared.kinds.FieldRead.{FieldRead}
-use Rattle.table.specs.declared.kinds.FieldRead.TheVariants.{Read, Nothing, Number}
+use Rattle.table.specs.declared.kinds.NotRead.TheVariants.{Nothing, Number}
+use Rattle.table.specs.declared.kinds.NotRead.{NotRead}
 
 -- ---- what one field leaves for the next
 
@@ -63,23 +57,23 @@ is_two v = eqb v.c 0
 
 -- ---- reading
 
-abbrev pub of_ident : IdentRead → FieldRead
-of_ident (ident.Read i) = Read (valued i.key.0 i.number.0 0)
-of_ident ident.Nothing = Nothing
+abbrev pub of_ident : Option Ident → Result Value NotRead
+of_ident (Some i) = Ok (valued i.key.0 i.number.0 0)
+of_ident None = Err Nothing
 
-abbrev pub of_aircraft : AircraftRead → FieldRead
-of_aircraft (aircraft.Read x) = Read (valued x.prefix x.model x.letter)
-of_aircraft aircraft.Nothing = Nothing
+abbrev pub of_aircraft : Option Aircraft → Result Value NotRead
+of_aircraft (Some x) = Ok (valued x.prefix x.model x.letter)
+of_aircraft None = Err Nothing
 
-abbrev pub of_route : Bool → FieldRead
-of_route b = cond b (Read (valued 0 0 0)) Nothing
+abbrev pub of_route : Bool → Result Value NotRead
+of_route b = cond b (Ok (valued 0 0 0)) (Err Nothing)
 
-abbrev pub of_word : Packed → FieldRead
-of_word (word.Text t) = Read (valued t 0 0)
-of_word word.Nothing = Nothing
+abbrev pub of_word : Option ℕ → Result Value NotRead
+of_word (Some t) = Ok (valued t 0 0)
+of_word None = Err Nothing
 
 -- a field of the kind k by itself
-unfoldable pub read_kind : ℕ → List ℕ → FieldRead
+unfoldable pub read_kind : ℕ → List ℕ → Result Value NotRead
 read_kind k s =
     cond (eqb k IDENT) (of_ident (ident_of s))
     (cond (eqb k TZ_IDENT) (of_ident (tz_ident_of s))
@@ -87,15 +81,15 @@ read_kind k s =
     (cond (eqb k OLD_AIRCRAFT) (of_aircraft (aircraft_by Old s))
     (cond (eqb k ROUTE) (of_route (is_route s)) (of_word (word_of k s))))))
 
-unfoldable pub read_mark : List ℕ → FieldRead
-read_mark s = cond (eqb (mark_of s) 0) Number (Read (valued (mark_of s) 0 0))
+unfoldable pub read_mark : List ℕ → Result Value NotRead
+read_mark s = cond (eqb (mark_of s) 0) (Err Number) (Ok (valued (mark_of s) 0 0))
 
 -- what a field that may not follow answers
-unfoldable pub barred : ℕ → FieldRead
-barred k = cond (eqb k AMENDMENT) Number Nothing
+unfoldable pub barred : ℕ → Result Value NotRead
+barred k = cond (eqb k AMENDMENT) (Err Number) (Err Nothing)
 
 -- a field after what the one before it left, p, and the marks m
-unfoldable pub read_in : ℕ → ℕ → ℕ → List ℕ → FieldRead
+unfoldable pub read_in : ℕ → ℕ → ℕ → List ℕ → Result Value NotRead
 read_in k p m s = cond (follows k p m s) (cond (eqb k AMENDMENT) (read_mark s) (read_kind (plain k p) s)) (barred k)
 
 -- ---- writing: r is the route, which stands beside the values

@@ -1,14 +1,12 @@
 -- A body read by a list of kinds: its answer, the values of its fields, and the route among them. Assumes nothing.
-use Rattle.std.specs.Prelude.{ℕ, suc, ◌+◌, ◌-◌, ◌≤◌, ◌≡◌, Bool, cond, ◌&&◌, List, [], ◌∷◌, ◌++◌, eqb, leb, length, replicate}
+use Rattle.std.specs.Prelude.{ℕ, suc, ◌+◌, ◌-◌, ◌≤◌, ◌≡◌, Bool, cond, ◌&&◌, List, [], ◌∷◌, ◌++◌, eqb, leb, length, replicate, Err, Ok, Result}
 use Rattle.table.specs.Spacing.{Split, Fields, Wrong, fields_of, fields_in}
 use Rattle.table.specs.Field.{ROUTE, valued, read_in, plain, trace_of, marks_of}
 use Rattle.table.specs.declared.kinds.Value.{Value}
-use Rattle.table.specs.declared.kinds.FieldRead.{FieldRead}
-use Rattle.table.specs.declared.kinds.FieldRead.TheVariants as field
-use Rattle.table.specs.declared.walk.Answer.{Answer}
-use Rattle.table.specs.declared.walk.Answer.TheVariants.{Taken, Refused}
 use Rattle.table.specs.declared.walk.Fault.{Fault}
 use Rattle.table.specs.declared.walk.Fault.TheVariants.{Spacing, Field, Number}
+use Rattle.table.specs.declared.kinds.NotRead.TheVariants.{Nothing, Number}
+use Rattle.table.specs.declared.kinds.NotRead.{NotRead}
 
 -- ---- the values
 
@@ -19,10 +17,10 @@ none = valued 0 0 0
 unfoldable pub padded : List Value → List Value
 padded vs = vs ++ replicate (19 - length vs) none
 
-abbrev pub more : FieldRead → List Value → List Value
-more (field.Read v) vs = v ∷ vs
-more field.Nothing vs = []
-more field.Number vs = []
+abbrev pub more : Result Value NotRead → List Value → List Value
+more (Ok v) vs = v ∷ vs
+more (Err Nothing) vs = []
+more (Err Number) vs = []
 
 -- the values of the fields, until one is not read; p is what the field before left, m the marks set so far
 unfoldable pub values_from : List ℕ → ℕ → ℕ → List (List ℕ) → List Value
@@ -33,35 +31,35 @@ values_from (k ∷ ks) p m (f ∷ fs) = more (read_in k p m f) (values_from ks (
 -- ---- the answer
 
 -- what a field that is not read makes of the whole body; i is its place
-abbrev pub fault_at : ℕ → FieldRead → Fault
-fault_at i field.Nothing = Field i
-fault_at i field.Number = Number i
-fault_at i (field.Read v) = Spacing
+abbrev pub fault_at : ℕ → Result Value NotRead → Fault
+fault_at i (Err Nothing) = Field i
+fault_at i (Err Number) = Number i
+fault_at i (Ok v) = Spacing
 
-abbrev pub or_else : ℕ → FieldRead → Answer → Answer
-or_else i (field.Read v) rest = rest
-or_else i field.Nothing rest = Refused (Field i)
-or_else i field.Number rest = Refused (Number i)
+abbrev pub or_else : ℕ → Result Value NotRead → Result (Bool × ℕ) Fault → Result (Bool × ℕ) Fault
+or_else i (Ok v) rest = rest
+or_else i (Err Nothing) rest = Err (Field i)
+or_else i (Err Number) rest = Err (Number i)
 
 -- "then fields from the left": the first field that is not read; else taken, with the marks that are set in the end
-unfoldable pub answer_from : ℕ → Bool → List ℕ → ℕ → ℕ → List (List ℕ) → Answer
-answer_from i t [] p m fs = Taken t m
-answer_from i t (k ∷ ks) p m [] = Taken t m
+unfoldable pub answer_from : ℕ → Bool → List ℕ → ℕ → ℕ → List (List ℕ) → Result (Bool × ℕ) Fault
+answer_from i t [] p m fs = Ok (t, m)
+answer_from i t (k ∷ ks) p m [] = Ok (t, m)
 answer_from i t (k ∷ ks) p m (f ∷ fs) = or_else i (read_in k p m f) (answer_from (suc i) t ks (trace_of k f) (marks_of k m f) fs)
 
 -- "body spacing or field count wrong" comes before any field; a table has at most 19 fields
 unfoldable pub counted : List ℕ → List (List ℕ) → Bool
 counted ks fs = eqb (length fs) (length ks) && leb (length ks) 19
 
-unfoldable pub answers : List ℕ → Split → Answer
-answers ks Wrong = Refused Spacing
-answers ks (Fields fs t) = cond (counted ks fs) (answer_from 1 t ks 0 0 fs) (Refused Spacing)
+unfoldable pub answers : List ℕ → Split → Result (Bool × ℕ) Fault
+answers ks Wrong = Err Spacing
+answers ks (Fields fs t) = cond (counted ks fs) (answer_from 1 t ks 0 0 fs) (Err Spacing)
 
 unfoldable pub values : List ℕ → Split → List Value
 values ks Wrong = []
 values ks (Fields fs t) = cond (counted ks fs) (values_from ks 0 0 fs) []
 
-unfoldable pub answer_of : List ℕ → List ℕ → Answer
+unfoldable pub answer_of : List ℕ → List ℕ → Result (Bool × ℕ) Fault
 answer_of ks body = answers ks (fields_of body)
 
 unfoldable pub values_of : List ℕ → List ℕ → List Value
@@ -76,10 +74,10 @@ pub record Ready (ks body : List ℕ) (trailing : Bool) : Type 0 where
 -- ---- document 01's numbers, and the place that it gives; 0 where it gives none
 
 -- of one field: 9, 10
-abbrev pub field_number : FieldRead → ℕ
-field_number (field.Read v) = 0
-field_number field.Nothing = 9
-field_number field.Number = 10
+abbrev pub field_number : Result Value NotRead → ℕ
+field_number (Ok v) = 0
+field_number (Err Nothing) = 9
+field_number (Err Number) = 10
 
 abbrev pub fault_number : Fault → ℕ
 fault_number Spacing = 8
@@ -91,13 +89,13 @@ fault_place Spacing = 0
 fault_place (Field i) = i
 fault_place (Number i) = i
 
-abbrev pub answer_number : Answer → ℕ
-answer_number (Taken t m) = 0
-answer_number (Refused x) = fault_number x
+abbrev pub answer_number : Result (Bool × ℕ) Fault → ℕ
+answer_number (Ok (t, m)) = 0
+answer_number (Err x) = fault_number x
 
-abbrev pub answer_place : Answer → ℕ
-answer_place (Taken t m) = 0
-answer_place (Refused x) = fault_place x
+abbrev pub answer_place : Result (Bool × ℕ) Fault → ℕ
+answer_place (Ok (t, m)) = 0
+answer_place (Err x) = fault_place x
 
 -- ---- the route: the first field that is read as one
 

@@ -1,11 +1,9 @@
 -- A body of fields (document 01, "The line"): "the body is one space, then fields parted by single spaces, none empty, and
 -- at the end at most one space more". Assumes nothing.
-use Rattle.std.specs.Prelude.{ℕ, ◌+◌, Bool, true, false, cond, ◌&&◌, not, List, [], ◌∷◌, ◌++◌, eqb, length, drop}
+use Rattle.std.specs.Prelude.{ℕ, ◌+◌, Bool, true, false, cond, ◌&&◌, not, List, [], ◌∷◌, ◌++◌, eqb, length, drop, None, Option, Some}
 use Prim.Native.Char.{code}
 use Rattle.shapes.specs.Cut.{up_to}
 use Rattle.shapes.specs.Pieces.{pieces}
-use Rattle.table.specs.declared.spacing.Counted.{Counted}
-use Rattle.table.specs.declared.spacing.Counted.TheVariants as counted
 
 abbrev pub space : ℕ
 space = code " "
@@ -62,11 +60,11 @@ fields_in (Fields fs t) = fs
 
 -- ---- what the functions answer
 
-unfoldable pub counts : Split → Counted
-counts Wrong = counted.Wrong
-counts (Fields fs t) = counted.Fields (length fs) t
+unfoldable pub counts : Split → Option (ℕ × Bool)
+counts Wrong = None
+counts (Fields fs t) = Some (length fs, t)
 
-unfoldable pub count_of : List ℕ → Counted
+unfoldable pub count_of : List ℕ → Option (ℕ × Bool)
 count_of s = counts (fields_of s)
 
 -- the index of the first space from j on, or the length; past the end, j

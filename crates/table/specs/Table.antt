@@ -1,7 +1,7 @@
 -- THE TABLE of document 01, "type, fields in order": the fields of each type, how many they are, where a route is; and a body read by them.
 -- Assumes nothing.
 use Prim.Native.Char.{code}
-use Rattle.std.specs.Prelude.{ℕ, zero, suc, ◌+◌, ◌*◌, ◌%◌, ◌-◌, Bool, true, false, cond, not, ◌&&◌, ◌||◌, List, [], ◌∷◌, ◌++◌, map, eqb, leb, length, take, replicate}
+use Rattle.std.specs.Prelude.{ℕ, zero, suc, ◌+◌, ◌*◌, ◌%◌, ◌-◌, Bool, true, false, cond, not, ◌&&◌, ◌||◌, List, [], ◌∷◌, ◌++◌, map, eqb, leb, length, take, replicate, Err, Result}
 use Rattle.std.specs.Int.Bits.{bit_and}
 use Rattle.std.specs.Int.Count.{ones}
 use Rattle.rules.specs.Kind.{FILED_SPEED, GROUND_SPEED, POINT, FIX, TIME, CLOCK, ARRIVAL, LEVEL, TRACK_LEVEL, POSITION}
@@ -10,13 +10,12 @@ use Rattle.rules.specs.declared.Rule.TheVariants.{New, Old}
 use Rattle.fields.specs.declared.heads.MessageType.{MessageType}
 use Rattle.fields.specs.declared.heads.MessageType.TheVariants.{Af, Az, Dz, Fz, Rz, Tz, Uz, Rt, To, Hb}
 use Rattle.table.specs.declared.kinds.Value.{Value}
-use Rattle.table.specs.declared.walk.Answer.{Answer}
-use Rattle.table.specs.declared.walk.Answer.TheVariants.{Refused}
 use Rattle.table.specs.declared.walk.Fault.TheVariants.{Spacing}
 use Rattle.table.specs.Amends.{mark_for}
 use Rattle.table.specs.Field.{AMENDMENT, IDENT, TZ_IDENT, AIRCRAFT, ROUTE, PLAN_TIME, CONTENT, kind_by}
 use Rattle.table.specs.Spacing.{fields_of, fields_in}
 use Rattle.table.specs.Read.{answer_of, values_of, route_of, route_at}
+use Rattle.table.specs.declared.walk.Fault.{Fault}
 
 -- "an amendment is two fields: a number .. and its content"
 abbrev pub amendments : ℕ → List ℕ
@@ -85,8 +84,8 @@ unfoldable pub count_in : List ℕ → ℕ
 count_in s = length (fields_in (fields_of s))
 
 -- a body read by its type's table
-unfoldable pub answer_by : Rule → MessageType → List ℕ → Answer
-answer_by ρ t s = cond (is_count t (count_in s)) (answer_of (kinds_of ρ t (count_in s)) s) (Refused Spacing)
+unfoldable pub answer_by : Rule → MessageType → List ℕ → Result (Bool × ℕ) Fault
+answer_by ρ t s = cond (is_count t (count_in s)) (answer_of (kinds_of ρ t (count_in s)) s) (Err Spacing)
 
 unfoldable pub values_by : Rule → MessageType → List ℕ → List Value
 values_by ρ t s = cond (is_count t (count_in s)) (values_of (kinds_of ρ t (count_in s)) s) []

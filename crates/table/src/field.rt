@@ -10,50 +10,50 @@ ghost use Rattle.text.specs.Text.{text_of, written_next, written_bytes};
 
 use crate::kinds;
 use crate::kinds::{
-    AIRCRAFT, AMENDMENT, CONTENT, FieldRead, IDENT, OLD_AIRCRAFT, OLD_CONTENT, PLAN_TIME, ROUTE,
+    AIRCRAFT, AMENDMENT, CONTENT, IDENT, NotRead, OLD_AIRCRAFT, OLD_CONTENT, PLAN_TIME, ROUTE,
     TZ_IDENT, Value,
 };
-use fields::aircraft::{Aircraft, AircraftRead};
+use fields::aircraft::Aircraft;
 use fields::flight::{ComputerNumber, Key};
-use fields::idents::{Ident, IdentRead};
-use fields::plan::{Time, TimeRead};
+use fields::idents::Ident;
+use fields::plan::Time;
 use fields::words;
+use text::NotWritten;
 use text::writing::put_bytes;
-use text::{Packed, Written};
 
-fn read_ident(s: &[u8]) -> FieldRead
+fn read_ident(s: &[u8]) -> Result<Value, NotRead>
     ensures { result ≡ of_ident (ident_of s.now) }
 {
-    let IdentRead::Read(ident) = Ident::read(s) else {
-        return FieldRead::Nothing;
+    let Some(ident) = Ident::read(s) else {
+        return Err(NotRead::Nothing);
     };
-    FieldRead::Read(Value {
+    Ok(Value {
         a: ident.key.0,
         b: ident.number.0,
         c: 0,
     })
 }
 
-fn read_tz_ident(s: &[u8]) -> FieldRead
+fn read_tz_ident(s: &[u8]) -> Result<Value, NotRead>
     ensures { result ≡ of_ident (tz_ident_of s.now) }
 {
-    let IdentRead::Read(ident) = Ident::read_tz(s) else {
-        return FieldRead::Nothing;
+    let Some(ident) = Ident::read_tz(s) else {
+        return Err(NotRead::Nothing);
     };
-    FieldRead::Read(Value {
+    Ok(Value {
         a: ident.key.0,
         b: ident.number.0,
         c: 0,
     })
 }
 
-fn read_aircraft(s: &[u8]) -> FieldRead
+fn read_aircraft(s: &[u8]) -> Result<Value, NotRead>
     ensures { result ≡ of_aircraft (aircraft_by New s.now) }
 {
-    let AircraftRead::Read(aircraft) = Aircraft::read(s) else {
-        return FieldRead::Nothing;
+    let Some(aircraft) = Aircraft::read(s) else {
+        return Err(NotRead::Nothing);
     };
-    FieldRead::Read(Value {
+    Ok(Value {
         a: aircraft.prefix,
         b: aircraft.model,
         c: aircraft.letter,
@@ -61,16 +61,16 @@ fn read_aircraft(s: &[u8]) -> FieldRead
 }
 
 // In the old feed an aircraft has no last letter.
-fn read_old_aircraft(s: &[u8]) -> FieldRead
+fn read_old_aircraft(s: &[u8]) -> Result<Value, NotRead>
     ensures { result ≡ of_aircraft (aircraft_by Old s.now) }
 {
-    let AircraftRead::Read(aircraft) = Aircraft::read(s) else {
-        return FieldRead::Nothing;
+    let Some(aircraft) = Aircraft::read(s) else {
+        return Err(NotRead::Nothing);
     };
     if aircraft.letter != 0 {
-        return FieldRead::Nothing;
+        return Err(NotRead::Nothing);
     }
-    FieldRead::Read(Value {
+    Ok(Value {
         a: aircraft.prefix,
         b: aircraft.model,
         c: 0,
@@ -78,22 +78,22 @@ fn read_old_aircraft(s: &[u8]) -> FieldRead
 }
 
 // A route is not kept: it stays a part of the line.
-fn read_route(s: &[u8]) -> FieldRead
+fn read_route(s: &[u8]) -> Result<Value, NotRead>
     ensures { result ≡ of_route (is_route s.now) }
 {
     if !rules::is_route(s) {
-        return FieldRead::Nothing;
+        return Err(NotRead::Nothing);
     }
-    FieldRead::Read(Value { a: 0, b: 0, c: 0 })
+    Ok(Value { a: 0, b: 0, c: 0 })
 }
 
-fn read_word(kind: u8, s: &[u8]) -> FieldRead
+fn read_word(kind: u8, s: &[u8]) -> Result<Value, NotRead>
     ensures { result ≡ of_word (word_of kind s.now) }
 {
-    let Packed::Text(word) = words::read(kind, s) else {
-        return FieldRead::Nothing;
+    let Some(word) = words::read(kind, s) else {
+        return Err(NotRead::Nothing);
     };
-    FieldRead::Read(Value {
+    Ok(Value {
         a: word,
         b: 0,
         c: 0,
@@ -101,7 +101,7 @@ fn read_word(kind: u8, s: &[u8]) -> FieldRead
 }
 
 // A field of a kind by itself.
-pub(crate) fn read_kind(kind: u8, s: &[u8]) -> FieldRead
+pub(crate) fn read_kind(kind: u8, s: &[u8]) -> Result<Value, NotRead>
     ensures { result ≡ read_kind kind s.now }
 {
     match kind {
@@ -115,17 +115,17 @@ pub(crate) fn read_kind(kind: u8, s: &[u8]) -> FieldRead
 }
 
 // An amendment's number that is not among the marks.
-fn read_number(marks: u8, s: &[u8]) -> FieldRead
+fn read_number(marks: u8, s: &[u8]) -> Result<Value, NotRead>
     ensures { result ≡ read_in AMENDMENT 0 marks s.now }
 {
     let mark = kinds::mark(s);
     if mark == 0 {
-        return FieldRead::Number;
+        return Err(NotRead::Number);
     }
     if marks & mark != 0 {
-        return FieldRead::Number;
+        return Err(NotRead::Number);
     }
-    FieldRead::Read(Value {
+    Ok(Value {
         a: mark as u64,
         b: 0,
         c: 0,
@@ -133,16 +133,16 @@ fn read_number(marks: u8, s: &[u8]) -> FieldRead
 }
 
 // The time of FZ and UZ: its own form first, then the E rule.
-fn read_plan_time(trace: u8, s: &[u8]) -> FieldRead
+fn read_plan_time(trace: u8, s: &[u8]) -> Result<Value, NotRead>
     ensures { result ≡ read_in PLAN_TIME trace 0 s.now }
 {
-    let TimeRead::Read(time) = Time::read(s) else {
-        return FieldRead::Nothing;
+    let Some(time) = Time::read(s) else {
+        return Err(NotRead::Nothing);
     };
     if !kinds::follows(PLAN_TIME, trace, 0, s) {
-        return FieldRead::Nothing;
+        return Err(NotRead::Nothing);
     }
-    FieldRead::Read(Value {
+    Ok(Value {
         a: time.0,
         b: 0,
         c: 0,
@@ -150,7 +150,7 @@ fn read_plan_time(trace: u8, s: &[u8]) -> FieldRead
 }
 
 // A field after the trace of the one before it, and the marks set so far.
-pub(crate) fn read_field(kind: u8, trace: u8, marks: u8, s: &[u8]) -> FieldRead
+pub(crate) fn read_field(kind: u8, trace: u8, marks: u8, s: &[u8]) -> Result<Value, NotRead>
     ensures { result ≡ read_in kind trace marks s.now }
 {
     match kind {
@@ -162,12 +162,12 @@ pub(crate) fn read_field(kind: u8, trace: u8, marks: u8, s: &[u8]) -> FieldRead
     }
 }
 
-fn put_ident(v: Value, out: &mut [u8], at: usize) -> Written
+fn put_ident(v: Value, out: &mut [u8], at: usize) -> Result<usize, NotWritten>
     ensures value { result ≡ written_next (is_ident_value (ident_in v) && is_two v) (ident_text (ident_in v)) out.old at }
     ensures out_after { out.new ≡ written_bytes (is_ident_value (ident_in v) && is_two v) (ident_text (ident_in v)) out.old at }
 {
     if v.c != 0 {
-        return Written::NoText;
+        return Err(NotWritten::NoText);
     }
     let ident = Ident {
         key: Key(v.a),
@@ -176,7 +176,7 @@ fn put_ident(v: Value, out: &mut [u8], at: usize) -> Written
     ident.put(out, at)
 }
 
-fn put_aircraft(v: Value, out: &mut [u8], at: usize) -> Written
+fn put_aircraft(v: Value, out: &mut [u8], at: usize) -> Result<usize, NotWritten>
     ensures value { result ≡ written_next (is_aircraft_value (aircraft_in v)) (aircraft_text (aircraft_in v)) out.old at }
     ensures out_after { out.new ≡ written_bytes (is_aircraft_value (aircraft_in v)) (aircraft_text (aircraft_in v)) out.old at }
 {
@@ -189,40 +189,46 @@ fn put_aircraft(v: Value, out: &mut [u8], at: usize) -> Written
 }
 
 // The route itself stands beside its value, which keeps nothing.
-fn put_route(v: Value, route: &[u8], out: &mut [u8], at: usize) -> Written
+fn put_route(v: Value, route: &[u8], out: &mut [u8], at: usize) -> Result<usize, NotWritten>
     ensures value { result ≡ written_next (is_route route.now && eqb v.a 0 && is_one v) route.now out.old at }
     ensures out_after { out.new ≡ written_bytes (is_route route.now && eqb v.a 0 && is_one v) route.now out.old at }
 {
     if !rules::is_route(route) {
-        return Written::NoText;
+        return Err(NotWritten::NoText);
     }
     if v.a != 0 {
-        return Written::NoText;
+        return Err(NotWritten::NoText);
     }
     if v.b != 0 {
-        return Written::NoText;
+        return Err(NotWritten::NoText);
     }
     if v.c != 0 {
-        return Written::NoText;
+        return Err(NotWritten::NoText);
     }
     put_bytes(route, out, at)
 }
 
-fn put_word(kind: u8, v: Value, out: &mut [u8], at: usize) -> Written
+fn put_word(kind: u8, v: Value, out: &mut [u8], at: usize) -> Result<usize, NotWritten>
     ensures value { result ≡ written_next (is_word kind v.a && is_one v) (text_of v.a) out.old at }
     ensures out_after { out.new ≡ written_bytes (is_word kind v.a && is_one v) (text_of v.a) out.old at }
 {
     if v.b != 0 {
-        return Written::NoText;
+        return Err(NotWritten::NoText);
     }
     if v.c != 0 {
-        return Written::NoText;
+        return Err(NotWritten::NoText);
     }
     words::put(kind, v.a, out, at)
 }
 
 // A value of a kind by itself.
-fn put_kind(kind: u8, v: Value, route: &[u8], out: &mut [u8], at: usize) -> Written
+fn put_kind(
+    kind: u8,
+    v: Value,
+    route: &[u8],
+    out: &mut [u8],
+    at: usize,
+) -> Result<usize, NotWritten>
     ensures value { result ≡ written_next (is_kind_value kind route.now v) (shown_kind kind route.now v) out.old at }
     ensures out_after { out.new ≡ written_bytes (is_kind_value kind route.now v) (shown_kind kind route.now v) out.old at }
 {
@@ -230,14 +236,14 @@ fn put_kind(kind: u8, v: Value, route: &[u8], out: &mut [u8], at: usize) -> Writ
         IDENT => put_ident(v, out, at),
         TZ_IDENT => {
             if v.b == 0 {
-                return Written::NoText;
+                return Err(NotWritten::NoText);
             }
             put_ident(v, out, at)
         }
         AIRCRAFT => put_aircraft(v, out, at),
         OLD_AIRCRAFT => {
             if v.c != 0 {
-                return Written::NoText;
+                return Err(NotWritten::NoText);
             }
             put_aircraft(v, out, at)
         }
@@ -263,19 +269,26 @@ fn number(mark: u64) -> [u8; 2]
     }
 }
 
-fn put_mark(mark: u64, out: &mut [u8], at: usize) -> Written
+fn put_mark(mark: u64, out: &mut [u8], at: usize) -> Result<usize, NotWritten>
     ensures value { result ≡ written_next (is_mark mark) (mark_text mark) out.old at }
     ensures out_after { out.new ≡ written_bytes (is_mark mark) (mark_text mark) out.old at }
 {
     let digits = number(mark);
     if digits[0] == 0 {
-        return Written::NoText;
+        return Err(NotWritten::NoText);
     }
     put_bytes(&digits, out, at)
 }
 
 // A value after the trace of the field before it.
-pub fn put_field(kind: u8, trace: u8, v: Value, route: &[u8], out: &mut [u8], at: usize) -> Written
+pub fn put_field(
+    kind: u8,
+    trace: u8,
+    v: Value,
+    route: &[u8],
+    out: &mut [u8],
+    at: usize,
+) -> Result<usize, NotWritten>
     ensures value { result ≡ written_next (is_value kind trace route.now v) (shown kind trace route.now v) out.old at }
     ensures out_after { out.new ≡ written_bytes (is_value kind trace route.now v) (shown kind trace route.now v) out.old at }
 {
@@ -283,10 +296,10 @@ pub fn put_field(kind: u8, trace: u8, v: Value, route: &[u8], out: &mut [u8], at
         return put_kind(kinds::plain(kind, trace), v, route, out, at);
     }
     if v.b != 0 {
-        return Written::NoText;
+        return Err(NotWritten::NoText);
     }
     if v.c != 0 {
-        return Written::NoText;
+        return Err(NotWritten::NoText);
     }
     put_mark(v.a, out, at)
 }

@@ -71,9 +71,8 @@ pub struct Value {
 }
 
 // A field that is read; one without a reading (answer 9); a number that is none of the eight or came before (10).
-#[derive(Clone, Copy)]
-pub enum FieldRead {
-    Read(Value),
+#[derive(Clone, Copy, PartialEq, Eq)]
+pub enum NotRead {
     Nothing,
     Number,
 }

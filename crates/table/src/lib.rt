@@ -17,7 +17,6 @@ ghost use Rattle.fields.specs.declared.heads.MessageType.TheVariants as type;
 ghost use Rattle.table.specs.Plan.{is_long_plan};
 
 use crate::kinds::MARK_10;
-use crate::spacing::Counted;
 use crate::walk::TableRead;
 use fields::heads::MessageType;
 use rules::{LONGEST_PLAN, OLD_TYPE_AT, Rule, TYPE_AT};
@@ -105,7 +104,7 @@ pub fn read(rule: Rule, t: MessageType, body: &[u8]) -> TableRead
     ensures answer_value { result.answer ≡ answer_by rule t body.now }
     ensures values_value { result.values ≡ padded (values_by rule t body.now) }
 {
-    let Counted::Fields(n, trailing) = spacing::count(body) else {
+    let Some((n, trailing)) = spacing::count(body) else {
         return walk::refused();
     };
     if !is_count(t, n) {

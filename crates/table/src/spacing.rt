@@ -5,13 +5,6 @@ ghost use Rattle.table.specs.Spacing.{count_of, end_of};
 use shapes::find;
 use shapes::sweeps::{has_twice, how_many};
 
-// How many fields, and whether a space stands at the end.
-#[derive(Clone, Copy)]
-pub enum Counted {
-    Fields(usize, bool),
-    Wrong,
-}
-
 // The index of the first space from j on, or the body's length; j where that is past the end.
 pub(crate) fn field_end(body: &[u8], j: usize) -> usize
     ensures { result ≡ end_of body.now j }
@@ -23,18 +16,18 @@ pub(crate) fn field_end(body: &[u8], j: usize) -> usize
     j + m
 }
 
-pub(crate) fn count(body: &[u8]) -> Counted
+pub(crate) fn count(body: &[u8]) -> Option<(usize, bool)>
     ensures { result ≡ count_of body.now }
 {
     if body.len() == 0 {
-        return Counted::Fields(0, false);
+        return Some((0, false));
     }
     if body[0] != b' ' {
-        return Counted::Wrong;
+        return None;
     }
     if has_twice(b' ', body) {
-        return Counted::Wrong;
+        return None;
     }
     let last = body.len() - 1;
-    Counted::Fields(how_many(b' ', &body[..last]), body[last] == b' ')
+    Some((how_many(b' ', &body[..last]), body[last] == b' '))
 }

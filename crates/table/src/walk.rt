@@ -1,12 +1,10 @@
 // A body of fields by a list of their kinds: read, and its route found. Document 01's table is such a list for each type.
-ghost use Rattle.std.specs.Prelude.{◌≡◌, []};
+ghost use Rattle.std.specs.Prelude.{◌≡◌, [], Err};
 ghost use Rattle.table.specs.Read.{Ready, padded, fault_at, answer_of, values_of, route_of, route_at};
 ghost use Rattle.shapes.specs.Picture.{starts_at};
-ghost use Rattle.table.specs.declared.walk.Answer.TheVariants.{Refused};
 ghost use Rattle.table.specs.declared.walk.Fault.TheVariants.{Spacing};
 
-use crate::kinds::{FieldRead, ROUTE, Value};
-use crate::spacing::Counted;
+use crate::kinds::{NotRead, ROUTE, Value};
 use crate::{field, kinds, spacing};
 
 // What is wrong with a body: its spacing or its count of fields (answer 8), or the first field that is at fault, with its
@@ -18,38 +16,31 @@ pub enum Fault {
     Number(usize),
 }
 
-// A body that is taken, whether a space stands at its end, and the marks of its amendments; or its fault.
-#[derive(Clone, Copy)]
-pub enum Answer {
-    Taken(bool, u8),
-    Refused(Fault),
-}
-
 // The answer, and the values of the fields that were read; after these only zeros.
 #[derive(Clone, Copy)]
 pub struct TableRead {
-    pub answer: Answer,
+    pub answer: Result<(bool, u8), Fault>,
     pub values: [Value; 19],
 }
 
 // What a field that is not read makes of the whole body.
-fn as_fault(read: FieldRead, place: usize) -> Fault
+fn as_fault(read: Result<Value, NotRead>, place: usize) -> Fault
     ensures { result ≡ fault_at place read }
 {
     match read {
-        FieldRead::Nothing => Fault::Field(place),
-        FieldRead::Number => Fault::Number(place),
-        FieldRead::Read(_) => Fault::Spacing,
+        Err(NotRead::Nothing) => Fault::Field(place),
+        Err(NotRead::Number) => Fault::Number(place),
+        Ok(_) => Fault::Spacing,
     }
 }
 
 // The spacing or the count is wrong.
 pub(crate) fn refused() -> TableRead
-    ensures answer_value { result.answer ≡ Refused Spacing }
+    ensures answer_value { result.answer ≡ Err Spacing }
     ensures values_value { result.values ≡ padded [] }
 {
     TableRead {
-        answer: Answer::Refused(Fault::Spacing),
+        answer: Err(Fault::Spacing),
         values: [Value { a: 0, b: 0, c: 0 }; 19],
     }
 }
@@ -70,9 +61,9 @@ pub(crate) fn read(kinds: &[u8], body: &[u8], trailing: bool) -> TableRead
         let e = spacing::field_end(body, j);
         let kind = kinds[k];
         let read = field::read_field(kind, trace, marks, &body[j..e]);
-        let FieldRead::Read(value) = read else {
+        let Ok(value) = read else {
             return TableRead {
-                answer: Answer::Refused(as_fault(read, k + 1)),
+                answer: Err(as_fault(read, k + 1)),
                 values,
             };
         };
@@ -83,7 +74,7 @@ pub(crate) fn read(kinds: &[u8], body: &[u8], trailing: bool) -> TableRead
         k += 1;
     }
     TableRead {
-        answer: Answer::Taken(trailing, marks),
+        answer: Ok((trailing, marks)),
         values,
     }
 }
@@ -93,7 +84,7 @@ pub(crate) fn route<'a>(kinds: &[u8], body: &'a [u8]) -> &'a [u8]
     ensures result_value { result.now ≡ route_of kinds.now body.now }
     ensures ref_ptr_value { result.ref_ptr ≡ starts_at body.entry.ref_ptr (route_at kinds.now body.now) }
 {
-    let Counted::Fields(n, _) = spacing::count(body) else {
+    let Some((n, _)) = spacing::count(body) else {
         return &body[..0];
     };
     let mut at: usize = 0;

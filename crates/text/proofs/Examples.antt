@@ -1,5 +1,6 @@
 -- What the promises of `text` require on inputs written out, and so wrong answers that they do not allow: of each, `Post` is the function's
 -- `ensures` as it stands in the source, r any result that meets it, s the state at exit. Assumes nothing.
+use Rattle.std.specs.Prelude.{None, Ok, Some}
 use Prim.Native.Nat.{◌+◌, ◌*◌, ◌^◌}
 use mathlib.Core.Bool.{true, false}
 use mathlib.Core.Path.{◌≡◌, ap, ◌∙◌}
@@ -10,10 +11,6 @@ use Rattle.text.specs.Decimal.{width_by, decimal}
 use Rattle.text.specs.Number.{is_digit_to, digit_of, number_of, is_numeral, read_number, padded}
 use Rattle.text.specs.Place.{value, places, digits, tight}
 use Rattle.text.specs.Text.{packed, spliced, has_room, written_next, written_bytes, text_of, is_packed, size_of, slashed, join_of}
-use Rattle.text.specs.declared.Numeral.TheVariants.{Value, Nothing}
-use Rattle.text.specs.declared.Packed.TheVariants.{Text, Nothing as writing-Nothing}
-use Rattle.text.specs.declared.Sized.TheVariants.{Bytes, NotOne}
-use Rattle.text.specs.declared.Written.TheVariants.{Next}
 use Rattle.text.proofs.decimals.put.Reads as put
 use Rattle.text.proofs.decimals.size.Reads as size
 use Rattle.text.proofs.number.Reads as number
@@ -35,12 +32,12 @@ unfolding packed value code_of is_digit is_letter
 pack_known_next_place κs a r s p e = p ∙ ap packed e
 
 -- to the base ten A is no digit
-pub number_base_digit : (κs : _) (a : _) (r : _) (s : _) → number.Post κs a r s → a.0.now ≡ bytes "1A" → a.1.0 ≡ 10 → r ≡ Nothing
+pub number_base_digit : (κs : _) (a : _) (r : _) (s : _) → number.Post κs a r s → a.0.now ≡ bytes "1A" → a.1.0 ≡ 10 → r ≡ None
 unfolding read_number is_numeral is_digit_to all code_of is_digit is_letter
 number_base_digit κs a r s p e b = p ∙ rw (e, b)
 
 -- 9 is one, and zeros in front count nothing
-pub number_no_last_digit : (κs : _) (a : _) (r : _) (s : _) → number.Post κs a r s → a.0.now ≡ bytes "0904" → a.1.0 ≡ 10 → r ≡ Value 904
+pub number_no_last_digit : (κs : _) (a : _) (r : _) (s : _) → number.Post κs a r s → a.0.now ≡ bytes "0904" → a.1.0 ≡ 10 → r ≡ Some 904
 unfolding read_number is_numeral is_digit_to number_of digit_of value all code_of is_digit is_letter
 number_no_last_digit κs a r s p e b = p ∙ rw (e, b)
 
@@ -64,19 +61,19 @@ put_last_digit_again κs a r s p n o at = p.1 ∙ rw (n, o, at)
 
 -- the answer is the place after them
 pub decimals_put_next_is_start : (κs : _) (a : _) (r : _) (s : _) → put.Post κs a r s
-    → a.0 ≡ 407 → a.1.0.now ≡ bytes "......" → a.1.1.0 ≡ 1 → r ≡ Next 4
+    → a.0 ≡ 407 → a.1.0.now ≡ bytes "......" → a.1.1.0 ≡ 1 → r ≡ Ok 4
 unfolding written_next has_room decimal padded places width_by
 decimals_put_next_is_start κs a r s p n o at = p.0 ∙ rw (n, o, at)
 
 -- ---- writing
 
 -- 38 to the 12th is the number of no text
-pub size_of_top : (κs : _) (a : _) (r : _) (s : _) → writing-size.Post κs a r s → a.0 ≡ 38 ^ 12 → r ≡ NotOne
+pub size_of_top : (κs : _) (a : _) (r : _) (s : _) → writing-size.Post κs a r s → a.0 ≡ 38 ^ 12 → r ≡ None
 unfolding size_of is_packed
 size_of_top κs a r s p e = p ∙ ap size_of e
 
 -- each byte counts one: AZ has two
-pub size_by_two : (κs : _) (a : _) (r : _) (s : _) → writing-size.Post κs a r s → a.0 ≡ 11 * 38 ^ 11 + 36 * 38 ^ 10 → r ≡ Bytes 2
+pub size_by_two : (κs : _) (a : _) (r : _) (s : _) → writing-size.Post κs a r s → a.0 ≡ 11 * 38 ^ 11 + 36 * 38 ^ 10 → r ≡ Some 2
 unfolding size_of is_packed tight text_of digits
 size_by_two κs a r s p e = p ∙ ap size_of e
 
@@ -96,7 +93,7 @@ put_elsewhere κs a r s p t o at = p.1 ∙ rw (t, o, at)
 
 -- the answer is the place after it
 pub writing_put_next_is_start : (κs : _) (a : _) (r : _) (s : _) → writing-put.Post κs a r s
-    → a.0 ≡ 11 * 38 ^ 11 + 36 * 38 ^ 10 → a.1.0.now ≡ bytes "......" → a.1.1.0 ≡ 3 → r ≡ Next 5
+    → a.0 ≡ 11 * 38 ^ 11 + 36 * 38 ^ 10 → a.1.0.now ≡ bytes "......" → a.1.1.0 ≡ 3 → r ≡ Ok 5
 unfolding written_next has_room is_packed tight text_of digits
 writing_put_next_is_start κs a r s p t o at = p.0 ∙ rw (t, o, at)
 
@@ -108,18 +105,18 @@ put_bytes_first_again κs a r s p b o at = p.1 ∙ rw (b, o, at)
 
 -- the answer is the place after them
 pub put_bytes_next_is_start : (κs : _) (a : _) (r : _) (s : _) → put-bytes.Post κs a r s
-    → a.0.now ≡ bytes "a b" → a.1.0.now ≡ bytes "....." → a.1.1.0 ≡ 1 → r ≡ Next 4
+    → a.0.now ≡ bytes "a b" → a.1.0.now ≡ bytes "....." → a.1.1.0 ≡ 1 → r ≡ Ok 4
 unfolding written_next has_room
 put_bytes_next_is_start κs a r s p b o at = p.0 ∙ rw (b, o, at)
 
 -- the slash has a place of its own, so that 6 and 6 bytes are one too many
 pub join_over_slash : (κs : _) (a : _) (r : _) (s : _) → join.Post κs a r s
-    → a.0 ≡ packed (bytes "AAL123") → a.1.0 ≡ packed (bytes "AAL123") → r ≡ writing-Nothing
+    → a.0 ≡ packed (bytes "AAL123") → a.1.0 ≡ packed (bytes "AAL123") → r ≡ None
 unfolding join_of slashed is_packed tight text_of digits packed value code_of byte_of is_digit is_letter
 join_over_slash κs a r s p x y = p ∙ rw (x, y)
 
 -- both texts are in it
 pub join_first_alone : (κs : _) (a : _) (r : _) (s : _) → join.Post κs a r s
-    → a.0 ≡ packed (bytes "AAL123") → a.1.0 ≡ packed (bytes "47B") → r ≡ Text (packed (bytes "AAL123/47B"))
+    → a.0 ≡ packed (bytes "AAL123") → a.1.0 ≡ packed (bytes "47B") → r ≡ Some (packed (bytes "AAL123/47B"))
 unfolding join_of slashed is_packed tight text_of digits packed value code_of byte_of is_digit is_letter
 join_first_alone κs a r s p x y = p ∙ rw (x, y)

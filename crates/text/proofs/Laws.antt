@@ -1,4 +1,5 @@
 -- THE LAWS of short texts: a text and its number give each other. What `pack`, `size` and `put` find and do. Assumes nothing.
+use Rattle.std.specs.Prelude.{Err, None, Ok, Some}
 use mathlib.Core.Path.{◌≡◌, refl, sym, ap, ◌∙◌}
 use mathlib.Core.Bool.{Bool, true, false, not}
 use mathlib.Core.List.{List, [], ◌∷◌, map}
@@ -12,11 +13,10 @@ use Rattle.text.specs.Class.{all, is_text_byte}
 use Rattle.text.specs.Code.{code_of, byte_of}
 use Rattle.text.specs.Place.{value, digits, tight, all_in}
 use Rattle.text.specs.Text.{packed, text_of, is_text, is_packed, size_of, has_room, spliced, written_next, written_bytes}
-use Rattle.text.specs.declared.Sized.TheVariants.{Bytes, NotOne}
-use Rattle.text.specs.declared.Written.TheVariants.{Next, NoRoom, NoText}
 use Rattle.text.proofs.Logic.{and_left, and_right, so, not_so, same_test}
 use Rattle.text.proofs.Codes.{code_byte, byte_code, text_all}
 use Rattle.text.proofs.Places.{all_in_cons, digits_value, tight_value, value_lt, value_digits, digits_in, length_digits}
+use Rattle.text.specs.declared.NotWritten.TheVariants.{NoRoom, NoText}
 
 codes_bytes : (ds : List ℕ) → all_in 1 37 ds ≡ true → map code_of (map byte_of ds) ≡ ds
 codes_bytes [] e = refl
@@ -80,7 +80,7 @@ packed_one s t p q e = sym (text_packed s p) ∙ ap text_of e ∙ text_packed t 
 
 -- ---- what `size` finds
 
-pub size_known : (t : ℕ) {n : ℕ} → size_of t ≡ Bytes n → (is_packed t ≡ true) × (n ≡ length (text_of t))
+pub size_known : (t : ℕ) {n : ℕ} → size_of t ≡ Some n → (is_packed t ≡ true) × (n ≡ length (text_of t))
 unfolding size_of
 size_known t {n} e = go (is_packed t) refl
   where
@@ -88,7 +88,7 @@ size_known t {n} e = go (is_packed t) refl
     go true q = (q, (cc))
     go false q = ((cc), (cc))
 
-pub size_none : (t : ℕ) → size_of t ≡ NotOne → is_packed t ≡ false
+pub size_none : (t : ℕ) → size_of t ≡ None → is_packed t ≡ false
 unfolding size_of
 size_none t e = go (is_packed t) refl
   where
@@ -105,55 +105,55 @@ room_left n len at h =
     (λ e. le-leb n (len - at) (omega (arith, leb-true (at + n) len e)))
 
 module _ (vs out : List ℕ) (at : ℕ) where
-  pub no_text : {ok : Bool} → ok ≡ false → (NoText ≡ written_next ok vs out at) × (out ≡ written_bytes ok vs out at)
+  pub no_text : {ok : Bool} → ok ≡ false → ((Err NoText) ≡ written_next ok vs out at) × (out ≡ written_bytes ok vs out at)
   unfolding written_next written_bytes
   no_text e = (rw e, rw e)
 
-  pub no_room : {ok : Bool} → ok ≡ true → length out < at + length vs → (NoRoom ≡ written_next ok vs out at) × (out ≡ written_bytes ok vs out at)
+  pub no_room : {ok : Bool} → ok ≡ true → length out < at + length vs → ((Err NoRoom) ≡ written_next ok vs out at) × (out ≡ written_bytes ok vs out at)
   unfolding written_next written_bytes has_room
   no_room e h = let f = lt-leb (at + length vs) (length out) h in (rw (e, f), rw (e, f))
 
-  pub has_room_lem : {ok : Bool} → ok ≡ true → at + length vs ≤ length out → (Next (at + length vs) ≡ written_next ok vs out at) × (spliced out at vs ≡ written_bytes ok vs out at)
+  pub has_room_lem : {ok : Bool} → ok ≡ true → at + length vs ≤ length out → (Ok (at + length vs) ≡ written_next ok vs out at) × (spliced out at vs ≡ written_bytes ok vs out at)
   unfolding written_next written_bytes has_room
   has_room_lem e h = let f = le-leb (at + length vs) (length out) h in (rw (e, f), rw (e, f))
 
   -- the same from what `has_room` answered for n, the size of vs
   module _ {n : ℕ} {r : Bool} (size : n ≡ length vs) (told : r ≡ leb (at + n) (length out)) where
-    pub no_room_told : {ok : Bool} → ok ≡ true → not r ≡ true → (NoRoom ≡ written_next ok vs out at) × (out ≡ written_bytes ok vs out at)
+    pub no_room_told : {ok : Bool} → ok ≡ true → not r ≡ true → ((Err NoRoom) ≡ written_next ok vs out at) × (out ≡ written_bytes ok vs out at)
     no_room_told e f = no_room e (omega (arith, leb-false (at + n) (length out) (not_so told f)))
 
     pub room_told : not r ≡ false → at + length vs ≤ length out
     room_told f = omega (arith, leb-true (at + n) (length out) (so told f))
 
-  pub next_known : {ok : Bool} {n : ℕ} → written_next ok vs out at ≡ Next n → (ok ≡ true) × (n ≡ at + length vs) × (at + length vs ≤ length out)
+  pub next_known : {ok : Bool} {n : ℕ} → written_next ok vs out at ≡ Ok n → (ok ≡ true) × (n ≡ at + length vs) × (at + length vs ≤ length out)
   unfolding written_next has_room
   next_known {ok} {n} e = go ok refl (leb (at + length vs) (length out)) refl
     where
       go : (b : Bool) → ok ≡ b → (d : Bool) → leb (at + length vs) (length out) ≡ d → (ok ≡ true) × (n ≡ at + length vs) × (at + length vs ≤ length out)
       go true q true z = (q, (cc), leb-true (at + length vs) (length out) z)
-      go true q false z = let f : NoRoom ≡ Next n = rw (q, z) at e in ((cc), (cc), absurd (let z : ◌≡◌ {A = ℕ} 0 1 = cc in omega arith))
-      go false q d z = let f : NoText ≡ Next n = rw q at e in ((cc), (cc), absurd (let z : ◌≡◌ {A = ℕ} 0 1 = cc in omega arith))
+      go true q false z = let f : (Err NoRoom) ≡ Ok n = rw (q, z) at e in ((cc), (cc), absurd (let z : ◌≡◌ {A = ℕ} 0 1 = cc in omega arith))
+      go false q d z = let f : (Err NoText) ≡ Ok n = rw q at e in ((cc), (cc), absurd (let z : ◌≡◌ {A = ℕ} 0 1 = cc in omega arith))
 
-  pub no_room_known : {ok : Bool} → written_next ok vs out at ≡ NoRoom → (ok ≡ true) × (length out < at + length vs)
+  pub no_room_known : {ok : Bool} → written_next ok vs out at ≡ Err NoRoom → (ok ≡ true) × (length out < at + length vs)
   unfolding written_next has_room
   no_room_known {ok} e = go ok refl (leb (at + length vs) (length out)) refl
     where
       go : (b : Bool) → ok ≡ b → (d : Bool) → leb (at + length vs) (length out) ≡ d → (ok ≡ true) × (length out < at + length vs)
-      go true q true z = let f : Next (at + length vs) ≡ NoRoom = rw (q, z) at e in ((cc), absurd (let z : ◌≡◌ {A = ℕ} 0 1 = cc in omega arith))
+      go true q true z = let f : Ok (at + length vs) ≡ Err NoRoom = rw (q, z) at e in ((cc), absurd (let z : ◌≡◌ {A = ℕ} 0 1 = cc in omega arith))
       go true q false z = (q, leb-false (at + length vs) (length out) z)
-      go false q d z = let f : NoText ≡ NoRoom = rw q at e in ((cc), absurd (let z : ◌≡◌ {A = ℕ} 0 1 = cc in omega arith))
+      go false q d z = let f : (Err NoText) ≡ Err NoRoom = rw q at e in ((cc), absurd (let z : ◌≡◌ {A = ℕ} 0 1 = cc in omega arith))
 
-  pub no_text_known : {ok : Bool} → written_next ok vs out at ≡ NoText → ok ≡ false
+  pub no_text_known : {ok : Bool} → written_next ok vs out at ≡ Err NoText → ok ≡ false
   unfolding written_next has_room
   no_text_known {ok} e = go ok refl (leb (at + length vs) (length out)) refl
     where
       go : (b : Bool) → ok ≡ b → (d : Bool) → leb (at + length vs) (length out) ≡ d → ok ≡ false
-      go true q true z = let f : Next (at + length vs) ≡ NoText = rw (q, z) at e in cc
-      go true q false z = let f : NoRoom ≡ NoText = rw (q, z) at e in cc
+      go true q true z = let f : Ok (at + length vs) ≡ Err NoText = rw (q, z) at e in cc
+      go true q false z = let f : (Err NoRoom) ≡ Err NoText = rw (q, z) at e in cc
       go false q d z = q
 
 -- a text written at the start of twelve bytes stands there, and has room
-module _ (t n : ℕ) (room last : List ℕ) (twelve : length room ≡ 12) (told : written_next (is_packed t) (text_of t) room 0 ≡ Next n) (is : last ≡ written_bytes (is_packed t) (text_of t) room 0) where
+module _ (t n : ℕ) (room last : List ℕ) (twelve : length room ≡ 12) (told : written_next (is_packed t) (text_of t) room 0 ≡ Ok n) (is : last ≡ written_bytes (is_packed t) (text_of t) room 0) where
   pub shown_packed : is_packed t ≡ true
   shown_packed = (next_known (text_of t) room 0 told).0
 
@@ -171,5 +171,5 @@ pub text_short : (t : ℕ) → is_packed t ≡ true → length (text_of t) ≤ 1
 text_short t e = text_length (text_of t) (text_is t e)
 
 -- twelve bytes have room for every text
-pub twelve_room : (t : ℕ) (room : List ℕ) → length room ≡ 12 → written_next (is_packed t) (text_of t) room 0 ≡ NoRoom → ⊥
+pub twelve_room : (t : ℕ) (room : List ℕ) → length room ≡ 12 → written_next (is_packed t) (text_of t) room 0 ≡ Err NoRoom → ⊥
 twelve_room t room h e = let k = no_room_known (text_of t) room 0 e in omega (arith, text_short t k.0, k.1)

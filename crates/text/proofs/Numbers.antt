@@ -1,5 +1,6 @@
 -- THE ONE FACT of digits, over base and width: the number of the digits, and the digits of the number, zeros in front kept.
 -- Assumes nothing.
+use Rattle.std.specs.Prelude.{None, Some}
 use mathlib.Core.Path.{◌≡◌, refl, sym, ◌∙◌}
 use mathlib.Core.Bool.{Bool, true, false, cond}
 use mathlib.Core.List.{List, [], ◌∷◌, map}
@@ -10,7 +11,6 @@ use Rattle.text.specs.Class.{all}
 use Rattle.text.specs.Code.{code_of, byte_of}
 use Rattle.text.specs.Place.{places, all_in}
 use Rattle.text.specs.Number.{is_digit_to, digit_of, number_of, padded, is_numeral, read_number}
-use Rattle.text.specs.declared.Numeral.TheVariants.{Value, Nothing}
 use Rattle.text.proofs.Codes.{byte_code, code_byte, digits_all}
 use Rattle.text.proofs.Places.{all_in_cons, all_in_more, value_lt, places_value, value_places, places_in, length-places}
 
@@ -79,18 +79,18 @@ module _ (hi : ℕ) (few : suc hi ≤ 36) (w n : ℕ) (h : n < suc hi ^ w) where
 
 -- ---- a number that is told where a test holds, as `number` tells it
 
-pub told_known : (b : Bool) (k : ℕ) {n : ℕ} → cond b (Value k) Nothing ≡ Value n → (b ≡ true) × (n ≡ k)
+pub told_known : (b : Bool) (k : ℕ) {n : ℕ} → cond b (Some k) None ≡ Some n → (b ≡ true) × (n ≡ k)
 told_known true k e = (refl, (cc))
 told_known false k e = ((cc), (cc))
 
-pub told_none : (b : Bool) (k : ℕ) → cond b (Value k) Nothing ≡ Nothing → b ≡ false
+pub told_none : (b : Bool) (k : ℕ) → cond b (Some k) None ≡ None → b ≡ false
 told_none true k e = cc
 told_none false k e = refl
 
-pub number_known : (B : ℕ) (s : List ℕ) {n : ℕ} → read_number B s ≡ Value n → (is_numeral B s ≡ true) × (n ≡ number_of B s)
+pub number_known : (B : ℕ) (s : List ℕ) {n : ℕ} → read_number B s ≡ Some n → (is_numeral B s ≡ true) × (n ≡ number_of B s)
 unfolding read_number
 number_known B s e = told_known (is_numeral B s) (number_of B s) e
 
-pub number_none : (B : ℕ) (s : List ℕ) → read_number B s ≡ Nothing → is_numeral B s ≡ false
+pub number_none : (B : ℕ) (s : List ℕ) → read_number B s ≡ None → is_numeral B s ≡ false
 unfolding read_number
 number_none B s e = told_none (is_numeral B s) (number_of B s) e

@@ -1,10 +1,8 @@
 -- Digits and the number they are, to any base up to 36 and of any width, leading zeros kept. Assumes nothing.
-use Rattle.std.specs.Prelude.{ℕ, suc, ◌-◌, Bool, cond, ◌&&◌, List, map, leb, length}
+use Rattle.std.specs.Prelude.{ℕ, suc, ◌-◌, Bool, cond, ◌&&◌, List, map, leb, length, None, Option, Some}
 use Rattle.text.specs.Class.{all}
 use Rattle.text.specs.Code.{code_of, byte_of}
 use Rattle.text.specs.Place.{value, places}
-use Rattle.text.specs.declared.Numeral.{Numeral}
-use Rattle.text.specs.declared.Numeral.TheVariants.{Value, Nothing}
 
 -- the byte is a digit to the base B: 0 to 9, then A, B ..
 unfoldable pub is_digit_to : ℕ → ℕ → Bool
@@ -25,5 +23,5 @@ padded B w n = map (λ d. byte_of (suc d)) (places B w n)
 unfoldable pub is_numeral : ℕ → List ℕ → Bool
 is_numeral B s = leb B 36 && leb (length s) 12 && all (is_digit_to B) s
 
-unfoldable pub read_number : ℕ → List ℕ → Numeral
-read_number B s = cond (is_numeral B s) (Value (number_of B s)) Nothing
+unfoldable pub read_number : ℕ → List ℕ → Option ℕ
+read_number B s = cond (is_numeral B s) (Some (number_of B s)) None

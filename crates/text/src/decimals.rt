@@ -3,7 +3,7 @@ ghost use Rattle.std.specs.Prelude.{◌≡◌, true, length};
 ghost use Rattle.text.specs.Text.{written_next, written_bytes};
 ghost use Rattle.text.specs.Decimal.{decimal};
 
-use crate::Written;
+use crate::NotWritten;
 use crate::writing::has_room;
 
 // How many digits n has.
@@ -20,13 +20,13 @@ pub fn size(n: u64) -> usize
 }
 
 // Writes the digits of n from place `at`, the last one first; without room it writes nothing.
-pub fn put(n: u64, out: &mut [u8], at: usize) -> Written
+pub fn put(n: u64, out: &mut [u8], at: usize) -> Result<usize, NotWritten>
     ensures value { result ≡ written_next true (decimal n) out.old at }
     ensures out_after { out.new ≡ written_bytes true (decimal n) out.old at }
 {
     let w = size(n);
     if !has_room(w, out.len(), at) {
-        return Written::NoRoom;
+        return Err(NotWritten::NoRoom);
     }
     let mut r = n;
     let mut k = w;
@@ -35,5 +35,5 @@ pub fn put(n: u64, out: &mut [u8], at: usize) -> Written
         out[at + k] = 48 + (r % 10) as u8;
         r = r / 10;
     }
-    Written::Next(at + w)
+    Ok(at + w)
 }

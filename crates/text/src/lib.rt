@@ -12,30 +12,11 @@ ghost use Rattle.text.specs.Code.{code_of};
 ghost use Rattle.text.specs.Number.{read_number};
 ghost use Rattle.text.specs.Text.{is_text, packed, pack_of};
 
-#[derive(Clone, Copy)]
-pub enum Packed {
-    Text(u64),
-    Nothing,
-}
-
-#[derive(Clone, Copy)]
-pub enum Sized {
-    Bytes(usize),
-    NotOne,
-}
-
 // What a writer answers: the place after what it wrote; no room from the given place; or nothing that can be written.
-#[derive(Clone, Copy)]
-pub enum Written {
-    Next(usize),
+#[derive(Clone, Copy, PartialEq, Eq)]
+pub enum NotWritten {
     NoRoom,
     NoText,
-}
-
-#[derive(Clone, Copy)]
-pub enum Numeral {
-    Value(u64),
-    Nothing,
 }
 
 // 38 to the 12th: one more than the largest packed text could be.
@@ -64,11 +45,11 @@ pub(crate) fn code(b: u8) -> u64
 }
 
 // The number of the text s, where s is one.
-pub(crate) fn pack(s: &[u8]) -> Packed
+pub(crate) fn pack(s: &[u8]) -> Option<u64>
     ensures { result ≡ pack_of s.now }
 {
     if s.len() > 12 {
-        return Packed::Nothing;
+        return None;
     }
     let mut n: u64 = 0;
     let mut w: u64 = TOP;
@@ -76,13 +57,13 @@ pub(crate) fn pack(s: &[u8]) -> Packed
     while i < s.len() {
         let c = code(s[i]);
         if c == 0 {
-            return Packed::Nothing;
+            return None;
         }
         w = w / 38;
         n += c * w;
         i += 1;
     }
-    Packed::Text(n)
+    Some(n)
 }
 
 // The code of a text byte.
@@ -116,27 +97,27 @@ pub fn pack_known(s: &[u8]) -> u64
 }
 
 // The number that at most 12 digits are, to a base of at most 36.
-pub fn number(s: &[u8], base: u64) -> Numeral
+pub fn number(s: &[u8], base: u64) -> Option<u64>
     ensures { result ≡ read_number base s.now }
 {
     if base > 36 {
-        return Numeral::Nothing;
+        return None;
     }
     if s.len() > 12 {
-        return Numeral::Nothing;
+        return None;
     }
     let mut n: u64 = 0;
     let mut i = 0;
     while i < s.len() {
         let c = code(s[i]);
         if c == 0 {
-            return Numeral::Nothing;
+            return None;
         }
         if c > base {
-            return Numeral::Nothing;
+            return None;
         }
         n = n * base + (c - 1);
         i += 1;
     }
-    Numeral::Value(n)
+    Some(n)
 }

@@ -3,7 +3,7 @@ ghost use Rattle.std.specs.Prelude.{◌≡◌, true, ◌+◌, ◌≤◌, leb, le
 ghost use Rattle.text.specs.Code.{byte_of};
 ghost use Rattle.text.specs.Text.{size_of, join_of, is_packed, text_of, spliced, written_next, written_bytes};
 
-use crate::{Packed, Sized, TOP, Written, pack};
+use crate::{NotWritten, TOP, pack};
 
 // The byte of a code.
 fn byte(d: u64) -> u8
@@ -20,11 +20,11 @@ fn byte(d: u64) -> u8
 }
 
 // How many bytes the text of t has, where t is the number of one.
-pub fn size(t: u64) -> Sized
+pub fn size(t: u64) -> Option<usize>
     ensures { result ≡ size_of t }
 {
     if t >= TOP {
-        return Sized::NotOne;
+        return None;
     }
     let mut r = t;
     let mut w: u64 = TOP;
@@ -32,12 +32,12 @@ pub fn size(t: u64) -> Sized
     while r > 0 {
         w = w / 38;
         if r < w {
-            return Sized::NotOne;
+            return None;
         }
         r = r % w;
         k += 1;
     }
-    Sized::Bytes(k)
+    Some(k)
 }
 
 // Whether n bytes have room from place `at` to the end of a buffer of len bytes; past that end even no bytes have.
@@ -70,59 +70,57 @@ fn write(t: u64, out: &mut [u8], at: usize) -> usize
 }
 
 // Writes the text of t from place `at`, and leaves every other byte as it is; where it refuses it writes nothing.
-pub fn put(t: u64, out: &mut [u8], at: usize) -> Written
+pub fn put(t: u64, out: &mut [u8], at: usize) -> Result<usize, NotWritten>
     ensures value { result ≡ written_next (is_packed t) (text_of t) out.old at }
     ensures out_after { out.new ≡ written_bytes (is_packed t) (text_of t) out.old at }
 {
     let found = size(t);
     match found {
-        Sized::NotOne => Written::NoText,
-        Sized::Bytes(n) => {
+        None => Err(NotWritten::NoText),
+        Some(n) => {
             if !has_room(n, out.len(), at) {
-                return Written::NoRoom;
+                return Err(NotWritten::NoRoom);
             }
             let next = write(t, out, at);
-            Written::Next(next)
+            Ok(next)
         }
     }
 }
 
 // Writes the bytes s from place `at`, and leaves every other byte as it is; where there is no room it writes nothing.
-pub fn put_bytes(s: &[u8], out: &mut [u8], at: usize) -> Written
+pub fn put_bytes(s: &[u8], out: &mut [u8], at: usize) -> Result<usize, NotWritten>
     ensures value { result ≡ written_next true s.now out.old at }
     ensures out_after { out.new ≡ written_bytes true s.now out.old at }
 {
     if !has_room(s.len(), out.len(), at) {
-        return Written::NoRoom;
+        return Err(NotWritten::NoRoom);
     }
     let mut i = 0;
     while i < s.len() {
         out[at + i] = s[i];
         i += 1;
     }
-    Written::Next(at + i)
+    Ok(at + i)
 }
 
 // The number of the text of a, a slash and the text of b, where these are texts and 12 bytes hold them.
-pub fn join(a: u64, b: u64) -> Packed
+pub fn join(a: u64, b: u64) -> Option<u64>
     ensures { result ≡ join_of a b }
 {
     let mut room = [0u8; 12];
     let first = put(a, &mut room, 0);
     match first {
-        Written::NoText => Packed::Nothing,
-        Written::NoRoom => Packed::Nothing,
-        Written::Next(n) => {
+        Err(_) => None,
+        Ok(n) => {
             if n >= 12 {
-                return Packed::Nothing;
+                return None;
             }
             room[n] = b'/';
             let m = n + 1;
             let second = put(b, &mut room, m);
             match second {
-                Written::NoText => Packed::Nothing,
-                Written::NoRoom => Packed::Nothing,
-                Written::Next(end) => pack(&room[..end]),
+                Err(_) => None,
+                Ok(end) => pack(&room[..end]),
             }
         }
     }

@@ -1,5 +1,6 @@
 -- What the promises of `writer` require on inputs written out, and so wrong answers that they do not allow: of each, `Post` is the function's
 -- `ensures` as it stands in the source, r any result that meets it, s the state at exit. Assumes nothing.
+use Rattle.std.specs.Prelude.{Err, Ok}
 use Prim.Native.Nat.{ℕ}
 use Prim.Native.String.{String}
 use mathlib.Core.Bool.{true, false}
@@ -13,7 +14,6 @@ use Rattle.text.specs.Code.{code_of, byte_of}
 use Rattle.text.specs.Number.{is_digit_to, digit_of, is_numeral, number_of}
 use Rattle.text.specs.Place.{value, places, digits, tight, all_in}
 use Rattle.text.specs.Text.{packed, text_of, is_packed, spliced, has_room, written_next, written_bytes}
-use Rattle.text.specs.declared.Written.TheVariants.{Next, NoRoom, NoText}
 use Rattle.shapes.specs.Cut.{up_to, has, before, after, joins}
 use Rattle.shapes.specs.Picture.{is_of, fits, fits_any, one_of, run, within}
 use Rattle.shapes.specs.Pieces.{pieces}
@@ -40,6 +40,7 @@ use Rattle.line.specs.Line.{line_by, is_head_by, has_size_by, is_allowed_by, lin
 use Rattle.writer.specs.Cases.{place_after}
 use Rattle.writer.proofs.write.Reads as write
 use Rattle.writer.proofs.write_old.Reads as write-old
+use Rattle.text.specs.declared.NotWritten.TheVariants.{NoRoom, NoText}
 
 -- document 01's starred heartbeat
 abbrev heartbeat : Message
@@ -63,7 +64,7 @@ a_byte_after_the_text κs a r s p e f g h = p.1.0 ∙ rw (e, f, g, h)
 
 -- no line has a line feed in it: 16, and nothing is written, whatever the buffer and the place
 pub writes_before_it_refuses : (κs : _) (a : _) (r : _) (s : _) → write.Post κs a r s → a.0 ≡ heartbeat → a.1.0.now ≡ 10 ∷ []
-    → (r ≡ NoText) × (s.1.1.0.now ≡ a.1.1.0.now)
+    → (r ≡ Err NoText) × (s.1.1.0.now ≡ a.1.1.0.now)
 unfolding written_next written_bytes is_allowed_by is_head_by is_body facility_text is_facility_value is_whole is_word is_form is_stamp is_of fits fits_any one_of pieces run
     within is_packed tight text_of packed value digits places code_of byte_of all is_digit is_letter is_alnum is_numeral is_digit_to number_of digit_of all_in
 writes_before_it_refuses κs a r s p e f = (p.0 ∙ rw (e, f), p.1.0 ∙ rw (e, f))
@@ -73,8 +74,8 @@ pub room_before_values : (κs : _) (a : _) (r : _) (s : _) → write.Post κs a 
 room_before_values κs a r s p e f g = ap write_answer (writes_before_it_refuses κs a r s p e f).0
 
 -- what the writer tells of the heartbeat, at a place and into a buffer; antt computes it
-told : (written_next (is_allowed heartbeat []) (line_of heartbeat []) (replicate 18 46) 1 ≡ NoRoom) × (written_bytes (is_allowed heartbeat []) (line_of heartbeat []) (replicate 18 46) 1 ≡ replicate 18 46)
-    × (written_next (is_allowed heartbeat []) (line_of heartbeat []) (replicate 19 46) 1 ≡ Next 19)
+told : (written_next (is_allowed heartbeat []) (line_of heartbeat []) (replicate 18 46) 1 ≡ Err NoRoom) × (written_bytes (is_allowed heartbeat []) (line_of heartbeat []) (replicate 18 46) 1 ≡ replicate 18 46)
+    × (written_next (is_allowed heartbeat []) (line_of heartbeat []) (replicate 19 46) 1 ≡ Ok 19)
 unfolding written_next written_bytes has_room is_allowed_by is_head_by has_size_by line_by is_body body_text facility_text is_facility_value is_whole is_word is_form is_stamp is_of
     fits fits_any one_of pieces run within is_packed tight text_of packed value digits places code_of byte_of all is_digit is_letter is_alnum is_numeral is_digit_to
     number_of digit_of all_in
@@ -83,12 +84,12 @@ told = (refl, refl, refl)
 -- 18 bytes from place 1 do not fit a buffer of 18: 15, and not a byte of them is written
 pub room_from_0 : (κs : _) (a : _) (r : _) (s : _) → write.Post κs a r s → a.0 ≡ heartbeat → a.1.0.now ≡ [] → a.1.1.0.now ≡ replicate 18 46 → a.1.1.1.0 ≡ 1
     → (write_answer r ≡ 15) × (s.1.1.0.now ≡ replicate 18 46)
-room_from_0 κs a r s p e f g h = let z : r ≡ NoRoom = p.0 ∙ rw (e, f, g, h) told.0 in (ap write_answer z, p.1.0 ∙ rw (e, f, g, h) told.1)
+room_from_0 κs a r s p e f g h = let z : r ≡ Err NoRoom = p.0 ∙ rw (e, f, g, h) told.0 in (ap write_answer z, p.1.0 ∙ rw (e, f, g, h) told.1)
 
 -- one of 19 they fit to its end: 0, and the place after them is 19
 pub next_is_the_length : (κs : _) (a : _) (r : _) (s : _) → write.Post κs a r s → a.0 ≡ heartbeat → a.1.0.now ≡ [] → a.1.1.0.now ≡ replicate 19 46 → a.1.1.1.0 ≡ 1
     → (write_answer r ≡ 0) × (place_after r ≡ 19)
-next_is_the_length κs a r s p e f g h = let z : r ≡ Next 19 = p.0 ∙ rw (e, f, g, h) told.2 in (ap write_answer z, ap place_after z)
+next_is_the_length κs a r s p e f g h = let z : r ≡ Ok 19 = p.0 ∙ rw (e, f, g, h) told.2 in (ap write_answer z, ap place_after z)
 
 -- an AF that amends 08 with the level l, with the set of marks m
 abbrev held : ℕ → ℕ → Amendment
@@ -128,7 +129,7 @@ unfolding is_allowed_by is_head_by has_size_by line_by body_text has_route body_
 allowed = (refl, refl, refl, refl)
 
 -- the set of marks is that of the amendments: 09's in place of 08's is no line's
-pub marks_not_compared : (κs : _) (a : _) (r : _) (s : _) → write.Post κs a r s → a.0 ≡ amending 64 "290" → a.1.0.now ≡ [] → r ≡ NoText
+pub marks_not_compared : (κs : _) (a : _) (r : _) (s : _) → write.Post κs a r s → a.0 ≡ amending 64 "290" → a.1.0.now ≡ [] → r ≡ Err NoText
 unfolding written_next
 marks_not_compared κs a r s p e f = p.0 ∙ rw (e, f, allowed.1)
 
@@ -136,7 +137,7 @@ marks_not_compared κs a r s p e f = p.0 ∙ rw (e, f, allowed.1)
 pub falling_block_written : (κs : _) (a : _) (r : _) (s : _) → write.Post κs a r s → a.0 ≡ amending 32 "350B310" → a.1.0.now ≡ []
     → (write_answer r ≡ 16) × (s.1.1.0.now ≡ a.1.1.0.now)
 unfolding written_next written_bytes
-falling_block_written κs a r s p e f = let z : r ≡ NoText = p.0 ∙ rw (e, f, allowed.3) in (ap write_answer z, p.1.0 ∙ rw (e, f, allowed.3))
+falling_block_written κs a r s p e f = let z : r ≡ Err NoText = p.0 ∙ rw (e, f, allowed.3) in (ap write_answer z, p.1.0 ∙ rw (e, f, allowed.3))
 
 -- ---- the old feed (document 02, l)
 
@@ -171,12 +172,12 @@ unfolding written_bytes has_room spliced is_allowed_by is_head_by has_size_by li
 old_told = (refl, refl, λ f. refl, refl)
 
 -- "An aircraft field with a last letter .. has no reading there": 16, and nothing is written
-pub old_letter_written : (κs : _) (a : _) (r : _) (s : _) → write-old.Post κs a r s → a.0 ≡ departing "A" → a.1.0.now ≡ [] → (r ≡ NoText) × (s.1.1.0.now ≡ a.1.1.0.now)
+pub old_letter_written : (κs : _) (a : _) (r : _) (s : _) → write-old.Post κs a r s → a.0 ≡ departing "A" → a.1.0.now ≡ [] → (r ≡ Err NoText) × (s.1.1.0.now ≡ a.1.1.0.now)
 unfolding written_next written_bytes
 old_letter_written κs a r s p e f = (p.0 ∙ rw (e, f, old_told.0), p.1.0 ∙ rw (e, f, old_told.0))
 
 -- "our seven, no RT, TO or HB": so too an HB, whatever its free text
-pub old_heartbeat_written : (κs : _) (a : _) (r : _) (s : _) → write-old.Post κs a r s → a.0 ≡ older body.Hb → (r ≡ NoText) × (s.1.1.0.now ≡ a.1.1.0.now)
+pub old_heartbeat_written : (κs : _) (a : _) (r : _) (s : _) → write-old.Post κs a r s → a.0 ≡ older body.Hb → (r ≡ Err NoText) × (s.1.1.0.now ≡ a.1.1.0.now)
 unfolding written_next written_bytes
 old_heartbeat_written κs a r s p e = (p.0 ∙ rw (e, old_told.2), p.1.0 ∙ rw (e, old_told.2))
 

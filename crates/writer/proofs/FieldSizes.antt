@@ -1,5 +1,6 @@
 -- The laws of sizes: a field's, in twelve bytes of its own or as a route; and all fields', from what is left of them. Assumes
 -- nothing.
+use Rattle.std.specs.Prelude.{None, Option, Some}
 use mathlib.Core.Path.{◌≡◌, refl, ◌∙◌}
 use mathlib.Core.Bool.{Bool, true, false, cond, ◌&&◌}
 use mathlib.Core.List.{List, [], ◌∷◌, ◌++◌}
@@ -21,17 +22,14 @@ use Rattle.table.proofs.FieldLaws.{shown_short}
 use Rattle.table.specs.Read.{none}
 use Rattle.table.specs.Show.{texts_from, allowed_from, marks_from}
 use Rattle.writer.specs.Size.{sized_text, sized_field, fields_text, sized_all}
-use Rattle.writer.specs.declared.sizes.SizedField.TheVariants as field
-use Rattle.writer.specs.declared.sizes.SizedAll.{SizedAll}
-use Rattle.writer.specs.declared.sizes.SizedAll.TheVariants as all
 
 -- ---- one field
 
-pub text_not : (k p m : ℕ) (s : List ℕ) → follows k p m s ≡ false → field.NotOne ≡ sized_text k p m s
+pub text_not : (k p m : ℕ) (s : List ℕ) → follows k p m s ≡ false → None ≡ sized_text k p m s
 unfolding sized_text
 text_not k p m s e = rw e
 
-pub text_good : (k p m : ℕ) (s : List ℕ) {q w : ℕ} → follows k p m s ≡ true → q ≡ trace_of k s → w ≡ marks_of k m s → field.Bytes (length s) q w ≡ sized_text k p m s
+pub text_good : (k p m : ℕ) (s : List ℕ) {q w : ℕ} → follows k p m s ≡ true → q ≡ trace_of k s → w ≡ marks_of k m s → Some (length s, q, w) ≡ sized_text k p m s
 unfolding sized_text
 text_good k p m s e l n = rw (e, l, n)
 
@@ -40,7 +38,7 @@ unfolding plain
 route_plain k p e = not_holds (eqb k AMENDMENT) (λ q. let h : AMENDMENT ≡ ROUTE = rw (eqb-true k AMENDMENT q) at e in omega arith)
 
 module _ (k p m : ℕ) (r : List ℕ) (v : Value) where
-  pub field_not : is_value k p r v ≡ false → field.NotOne ≡ sized_field k p m r v
+  pub field_not : is_value k p r v ≡ false → None ≡ sized_field k p m r v
   unfolding sized_field
   field_not e = rw e
 
@@ -54,7 +52,7 @@ unfolding shown shown_kind
 route_shown k p r v e = rw (route_plain k p e, e)
 
 module _ (k p m : ℕ) (r : List ℕ) (v : Value) (e : plain k p ≡ ROUTE) where
-  pub route_not : (is_route r && eqb v.a 0 && is_one v) ≡ false → field.NotOne ≡ sized_field k p m r v
+  pub route_not : (is_route r && eqb v.a 0 && is_one v) ≡ false → None ≡ sized_field k p m r v
   unfolding is_value is_kind_value
   route_not h = field_not k p m r v (rw (route_plain k p e, e, h))
 
@@ -64,7 +62,7 @@ module _ (k p m : ℕ) (r : List ℕ) (v : Value) (e : plain k p ≡ ROUTE) wher
 
 -- what a field's size says
 module _ (k p m : ℕ) (r : List ℕ) (v : Value) where
-  pub field_known : {n q w : ℕ} → sized_field k p m r v ≡ field.Bytes n q w
+  pub field_known : {n q w : ℕ} → sized_field k p m r v ≡ Some (n, q, w)
       → (is_value k p r v ≡ true) × (follows k p m (shown k p r v) ≡ true) × (n ≡ length (shown k p r v)) × (q ≡ trace_of k (shown k p r v)) × (w ≡ marks_of k m (shown k p r v))
   unfolding sized_field sized_text
   field_known {n} {q} {w} e = go (is_value k p r v) refl (follows k p m (shown k p r v)) refl
@@ -72,17 +70,17 @@ module _ (k p m : ℕ) (r : List ℕ) (v : Value) where
       go : (a : Bool) → is_value k p r v ≡ a → (b : Bool) → follows k p m (shown k p r v) ≡ b
           → (is_value k p r v ≡ true) × (follows k p m (shown k p r v) ≡ true) × (n ≡ length (shown k p r v)) × (q ≡ trace_of k (shown k p r v)) × (w ≡ marks_of k m (shown k p r v))
       go true x true y =
-          let z : field.Bytes (length (shown k p r v)) (trace_of k (shown k p r v)) (marks_of k m (shown k p r v)) ≡ field.Bytes n q w = rw (x, y) at e in
+          let z : Some (length (shown k p r v), trace_of k (shown k p r v), marks_of k m (shown k p r v)) ≡ Some (n, q, w) = rw (x, y) at e in
           (x, y, (cc), (cc), (cc))
-      go true x false y = let z : field.NotOne ≡ field.Bytes n q w = rw (x, y) at e in ((cc), (cc), (cc), (cc), (cc))
-      go false x b y = let z : field.NotOne ≡ field.Bytes n q w = rw x at e in ((cc), (cc), (cc), (cc), (cc))
+      go true x false y = let z : None ≡ Some (n, q, w) = rw (x, y) at e in ((cc), (cc), (cc), (cc), (cc))
+      go false x b y = let z : None ≡ Some (n, q, w) = rw x at e in ((cc), (cc), (cc), (cc), (cc))
 
-  pub field_unknown : sized_field k p m r v ≡ field.NotOne → (is_value k p r v && follows k p m (shown k p r v)) ≡ false
+  pub field_unknown : sized_field k p m r v ≡ None → (is_value k p r v && follows k p m (shown k p r v)) ≡ false
   unfolding sized_field sized_text
   field_unknown e = go (is_value k p r v) refl (follows k p m (shown k p r v)) refl
     where
       go : (a : Bool) → is_value k p r v ≡ a → (b : Bool) → follows k p m (shown k p r v) ≡ b → (is_value k p r v && follows k p m (shown k p r v)) ≡ false
-      go true x true y = let z : field.Bytes (length (shown k p r v)) (trace_of k (shown k p r v)) (marks_of k m (shown k p r v)) ≡ field.NotOne = rw (x, y) at e in cc
+      go true x true y = let z : Some (length (shown k p r v), trace_of k (shown k p r v), marks_of k m (shown k p r v)) ≡ None = rw (x, y) at e in cc
       go true x false y = rw (x, y)
       go false x b y = rw x
 
@@ -97,23 +95,23 @@ shown_line k p r v e h = go (eqb (plain k p) ROUTE) refl
 -- ---- all fields, each after a space
 
 -- what is left of the fields after n bytes: p was left by the field before them, and m are the marks set so far
-unfoldable pub sized_from : ℕ → List ℕ → ℕ → ℕ → List ℕ → List Value → SizedAll
-sized_from n ks p m r vs = cond (allowed_from ks p m r vs) (all.Bytes (n + length (body_of (texts_from ks p r vs) false)) (marks_from ks p m r vs)) all.NotOne
+unfoldable pub sized_from : ℕ → List ℕ → ℕ → ℕ → List ℕ → List Value → Option (ℕ × ℕ)
+sized_from n ks p m r vs = cond (allowed_from ks p m r vs) (Some (n + length (body_of (texts_from ks p r vs) false), marks_from ks p m r vs)) None
 
 pub from_all : (ks r : List ℕ) (vs : List Value) → sized_from 0 ks 0 0 r vs ≡ sized_all ks r vs
 unfolding sized_from sized_all fields_text
 from_all ks r vs = rw zero-add
 
-pub from_none : (n p m : ℕ) (r : List ℕ) → sized_from n [] p m r [] ≡ all.Bytes n m
+pub from_none : (n p m : ℕ) (r : List ℕ) → sized_from n [] p m r [] ≡ Some (n, m)
 unfolding sized_from allowed_from texts_from body_of marks_from
 from_none n p m r = rw add-zero
 
 module _ (n k : ℕ) (ks : List ℕ) (p m : ℕ) (r : List ℕ) (v : Value) (vs : List Value) where
-  pub from_stops : sized_field k p m r v ≡ field.NotOne → sized_from n (k ∷ ks) p m r (v ∷ vs) ≡ all.NotOne
+  pub from_stops : sized_field k p m r v ≡ None → sized_from n (k ∷ ks) p m r (v ∷ vs) ≡ None
   unfolding sized_from allowed_from
   from_stops e = rw (field_unknown k p m r v e)
 
-  pub from_next : {l q w : ℕ} → sized_field k p m r v ≡ field.Bytes l q w → sized_from n (k ∷ ks) p m r (v ∷ vs) ≡ sized_from (n + (l + 1)) ks q w r vs
+  pub from_next : {l q w : ℕ} → sized_field k p m r v ≡ Some (l, q, w) → sized_from n (k ∷ ks) p m r (v ∷ vs) ≡ sized_from (n + (l + 1)) ks q w r vs
   unfolding sized_from allowed_from texts_from body_of marks_from
   from_next {l} {q} {w} e =
       let h = field_known k p m r v e in

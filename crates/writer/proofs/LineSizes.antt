@@ -1,4 +1,5 @@
 -- The laws of the sizes of bodies and lines under the rule ρ: what each test of a reading says of its size. Assumes nothing.
+use Rattle.std.specs.Prelude.{None, Some}
 use mathlib.Core.Path.{◌≡◌, refl, sym, ap, ◌∙◌}
 use mathlib.Core.Bool.{Bool, true, false, cond, not, ◌||◌, and-false}
 use mathlib.Core.List.{List, [], ◌∷◌}
@@ -8,7 +9,6 @@ use lib.Dec.{eqb}
 use lib.ListN.{length, take, length-append}
 use borrow.Author.Tests.{eq-eqb, ne_eqb, le-leb, lt-leb}
 use Rattle.text.specs.Place.{all_in}
-use Rattle.text.specs.declared.Sized.TheVariants as sized
 use Rattle.text.proofs.Logic.{true_false, not_fails, not_holds, and_four}
 use Rattle.rules.specs.Frame.{longest_line}
 use Rattle.rules.specs.declared.Rule.{Rule}
@@ -36,34 +36,33 @@ use Rattle.line.specs.Line.{line_by, is_head_by, has_size_by, is_allowed_by}
 use Rattle.line.proofs.Heads.{headed_parts}
 use Rattle.line.proofs.Steps.{head_in, Allows, allowed_allows}
 use Rattle.writer.specs.Size.{AllAsks, fields_text, sized_all, sized_fields, sized_body, sized_line}
-use Rattle.writer.specs.declared.sizes.SizedAll.TheVariants as all
 use Rattle.writer.proofs.FieldSizes.{shown_line}
 
 -- ---- a size that was found, or not
 
-bytes_known : (b : Bool) (x : ℕ) {n : ℕ} → cond b (sized.Bytes x) sized.NotOne ≡ sized.Bytes n → (b ≡ true) × (n ≡ x)
+bytes_known : (b : Bool) (x : ℕ) {n : ℕ} → cond b (Some x) None ≡ Some n → (b ≡ true) × (n ≡ x)
 bytes_known true x e = (refl, (cc))
 bytes_known false x e = ((cc), (cc))
 
-bytes_unknown : (b : Bool) (x : ℕ) → cond b (sized.Bytes x) sized.NotOne ≡ sized.NotOne → b ≡ false
+bytes_unknown : (b : Bool) (x : ℕ) → cond b (Some x) None ≡ None → b ≡ false
 bytes_unknown true x e = cc
 bytes_unknown false x e = refl
 
 module _ (ks r : List ℕ) (vs : List Value) where
-  all_known : {n m : ℕ} → sized_all ks r vs ≡ all.Bytes n m → (allowed_from ks 0 0 r vs ≡ true) × (n ≡ length (fields_text ks r vs)) × (m ≡ marks_from ks 0 0 r vs)
+  all_known : {n m : ℕ} → sized_all ks r vs ≡ Some (n, m) → (allowed_from ks 0 0 r vs ≡ true) × (n ≡ length (fields_text ks r vs)) × (m ≡ marks_from ks 0 0 r vs)
   unfolding sized_all
   all_known {n} {m} e = go (allowed_from ks 0 0 r vs) refl
     where
       go : (b : Bool) → allowed_from ks 0 0 r vs ≡ b → (allowed_from ks 0 0 r vs ≡ true) × (n ≡ length (fields_text ks r vs)) × (m ≡ marks_from ks 0 0 r vs)
-      go true q = let z : all.Bytes (length (fields_text ks r vs)) (marks_from ks 0 0 r vs) ≡ all.Bytes n m = rw q at e in (q, (cc), (cc))
-      go false q = let z : all.NotOne ≡ all.Bytes n m = rw q at e in ((cc), (cc), (cc))
+      go true q = let z : Some (length (fields_text ks r vs), marks_from ks 0 0 r vs) ≡ Some (n, m) = rw q at e in (q, (cc), (cc))
+      go false q = let z : None ≡ Some (n, m) = rw q at e in ((cc), (cc), (cc))
 
-  all_unknown : sized_all ks r vs ≡ all.NotOne → allowed_from ks 0 0 r vs ≡ false
+  all_unknown : sized_all ks r vs ≡ None → allowed_from ks 0 0 r vs ≡ false
   unfolding sized_all
   all_unknown e = go (allowed_from ks 0 0 r vs) refl
     where
       go : (b : Bool) → allowed_from ks 0 0 r vs ≡ b → allowed_from ks 0 0 r vs ≡ false
-      go true q = let z : all.Bytes (length (fields_text ks r vs)) (marks_from ks 0 0 r vs) ≡ all.NotOne = rw q at e in cc
+      go true q = let z : Some (length (fields_text ks r vs), marks_from ks 0 0 r vs) ≡ None = rw q at e in cc
       go false q = q
 
 -- ---- what the code finds by a body's type and marks
@@ -121,32 +120,32 @@ module _ {ρ : Rule} {b : Body} {t : MessageType} {n : ℕ} {ks : List ℕ} {vs 
 -- ---- the fields of a body: each of the five tests
 
 module _ (ρ : Rule) (b : Body) (r : List ℕ) where
-  fields_not : is_fielded ρ b r ≡ false → sized.NotOne ≡ sized_fields ρ b r
+  fields_not : is_fielded ρ b r ≡ false → None ≡ sized_fields ρ b r
   unfolding sized_fields
   fields_not e = rw e
 
-  pub not_count : is_count (type_in b) (field_count b) ≡ false → sized.NotOne ≡ sized_fields ρ b r
+  pub not_count : is_count (type_in b) (field_count b) ≡ false → None ≡ sized_fields ρ b r
   unfolding is_fielded
   not_count e = fields_not (rw e)
 
-  pub not_free : (has_route b || eqb (length r) 0) ≡ false → sized.NotOne ≡ sized_fields ρ b r
+  pub not_free : (has_route b || eqb (length r) 0) ≡ false → None ≡ sized_fields ρ b r
   unfolding is_fielded
   not_free e = fields_not (rw (e, and-false))
 
-  pub not_none : all_none (spare b) ≡ false → sized.NotOne ≡ sized_fields ρ b r
+  pub not_none : all_none (spare b) ≡ false → None ≡ sized_fields ρ b r
   unfolding is_fielded
   not_none e = fields_not (rw (e, and-false))
 
-  pub not_allowed : sized_all (kinds_in ρ b) r (values_in b) ≡ all.NotOne → sized.NotOne ≡ sized_fields ρ b r
+  pub not_allowed : sized_all (kinds_in ρ b) r (values_in b) ≡ None → None ≡ sized_fields ρ b r
   unfolding is_fielded
   not_allowed e = fields_not (rw (all_unknown (kinds_in ρ b) r (values_in b) e, and-false))
 
-  module _ {n m : ℕ} (e : sized_all (kinds_in ρ b) r (values_in b) ≡ all.Bytes n m) where
-    pub not_marks : (m ≡ marks_in b → ⊥) → sized.NotOne ≡ sized_fields ρ b r
+  module _ {n m : ℕ} (e : sized_all (kinds_in ρ b) r (values_in b) ≡ Some (n, m)) where
+    pub not_marks : (m ≡ marks_in b → ⊥) → None ≡ sized_fields ρ b r
     unfolding is_fielded
     not_marks h = fields_not (rw (← (all_known (kinds_in ρ b) r (values_in b) e).2, ne_eqb m (marks_in b) h, and-false))
 
-    pub fields_are : is_count (type_in b) (field_count b) ≡ true → (has_route b || eqb (length r) 0) ≡ true → all_none (spare b) ≡ true → m ≡ marks_in b → sized.Bytes n ≡ sized_fields ρ b r
+    pub fields_are : is_count (type_in b) (field_count b) ≡ true → (has_route b || eqb (length r) 0) ≡ true → all_none (spare b) ≡ true → m ≡ marks_in b → Some n ≡ sized_fields ρ b r
     unfolding sized_fields is_fielded
     fields_are c f s h =
         let k = all_known (kinds_in ρ b) r (values_in b) e in
@@ -155,11 +154,11 @@ module _ (ρ : Rule) (b : Body) (r : List ℕ) where
 -- ---- the size of the fields' text
 
 module _ (ρ : Rule) (b : Body) (r : List ℕ) where
-  pub fields_known : {n : ℕ} → sized_fields ρ b r ≡ sized.Bytes n → (is_fielded ρ b r ≡ true) × (n ≡ length (fields_text (kinds_in ρ b) r (values_in b)))
+  pub fields_known : {n : ℕ} → sized_fields ρ b r ≡ Some n → (is_fielded ρ b r ≡ true) × (n ≡ length (fields_text (kinds_in ρ b) r (values_in b)))
   unfolding sized_fields
   fields_known e = bytes_known (is_fielded ρ b r) (length (fields_text (kinds_in ρ b) r (values_in b))) e
 
-  fields_unknown : sized_fields ρ b r ≡ sized.NotOne → is_fielded ρ b r ≡ false
+  fields_unknown : sized_fields ρ b r ≡ None → is_fielded ρ b r ≡ false
   unfolding sized_fields
   fields_unknown e = bytes_unknown (is_fielded ρ b r) (length (fields_text (kinds_in ρ b) r (values_in b))) e
 
@@ -197,44 +196,44 @@ module _ (ρ : Rule) (b : Body) (r : List ℕ) (e : is_fielded ρ b r ≡ true) 
 -- ---- the body
 
 module _ (ρ : Rule) (b : Body) (r : List ℕ) (t : Bool) where
-  body_not : is_body ρ b r t ≡ false → sized.NotOne ≡ sized_body ρ b r t
+  body_not : is_body ρ b r t ≡ false → None ≡ sized_body ρ b r t
   unfolding sized_body
   body_not e = rw e
 
   module _ (w : is_whole b ≡ true) where
-    pub whole_trailing : t ≡ true → sized.NotOne ≡ sized_body ρ b r t
+    pub whole_trailing : t ≡ true → None ≡ sized_body ρ b r t
     unfolding is_body
     whole_trailing e = body_not (rw (w, e, and-false))
 
-    pub whole_unprintable : all_in 32 126 r ≡ false → sized.NotOne ≡ sized_body ρ b r t
+    pub whole_unprintable : all_in 32 126 r ≡ false → None ≡ sized_body ρ b r t
     unfolding is_body
     whole_unprintable e = body_not (rw (w, e))
 
-    pub whole_is : t ≡ false → all_in 32 126 r ≡ true → sized.Bytes (length r) ≡ sized_body ρ b r t
+    pub whole_is : t ≡ false → all_in 32 126 r ≡ true → Some (length r) ≡ sized_body ρ b r t
     unfolding sized_body is_body body_text
     whole_is e f = rw (w, e, f)
 
   module _ (w : is_whole b ≡ false) where
-    pub unfielded : sized_fields ρ b r ≡ sized.NotOne → sized.NotOne ≡ sized_body ρ b r t
+    pub unfielded : sized_fields ρ b r ≡ None → None ≡ sized_body ρ b r t
     unfolding is_body
     unfielded e = body_not (rw (w, fields_unknown ρ b r e))
 
     -- with a space at its end, or none
-    pub spaced_is : {n : ℕ} → sized_fields ρ b r ≡ sized.Bytes n → t ≡ true → sized.Bytes (n + 1) ≡ sized_body ρ b r t
+    pub spaced_is : {n : ℕ} → sized_fields ρ b r ≡ Some n → t ≡ true → Some (n + 1) ≡ sized_body ρ b r t
     unfolding sized_body is_body body_text fields_text
     spaced_is e f = let k = fields_known ρ b r e in rw (w, k.0, f, space_long, k.1)
 
-    pub plain_is : {n : ℕ} → sized_fields ρ b r ≡ sized.Bytes n → t ≡ false → sized.Bytes n ≡ sized_body ρ b r t
+    pub plain_is : {n : ℕ} → sized_fields ρ b r ≡ Some n → t ≡ false → Some n ≡ sized_body ρ b r t
     unfolding sized_body is_body body_text fields_text
     plain_is e f = let k = fields_known ρ b r e in rw (w, k.0, f, k.1)
 
 -- where the code knows the body's size
 module _ (ρ : Rule) (b : Body) (r : List ℕ) (t : Bool) where
-  body_known : {n : ℕ} → sized_body ρ b r t ≡ sized.Bytes n → (is_body ρ b r t ≡ true) × (n ≡ length (body_text ρ b r t))
+  body_known : {n : ℕ} → sized_body ρ b r t ≡ Some n → (is_body ρ b r t ≡ true) × (n ≡ length (body_text ρ b r t))
   unfolding sized_body
   body_known e = bytes_known (is_body ρ b r t) (length (body_text ρ b r t)) e
 
-  body_unknown : sized_body ρ b r t ≡ sized.NotOne → is_body ρ b r t ≡ false
+  body_unknown : sized_body ρ b r t ≡ None → is_body ρ b r t ≡ false
   unfolding sized_body
   body_unknown e = bytes_unknown (is_body ρ b r t) (length (body_text ρ b r t)) e
 
@@ -287,24 +286,24 @@ unfolding line_by
 line_length ρ x r a b c = (headed_parts ρ (head_in x (type_in x.body)) (body_text ρ x.body r x.trailing) a b c).size
 
 module _ (ρ : Rule) (x : Reading) (r : List ℕ) where
-  line_not : is_allowed_by ρ x r ≡ false → sized.NotOne ≡ sized_line ρ x r
+  line_not : is_allowed_by ρ x r ≡ false → None ≡ sized_line ρ x r
   unfolding sized_line
   line_not e = rw e
 
-  pub no_head : is_head_by ρ x ≡ false → sized.NotOne ≡ sized_line ρ x r
+  pub no_head : is_head_by ρ x ≡ false → None ≡ sized_line ρ x r
   unfolding is_allowed_by
   no_head e = line_not (rw e)
 
-  pub no_type : has_type ρ (type_in x.body) ≡ false → sized.NotOne ≡ sized_line ρ x r
+  pub no_type : has_type ρ (type_in x.body) ≡ false → None ≡ sized_line ρ x r
   unfolding is_head_by
   no_type e = no_head (rw (e, and-false))
 
-  pub no_body : sized_body ρ x.body r x.trailing ≡ sized.NotOne → sized.NotOne ≡ sized_line ρ x r
+  pub no_body : sized_body ρ x.body r x.trailing ≡ None → None ≡ sized_line ρ x r
   unfolding is_allowed_by
   no_body e = line_not (rw (body_unknown ρ x.body r x.trailing e, and-false))
 
   -- free text over 2,048 bytes makes a line as long
-  pub free_long : longest_line < length r → sized.NotOne ≡ sized_line ρ x r
+  pub free_long : longest_line < length r → None ≡ sized_line ρ x r
   free_long h = line_not (not_holds (is_allowed_by ρ x r) (λ e. over (allowed_allows ρ x r e)))
     where
       over : Allows ρ x r → ⊥
@@ -313,7 +312,7 @@ module _ (ρ : Rule) (x : Reading) (r : List ℕ) where
 -- a head that a line can have, and the size of the body after it
 pub record Known (ρ : Rule) (x : Reading) (r : List ℕ) (n : ℕ) : Type 0 where
   pub head : is_head_by ρ x ≡ true
-  pub body : sized_body ρ x.body r x.trailing ≡ sized.Bytes n
+  pub body : sized_body ρ x.body r x.trailing ≡ Some n
 
 head_few : (ρ : Rule) → head_length ρ ≤ 18
 head_few New = omega arith
@@ -329,25 +328,25 @@ module _ {ρ : Rule} {x : Reading} {r : List ℕ} {n : ℕ} (s : Known ρ x r n)
   pub line_fits : length r ≤ longest_line → head_length ρ + n ≤ 38950
   line_fits h = let k = body_known ρ x.body r x.trailing s.body in omega (arith, head_few ρ, k.1, body_short ρ x.body r x.trailing k.0 h)
 
-  pub too_long : longest_line < head_length ρ + n → sized.NotOne ≡ sized_line ρ x r
+  pub too_long : longest_line < head_length ρ + n → None ≡ sized_line ρ x r
   unfolding is_allowed_by has_size_by
   too_long h = line_not ρ x r (rw (line_size_lem, lt-leb (head_length ρ + n) longest_line h, and-false))
 
-  pub long_plan : is_long_plan ρ (type_in x.body) (head_length ρ + n) ≡ true → sized.NotOne ≡ sized_line ρ x r
+  pub long_plan : is_long_plan ρ (type_in x.body) (head_length ρ + n) ≡ true → None ≡ sized_line ρ x r
   unfolding is_allowed_by has_size_by
   long_plan h = line_not ρ x r (rw (line_size_lem, h, and-false, and-false))
 
-  pub line_is : head_length ρ + n ≤ longest_line → is_long_plan ρ (type_in x.body) (head_length ρ + n) ≡ false → sized.Bytes (head_length ρ + n) ≡ sized_line ρ x r
+  pub line_is : head_length ρ + n ≤ longest_line → is_long_plan ρ (type_in x.body) (head_length ρ + n) ≡ false → Some (head_length ρ + n) ≡ sized_line ρ x r
   unfolding sized_line is_allowed_by has_size_by
   line_is h q = rw (s.head, (body_known ρ x.body r x.trailing s.body).0, line_size_lem, le-leb (head_length ρ + n) longest_line h, q)
 
 -- ---- a line by its size
 
 module _ (ρ : Rule) (x : Reading) (r : List ℕ) where
-  pub line_known : {n : ℕ} → sized_line ρ x r ≡ sized.Bytes n → (is_allowed_by ρ x r ≡ true) × (n ≡ length (line_by ρ x r))
+  pub line_known : {n : ℕ} → sized_line ρ x r ≡ Some n → (is_allowed_by ρ x r ≡ true) × (n ≡ length (line_by ρ x r))
   unfolding sized_line
   line_known e = bytes_known (is_allowed_by ρ x r) (length (line_by ρ x r)) e
 
-  pub line_unknown : sized_line ρ x r ≡ sized.NotOne → is_allowed_by ρ x r ≡ false
+  pub line_unknown : sized_line ρ x r ≡ None → is_allowed_by ρ x r ≡ false
   unfolding sized_line
   line_unknown e = bytes_unknown (is_allowed_by ρ x r) (length (line_by ρ x r)) e

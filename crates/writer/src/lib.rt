@@ -26,8 +26,8 @@ use rules::{FACILITY_AT, OLD_CENTER_AT, OLD_TYPE_AT, Rule, STAMP_AT, TYPE_AT};
 use table::field::put_field;
 use table::kinds::Value;
 use table::{field_count, has_fields, kinds, kinds_of};
+use text::NotWritten;
 use text::writing::{has_room, put_bytes};
-use text::{Sized, Written};
 
 // Where a field's text ends, and its trace for the next one.
 #[derive(Clone, Copy)]
@@ -45,12 +45,12 @@ fn put_one(kind: u8, trace: u8, v: Value, route: &[u8], out: &mut [u8]) -> Put
 {
     let written = put_field(kind, trace, v, route, out, 0);
     match written {
-        Written::Next(n) => Put {
+        Ok(n) => Put {
             end: n,
             trace: kinds::trace(kind, &out[..n]),
         },
-        Written::NoRoom => Put { end: 0, trace: 0 },
-        Written::NoText => Put { end: 0, trace: 0 },
+        Err(NotWritten::NoRoom) => Put { end: 0, trace: 0 },
+        Err(NotWritten::NoText) => Put { end: 0, trace: 0 },
     }
 }
 
@@ -134,24 +134,30 @@ fn put_line(rule: Rule, x: Reading, free: &[u8], out: &mut [u8])
 }
 
 // Writes a line of the rule from place `at`.
-fn write_by(rule: Rule, x: Reading, free: &[u8], out: &mut [u8], at: usize) -> Written
+fn write_by(
+    rule: Rule,
+    x: Reading,
+    free: &[u8],
+    out: &mut [u8],
+    at: usize,
+) -> Result<usize, NotWritten>
     ensures value { result ≡ written_next (is_allowed_by rule x free.now) (line_by rule x free.now) out.old at }
     ensures out_after { out.new ≡ written_bytes (is_allowed_by rule x free.now) (line_by rule x free.now) out.old at }
     ensures write_case { WriteCase rule x free.now out.old at (write_answer result) (place_after result) out.new }
 {
-    let Sized::Bytes(n) = size_line(rule, x, free) else {
-        return Written::NoText;
+    let Some(n) = size_line(rule, x, free) else {
+        return Err(NotWritten::NoText);
     };
     if !has_room(n, out.len(), at) {
-        return Written::NoRoom;
+        return Err(NotWritten::NoRoom);
     }
     put_line(rule, x, free, &mut out[at..]);
-    Written::Next(at + n)
+    Ok(at + n)
 }
 
 // Writes a message's line from place `at`: 16 for values that no line has, then 15 where it does not fit; every other
 // byte stays, and where it refuses it writes nothing. No line feed is written.
-pub fn write(m: Message, free: &[u8], out: &mut [u8], at: usize) -> Written
+pub fn write(m: Message, free: &[u8], out: &mut [u8], at: usize) -> Result<usize, NotWritten>
     ensures value { result ≡ written_next (is_allowed m free.now) (line_of m free.now) out.old at }
     ensures out_after { out.new ≡ written_bytes (is_allowed m free.now) (line_of m free.now) out.old at }
     ensures write_case { WriteCase New (reading_of m) free.now out.old at (write_answer result) (place_after result) out.new }
@@ -168,7 +174,7 @@ pub fn write(m: Message, free: &[u8], out: &mut [u8], at: usize) -> Written
 }
 
 // Writes the line of a message of the old feed.
-pub fn write_old(m: OldMessage, free: &[u8], out: &mut [u8], at: usize) -> Written
+pub fn write_old(m: OldMessage, free: &[u8], out: &mut [u8], at: usize) -> Result<usize, NotWritten>
     ensures value { result ≡ written_next (is_old_allowed m free.now) (old_line_of m free.now) out.old at }
     ensures out_after { out.new ≡ written_bytes (is_old_allowed m free.now) (old_line_of m free.now) out.old at }
     ensures write_case { WriteCase Old (old_reading_of m) free.now out.old at (write_answer result) (place_after result) out.new }

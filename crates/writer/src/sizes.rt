@@ -17,55 +17,41 @@ use shapes::sweeps;
 use table::field::put_field;
 use table::kinds::{ROUTE, Value};
 use table::{field_count, has_fields, has_route, has_type, is_count, kinds, kinds_of};
-use text::{Sized, Written};
+use text::NotWritten;
 
-// How long a field's text is, its trace for the next one, and the marks set after it.
-#[derive(Clone, Copy)]
-pub enum SizedField {
-    Bytes(usize, u8, u8),
-    NotOne,
-}
-
-// How long all fields are, each after a space, and the marks set in the end.
-#[derive(Clone, Copy)]
-pub enum SizedAll {
-    Bytes(usize, u8),
-    NotOne,
-}
-
-fn size_text(kind: u8, trace: u8, marks: u8, s: &[u8]) -> SizedField
+fn size_text(kind: u8, trace: u8, marks: u8, s: &[u8]) -> Option<(usize, u8, u8)>
     ensures { result ≡ sized_text kind trace marks s.now }
 {
     if !kinds::follows(kind, trace, marks, s) {
-        return SizedField::NotOne;
+        return None;
     }
     let next = kinds::trace(kind, s);
     let after = kinds::marks_after(kind, marks, s);
-    SizedField::Bytes(s.len(), next, after)
+    Some((s.len(), next, after))
 }
 
 // A route keeps nothing in its value, and may be longer than any other field.
-fn size_route(kind: u8, trace: u8, marks: u8, v: Value, route: &[u8]) -> SizedField
+fn size_route(kind: u8, trace: u8, marks: u8, v: Value, route: &[u8]) -> Option<(usize, u8, u8)>
     requires { plainly kind trace ≡ ROUTE }
     ensures { result ≡ sized_field kind trace marks route.now v }
 {
     if !rules::is_route(route) {
-        return SizedField::NotOne;
+        return None;
     }
     if v.a != 0 {
-        return SizedField::NotOne;
+        return None;
     }
     if v.b != 0 {
-        return SizedField::NotOne;
+        return None;
     }
     if v.c != 0 {
-        return SizedField::NotOne;
+        return None;
     }
     size_text(kind, trace, marks, route)
 }
 
 // The field is tried in twelve bytes of its own.
-fn size_field(kind: u8, trace: u8, marks: u8, v: Value, route: &[u8]) -> SizedField
+fn size_field(kind: u8, trace: u8, marks: u8, v: Value, route: &[u8]) -> Option<(usize, u8, u8)>
     ensures { result ≡ sized_field kind trace marks route.now v }
 {
     if kinds::plain(kind, trace) == ROUTE {
@@ -74,13 +60,12 @@ fn size_field(kind: u8, trace: u8, marks: u8, v: Value, route: &[u8]) -> SizedFi
     let mut room = [0u8; 12];
     let written = put_field(kind, trace, v, route, &mut room, 0);
     match written {
-        Written::Next(n) => size_text(kind, trace, marks, &room[..n]),
-        Written::NoRoom => SizedField::NotOne,
-        Written::NoText => SizedField::NotOne,
+        Ok(n) => size_text(kind, trace, marks, &room[..n]),
+        Err(_) => None,
     }
 }
 
-fn size_all(kinds: &[u8], values: [Value; 19], route: &[u8]) -> SizedAll
+fn size_all(kinds: &[u8], values: [Value; 19], route: &[u8]) -> Option<(usize, u8)>
     requires { AllAsks kinds.now route.now }
     ensures { result ≡ sized_all kinds.now route.now (take (length kinds.now) values) }
 {
@@ -89,16 +74,13 @@ fn size_all(kinds: &[u8], values: [Value; 19], route: &[u8]) -> SizedAll
     let mut trace: u8 = 0;
     let mut marks: u8 = 0;
     while k < kinds.len() {
-        let SizedField::Bytes(n, next, after) = size_field(kinds[k], trace, marks, values[k], route)
-        else {
-            return SizedAll::NotOne;
-        };
+        let (n, next, after) = size_field(kinds[k], trace, marks, values[k], route)?;
         size += n + 1;
         trace = next;
         marks = after;
         k += 1;
     }
-    SizedAll::Bytes(size, marks)
+    Some((size, marks))
 }
 
 // Whether no value comes from place n on.
@@ -123,7 +105,7 @@ fn is_none_from(values: [Value; 19], n: usize) -> bool
 }
 
 // How long the text of the fields is, where a line can have this body.
-fn size_fields(rule: Rule, b: Body, free: &[u8]) -> Sized
+fn size_fields(rule: Rule, b: Body, free: &[u8]) -> Option<usize>
     requires { length free.now ≤ longest_line }
     ensures { result ≡ sized_fields rule b free.now }
 {
@@ -131,48 +113,44 @@ fn size_fields(rule: Rule, b: Body, free: &[u8]) -> Sized
     let marks = marks_in(b);
     let n = field_count(kind, marks);
     if !is_count(kind, n) {
-        return Sized::NotOne;
+        return None;
     }
     if !has_route(kind, marks) {
         if free.len() != 0 {
-            return Sized::NotOne;
+            return None;
         }
     }
     let values = values_in(b);
     if !is_none_from(values, n) {
-        return Sized::NotOne;
+        return None;
     }
     let kinds = kinds_of(rule, kind);
-    let SizedAll::Bytes(size, set) = size_all(&kinds[..n], values, free) else {
-        return Sized::NotOne;
-    };
+    let (size, set) = size_all(&kinds[..n], values, free)?;
     if set != marks {
-        return Sized::NotOne;
+        return None;
     }
-    Sized::Bytes(size)
+    Some(size)
 }
 
 // How long the body is, a space at its end counted.
-fn size_body(rule: Rule, b: Body, free: &[u8], trailing: bool) -> Sized
+fn size_body(rule: Rule, b: Body, free: &[u8], trailing: bool) -> Option<usize>
     requires { length free.now ≤ longest_line }
     ensures { result ≡ sized_body rule b free.now trailing }
 {
     if !has_fields(type_in(b)) {
         if trailing {
-            return Sized::NotOne;
+            return None;
         }
         if !sweeps::each_within(32, 126, free) {
-            return Sized::NotOne;
+            return None;
         }
-        return Sized::Bytes(free.len());
+        return Some(free.len());
     }
-    let Sized::Bytes(n) = size_fields(rule, b, free) else {
-        return Sized::NotOne;
-    };
+    let n = size_fields(rule, b, free)?;
     if trailing {
-        return Sized::Bytes(n + 1);
+        return Some(n + 1);
     }
-    Sized::Bytes(n)
+    Some(n)
 }
 
 fn holds_new(sequence: u64, stamp: u64, facility: u64) -> bool
@@ -210,29 +188,27 @@ fn holds_head(rule: Rule, sequence: u64, stamp: u64, facility: u64) -> bool
 }
 
 // How long the line is, where a line of the rule can be read so.
-pub(crate) fn size_line(rule: Rule, x: Reading, free: &[u8]) -> Sized
+pub(crate) fn size_line(rule: Rule, x: Reading, free: &[u8]) -> Option<usize>
     ensures { result ≡ sized_line rule x free.now }
 {
     if free.len() > LONGEST_LINE {
-        return Sized::NotOne;
+        return None;
     }
     if !holds_head(rule, x.sequence, x.stamp, x.facility) {
-        return Sized::NotOne;
+        return None;
     }
     let body = x.body;
     let kind = type_in(body);
     if !has_type(rule, kind) {
-        return Sized::NotOne;
+        return None;
     }
-    let Sized::Bytes(n) = size_body(rule, body, free, x.trailing) else {
-        return Sized::NotOne;
-    };
+    let n = size_body(rule, body, free, x.trailing)?;
     let size = body_at(rule) + n;
     if size > LONGEST_LINE {
-        return Sized::NotOne;
+        return None;
     }
     if table::is_long_plan(rule, kind, size) {
-        return Sized::NotOne;
+        return None;
     }
-    Sized::Bytes(size)
+    Some(size)
 }

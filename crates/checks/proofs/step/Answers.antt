@@ -5,14 +5,14 @@ use Rattle.checks.proofs.step.Goals as goal
 pub say-next-requires : goal.say-next-requires
 say-next-requires c =
     record {
-      verdict_value = step_verdict c.args.asked _ c.args.sums _ c.args.out.now c.args.at c.requires.allowed c.cut-done.result _ (c.cut-done.ensures.value, (c.cut-done.ensures.held_after, c.cut-done.ensures.cut_is)) _ c.judge-judged.ensures _ c.in-Line.is;
+      verdict_value = step_verdict c.args.asked _ c.args.sums _ c.args.out.now c.args.at c.requires.allowed c.cut-done.result _ (c.cut-done.ensures.value, (c.cut-done.ensures.held_after, c.cut-done.ensures.cut_is)) _ c.judge-judged.ensures _ c.in-Err.is;
       longest_saying_in_bounds = c.requires.roomy;
     }
 
-pub returns-in-Line : goal.returns-in-Line
-returns-in-Line c =
-    step_line c.args.asked _ c.args.sums _ c.args.out.now c.args.at c.requires.allowed c.cut-done.result _ (c.cut-done.ensures.value, (c.cut-done.ensures.held_after, c.cut-done.ensures.cut_is)) _ c.judge-judged.ensures _ c.in-Line.is c.requires.more _ _ (c.say-next.ensures.value, c.say-next.ensures.out_after) _ c.count-sums.ensures
+pub returns-in-Err : goal.returns-in-Err
+returns-in-Err c =
+    step_line c.args.asked _ c.args.sums _ c.args.out.now c.args.at c.requires.allowed c.cut-done.result _ (c.cut-done.ensures.value, (c.cut-done.ensures.held_after, c.cut-done.ensures.cut_is)) _ c.judge-judged.ensures _ c.in-Err.is c.requires.more _ _ (c.say-next.ensures.value, c.say-next.ensures.out_after) _ c.count-sums.ensures
 
-pub returns-in-Nothing : goal.returns-in-Nothing
-returns-in-Nothing c =
-    step_none c.args.asked _ c.args.sums _ c.args.out.now c.args.at c.requires.allowed c.cut-done.result _ (c.cut-done.ensures.value, (c.cut-done.ensures.held_after, c.cut-done.ensures.cut_is)) c.requires.more _ c.judge-judged.ensures c.in-Nothing.is
+pub returns-in-None : goal.returns-in-None
+returns-in-None c =
+    step_none c.args.asked _ c.args.sums _ c.args.out.now c.args.at c.requires.allowed c.cut-done.result _ (c.cut-done.ensures.value, (c.cut-done.ensures.held_after, c.cut-done.ensures.cut_is)) c.requires.more _ c.judge-judged.ensures c.in-None.is

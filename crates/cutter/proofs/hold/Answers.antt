@@ -9,9 +9,9 @@ returns-in_default c =
     let both = mark_more _ _ _ c.in_default.is in
     record { value = both.0; held_after = both.1 }
 
-pub returns-in-Next : goal.returns-in-Next
-returns-in-Next c =
-    let both = more_held _ _ _ _ c.in-Held.is _ c.put_bytes-written.ensures.out_after _ (sym c.in-Next.is ∙ c.put_bytes-written.ensures.value) in
+pub returns-in-Ok : goal.returns-in-Ok
+returns-in-Ok c =
+    let both = more_held _ _ _ _ c.in-Held.is _ c.put_bytes-written.ensures.out_after _ (sym c.in-Ok.is ∙ c.put_bytes-written.ensures.value) in
     record { value = both.0; held_after = both.1 }
 
 pub returns-in_default-written : goal.returns-in_default-written

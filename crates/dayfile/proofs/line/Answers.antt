@@ -18,11 +18,11 @@ returns-then-number-eq0 c =
 
 pub returns-then-number-day : goal.returns-then-number-day
 returns-then-number-day c =
-    let is_open : IsOpen version1 c.args.file.now c.in-Day.day = record { told = sym c.open-told.ensures ∙ c.in-Day.is } in
+    let is_open : IsOpen version1 c.args.file.now c.in-Ok.day = record { told = sym c.open-told.ensures ∙ c.in-Ok.is } in
     let both = past_last is_open _ c.if-number-day.true in
     record { result_value = both.0; ref_ptr_value = both.1 }
 
 pub known_line-requires : goal.known_line-requires
 known_line-requires c =
-    let is_open : IsOpen version1 c.args.file.now c.in-Day.day = record { told = sym c.open-told.ensures ∙ c.in-Day.is } in
+    let is_open : IsOpen version1 c.args.file.now c.in-Ok.day = record { told = sym c.open-told.ensures ∙ c.in-Ok.is } in
     record { file_value = is_open.told; number_nonzero = omega (arith, c.if-number-eq0.false); number_le_lines = c.if-number-day.false }

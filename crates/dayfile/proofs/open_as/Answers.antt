@@ -19,43 +19,43 @@ returns-in_default c =
 pub overflow_mul-end : goal.overflow_mul-end
 overflow_mul-end c =
     let told : Told c.args.trailer c.args.file.now c.open_tail-told.result = by_tail _ _ _ _ c.trailer_size-width.ensures c.last.ensures c.open_tail-told.ensures in
-    let inside : c.in-Day.day.start + 4 * c.in-Day.day.lines ≤ length c.args.file.now = day_inside told _ c.in-Day.is in
+    let inside : c.in-Ok.day.start + 4 * c.in-Ok.day.lines ≤ length c.args.file.now = day_inside told _ c.in-Ok.is in
     omega (arith, inside)
 
 pub overflow_add-end : goal.overflow_add-end
 overflow_add-end c =
     let told : Told c.args.trailer c.args.file.now c.open_tail-told.result = by_tail _ _ _ _ c.trailer_size-width.ensures c.last.ensures c.open_tail-told.ensures in
-    let inside : c.in-Day.day.start + 4 * c.in-Day.day.lines ≤ length c.args.file.now = day_inside told _ c.in-Day.is in
+    let inside : c.in-Ok.day.start + 4 * c.in-Ok.day.lines ≤ length c.args.file.now = day_inside told _ c.in-Ok.is in
     omega (arith, inside)
 
 pub slice_bounds-walk-end : goal.slice_bounds-walk-end
 slice_bounds-walk-end c =
     let told : Told c.args.trailer c.args.file.now c.open_tail-told.result = by_tail _ _ _ _ c.trailer_size-width.ensures c.last.ensures c.open_tail-told.ensures in
-    let inside : c.in-Day.day.start + 4 * c.in-Day.day.lines ≤ length c.args.file.now = day_inside told _ c.in-Day.is in
+    let inside : c.in-Ok.day.start + 4 * c.in-Ok.day.lines ≤ length c.args.file.now = day_inside told _ c.in-Ok.is in
     sym (length-take-le _ _ (omega (arith, inside)))
 
 pub slice_bounds-walk-end-2 : goal.slice_bounds-walk-end-2
 slice_bounds-walk-end-2 c =
     let told : Told c.args.trailer c.args.file.now c.open_tail-told.result = by_tail _ _ _ _ c.trailer_size-width.ensures c.last.ensures c.open_tail-told.ensures in
-    let inside : c.in-Day.day.start + 4 * c.in-Day.day.lines ≤ length c.args.file.now = day_inside told _ c.in-Day.is in
+    let inside : c.in-Ok.day.start + 4 * c.in-Ok.day.lines ≤ length c.args.file.now = day_inside told _ c.in-Ok.is in
     omega (arith, inside)
 
 pub walk-walked-requires : goal.walk-walked-requires
 walk-walked-requires c =
     let a = c.args in
-    few_first c.in-Day.day.start a.file.now (omega arith)
+    few_first c.in-Ok.day.start a.file.now (omega arith)
 
 pub returns-then-walked-day : goal.returns-then-walked-day
 returns-then-walked-day c =
     let told : Told c.args.trailer c.args.file.now c.open_tail-told.result = by_tail _ _ _ _ c.trailer_size-width.ensures c.last.ensures c.open_tail-told.ensures in
-    other_lines told _ c.in-Day.is c.walk-walked.ensures c.if-walked-day.true
+    other_lines told _ c.in-Ok.is c.walk-walked.ensures c.if-walked-day.true
 
 pub returns-then-walked-start : goal.returns-then-walked-start
 returns-then-walked-start c =
     let told : Told c.args.trailer c.args.file.now c.open_tail-told.result = by_tail _ _ _ _ c.trailer_size-width.ensures c.last.ensures c.open_tail-told.ensures in
-    other_used told _ c.in-Day.is c.walk-walked.ensures c.if-walked-start.true
+    other_used told _ c.in-Ok.is c.walk-walked.ensures c.if-walked-start.true
 
 pub returns : goal.returns
 returns c =
     let told : Told c.args.trailer c.args.file.now c.open_tail-told.result = by_tail _ _ _ _ c.trailer_size-width.ensures c.last.ensures c.open_tail-told.ensures in
-    same_lines told _ c.in-Day.is c.walk-walked.ensures c.if-walked-day.false c.if-walked-start.false
+    same_lines told _ c.in-Ok.is c.walk-walked.ensures c.if-walked-day.false c.if-walked-start.false

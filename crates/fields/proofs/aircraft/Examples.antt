@@ -1,5 +1,6 @@
 -- What the promises of `aircraft` require on inputs written out, so that named wrong answers are none of theirs: of each, `Post` is the
 -- function's `ensures` as it stands in the source, r any result that meets it, s any state at exit. Assumes nothing.
+use Rattle.std.specs.Prelude.{None, Some}
 use mathlib.Core.Path.{◌≡◌, refl, ◌∙◌}
 use mathlib.Core.Bool.{true, false}
 use Rattle.text.specs.Bytes.{bytes}
@@ -15,7 +16,6 @@ use Rattle.fields.specs.Word.{is_word}
 use Rattle.fields.specs.Pair.{is_pair_form, pair_of, pair_text, is_pair}
 use Rattle.fields.specs.Aircraft.{plain_of, prefixed_of, aircraft_of, aircraft_text, is_aircraft_value}
 use Rattle.fields.specs.declared.aircraft.Aircraft.{Aircraft}
-use Rattle.fields.specs.declared.aircraft.AircraftRead.TheVariants.{Read, Nothing}
 use Rattle.fields.proofs.aircraft.Aircraft.read.Reads as aircraft-read
 use Rattle.fields.proofs.aircraft.Aircraft.holds.Reads as aircraft-holds
 use Rattle.fields.proofs.aircraft.Aircraft.put.Reads as aircraft-put
@@ -32,7 +32,7 @@ misprefixed = record { prefix = packed (bytes "AB"); model = packed (bytes "CD")
 
 -- what is read, tested and shown of them; antt computes it
 told :
-    (aircraft_of (bytes "C172/A") ≡ Read plain) × (aircraft_of (bytes "T/B73S/F") ≡ Read prefixed) × (aircraft_of (bytes "AB/CD") ≡ Nothing) ×
+    (aircraft_of (bytes "C172/A") ≡ Some plain) × (aircraft_of (bytes "T/B73S/F") ≡ Some prefixed) × (aircraft_of (bytes "AB/CD") ≡ None) ×
     (is_aircraft_value plain ≡ true) × (is_aircraft_value prefixed ≡ true) × (is_aircraft_value misprefixed ≡ false) ×
     (aircraft_text plain ≡ bytes "C172/A") × (aircraft_text prefixed ≡ bytes "T/B73S/F")
 unfolding aircraft_of plain_of prefixed_of pair_of is_pair_form up_to has before after aircraft_text pair_text slashed is_aircraft_value is_pair is_word is_packed
@@ -40,15 +40,15 @@ unfolding aircraft_of plain_of prefixed_of pair_of is_pair_form up_to has before
 told = (refl, refl, refl, refl, refl, refl, refl, refl)
 
 -- C172 of C172/A is the type, and there is no prefix
-pub type_as_prefix : (κs : _) (a : _) (r : _) (s : _) → aircraft-read.Post κs a r s → a.0.now ≡ bytes "C172/A" → r ≡ Read plain
+pub type_as_prefix : (κs : _) (a : _) (r : _) (s : _) → aircraft-read.Post κs a r s → a.0.now ≡ bytes "C172/A" → r ≡ Some plain
 type_as_prefix κs a r s p e = p.0 ∙ rw (e, told.0)
 
 -- T/B73S/F has all three
-pub all_three_refused : (κs : _) (a : _) (r : _) (s : _) → aircraft-read.Post κs a r s → a.0.now ≡ bytes "T/B73S/F" → r ≡ Read prefixed
+pub all_three_refused : (κs : _) (a : _) (r : _) (s : _) → aircraft-read.Post κs a r s → a.0.now ≡ bytes "T/B73S/F" → r ≡ Some prefixed
 all_three_refused κs a r s p e = p.0 ∙ rw (e, told.1)
 
 -- a prefix of two begins with a digit, and CD is no letter
-pub two_letters_as_prefix : (κs : _) (a : _) (r : _) (s : _) → aircraft-read.Post κs a r s → a.0.now ≡ bytes "AB/CD" → r ≡ Nothing
+pub two_letters_as_prefix : (κs : _) (a : _) (r : _) (s : _) → aircraft-read.Post κs a r s → a.0.now ≡ bytes "AB/CD" → r ≡ None
 two_letters_as_prefix κs a r s p e = p.0 ∙ rw (e, told.2)
 
 -- a type is no prefix

@@ -25,14 +25,14 @@ returns-in_default-counted c =
     let e = c.print-printed.ensures in
     record {
       upper_bound = omega arith;
-      fills = fills_none _ c.args.day _ (search rules) _ _ (e.value, e.out_after) _ c.in-Next.is _ _ (c.print_counts-counted.ensures.value, c.print_counts-counted.ensures.out_after) (opened c.in_default-counted.in_default-counted-own.keys2);
+      fills = fills_none _ c.args.day _ (search rules) _ _ (e.value, e.out_after) _ c.in-Ok.is _ _ (c.print_counts-counted.ensures.value, c.print_counts-counted.ensures.out_after) (opened c.in_default-counted.in_default-counted-own.keys2);
     }
 
 pub returns : goal.returns
 returns c =
     let e = c.print-printed.ensures in
-    let m = c.in-Next-counted.is in
+    let m = c.in-Ok-counted.is in
     record {
-      upper_bound = inside _ c.args.day _ (search rules) _ _ (e.value, e.out_after) _ c.in-Next.is _ _ (c.print_counts-counted.ensures.value, c.print_counts-counted.ensures.out_after) _ m;
-      fills = fills_all _ c.args.day _ (search rules) _ _ (e.value, e.out_after) _ c.in-Next.is _ _ (c.print_counts-counted.ensures.value, c.print_counts-counted.ensures.out_after) _ m;
+      upper_bound = inside _ c.args.day _ (search rules) _ _ (e.value, e.out_after) _ c.in-Ok.is _ _ (c.print_counts-counted.ensures.value, c.print_counts-counted.ensures.out_after) _ m;
+      fills = fills_all _ c.args.day _ (search rules) _ _ (e.value, e.out_after) _ c.in-Ok.is _ _ (c.print_counts-counted.ensures.value, c.print_counts-counted.ensures.out_after) _ m;
     }

@@ -28,7 +28,7 @@ pub returns-then-not-has_fields : goal.returns-then-not-has_fields
 returns-then-not-has_fields c =
     let enough : head_length c.args.rule ≤ length c.args.line.now = omega (arith, c.if-line-at.false, c.body_at-at.ensures) in
     let letters : c.kind_of.result ≡ type_by c.args.rule (type_part c.args.rule c.args.line.now) = c.kind_of.ensures ∙ ap (type_by _) (letters_are c.args.rule c.args.line.now c.body_at-at.ensures) in
-    let f = free_whole c.args.rule c.args.line.now enough _ (sym letters ∙ c.in-Read.is) (not_so c.has_fields.ensures c.if-not-has_fields.true-raw) in rw c.body_at-at.ensures (record { result_value = rest_all c.args.line.now (head_length c.args.rule) ∙ f.0; ref_ptr_value = ap (starts_at _) f.1 })
+    let f = free_whole c.args.rule c.args.line.now enough _ (sym letters ∙ c.in-Some.is) (not_so c.has_fields.ensures c.if-not-has_fields.true-raw) in rw c.body_at-at.ensures (record { result_value = rest_all c.args.line.now (head_length c.args.rule) ∙ f.0; ref_ptr_value = ap (starts_at _) f.1 })
 
 pub returns : goal.returns
 returns c =
@@ -37,7 +37,7 @@ returns c =
     let l = rest_all c.args.line.now (head_length c.args.rule) in
     let e0 = rw c.body_at-at.ensures at c.route.ensures.result_value in
     let e1 = rw c.body_at-at.ensures at c.route.ensures.ref_ptr_value in
-    let f = free_route c.args.rule c.args.line.now enough _ (sym letters ∙ c.in-Read.is) (so c.has_fields.ensures c.if-not-has_fields.false-raw) in
+    let f = free_route c.args.rule c.args.line.now enough _ (sym letters ∙ c.in-Some.is) (so c.has_fields.ensures c.if-not-has_fields.false-raw) in
     record {
       result_value = e0 ∙ ap (route_by _ _) l ∙ f.0;
       ref_ptr_value = e1 ∙ part_of_part _ (head_length c.args.rule) _ (ap (λ n. head_length c.args.rule + n) (ap (route_at_by _ _) l) ∙ f.1);

@@ -5,14 +5,14 @@ use Rattle.line.specs.Read.{newly, read_of}
 use Rattle.line.proofs.Cases.{told}
 use Rattle.line.proofs.read.Goals as goal
 
-pub returns-in-Read : goal.returns-in-Read
+pub returns-in-Some : goal.returns-in-Some
 unfolding read_of
-returns-in-Read c =
-    let both = told New _ (ap newly (sym c.in-Read.is ∙ c.read_by-read.ensures)) in
+returns-in-Some c =
+    let both = told New _ (ap newly (sym c.in-Some.is ∙ c.read_by-read.ensures)) in
     record { value = both.0; case = both.1 }
 
-pub returns-in-Refused : goal.returns-in-Refused
+pub returns-in-Err : goal.returns-in-Err
 unfolding read_of
-returns-in-Refused c =
-    let both = told New _ (ap newly (sym c.in-Refused.is ∙ c.read_by-read.ensures)) in
+returns-in-Err c =
+    let both = told New _ (ap newly (sym c.in-Err.is ∙ c.read_by-read.ensures)) in
     record { value = both.0; case = both.1 }

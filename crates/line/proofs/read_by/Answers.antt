@@ -21,12 +21,12 @@ returns-then-not-each_within c =
     let enough : head_length c.args.rule ≤ length c.args.line.now = omega (arith, c.if-line-body_at.false, c.body_at.ensures) in
     line_byte _ _ enough c.if-line-gt-LONGEST_LINE.false (sym c.each_within.ensures ∙ not-true _ c.if-not-each_within.true-raw)
 
-pub returns-in-Read : goal.returns-in-Read
-returns-in-Read c =
+pub returns-in-Some : goal.returns-in-Some
+returns-in-Some c =
     let enough : head_length c.args.rule ≤ length c.args.line.now = omega (arith, c.if-line-body_at.false, c.body_at.ensures) in
-    c.read_rest.ensures ∙ line_head _ _ enough c.if-line-gt-LONGEST_LINE.false (sym c.each_within.ensures ∙ not-false _ c.if-not-each_within.false-raw) (sym c.read_head-head.ensures ∙ c.in-Read.is)
+    c.read_rest.ensures ∙ line_head _ _ enough c.if-line-gt-LONGEST_LINE.false (sym c.each_within.ensures ∙ not-false _ c.if-not-each_within.false-raw) (sym c.read_head-head.ensures ∙ c.in-Some.is)
 
-pub returns-in-Refused : goal.returns-in-Refused
-returns-in-Refused c =
+pub returns-in-Err : goal.returns-in-Err
+returns-in-Err c =
     let enough : head_length c.args.rule ≤ length c.args.line.now = omega (arith, c.if-line-body_at.false, c.body_at.ensures) in
-    line_head _ _ enough c.if-line-gt-LONGEST_LINE.false (sym c.each_within.ensures ∙ not-false _ c.if-not-each_within.false-raw) (sym c.read_head-head.ensures ∙ c.in-Refused.is)
+    line_head _ _ enough c.if-line-gt-LONGEST_LINE.false (sym c.each_within.ensures ∙ not-false _ c.if-not-each_within.false-raw) (sym c.read_head-head.ensures ∙ c.in-Err.is)

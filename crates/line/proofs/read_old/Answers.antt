@@ -5,14 +5,14 @@ use Rattle.line.specs.Read.{oldly, old_read_of}
 use Rattle.line.proofs.Cases.{told}
 use Rattle.line.proofs.read_old.Goals as goal
 
-pub returns-in-Read : goal.returns-in-Read
+pub returns-in-Some : goal.returns-in-Some
 unfolding old_read_of
-returns-in-Read c =
-    let both = told Old _ (ap oldly (sym c.in-Read.is ∙ c.read_by-read.ensures)) in
+returns-in-Some c =
+    let both = told Old _ (ap oldly (sym c.in-Some.is ∙ c.read_by-read.ensures)) in
     record { value = both.0; case = both.1 }
 
-pub returns-in-Refused : goal.returns-in-Refused
+pub returns-in-Err : goal.returns-in-Err
 unfolding old_read_of
-returns-in-Refused c =
-    let both = told Old _ (ap oldly (sym c.in-Refused.is ∙ c.read_by-read.ensures)) in
+returns-in-Err c =
+    let both = told Old _ (ap oldly (sym c.in-Err.is ∙ c.read_by-read.ensures)) in
     record { value = both.0; case = both.1 }

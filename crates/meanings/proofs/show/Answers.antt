@@ -5,25 +5,25 @@ use Rattle.text.proofs.Laws.{shown_packed, shown_size, shown_text, text_short, t
 use Rattle.meanings.specs.Meaning.{shown_of}
 use Rattle.meanings.proofs.show.Goals as goal
 
-pub returns-in-Next : goal.returns-in-Next
+pub returns-in-Ok : goal.returns-in-Ok
 unfolding shown_of
-returns-in-Next c =
+returns-in-Ok c =
     let p = c.put-written in
     let twelve = c.put-arg-1.given.0.1 in
-    let told = sym p.ensures.value ∙ c.in-Next.is in
+    let told = sym p.ensures.value ∙ c.in-Ok.is in
     let packed = shown_packed _ _ _ _ twelve told p.ensures.out_after in
     record {
       upper_bound = omega (arith, shown_size _ _ _ _ twelve told p.ensures.out_after, text_short _ packed, p.auto.out);
       room_after = shown_text _ _ _ _ twelve told p.ensures.out_after ∙ rw packed;
     }
 
-pub returns-in-NoRoom : goal.returns-in-NoRoom
-returns-in-NoRoom c =
+pub returns-in-Err : goal.returns-in-Err
+returns-in-Err c =
     record {
-      upper_bound = absurd (twelve_room _ _ c.put-arg-1.given.0.1 (sym c.put-written.ensures.value ∙ c.in-NoRoom.is));
-      room_after = absurd (twelve_room _ _ c.put-arg-1.given.0.1 (sym c.put-written.ensures.value ∙ c.in-NoRoom.is));
+      upper_bound = absurd (twelve_room _ _ c.put-arg-1.given.0.1 (sym c.put-written.ensures.value ∙ c.in-Err.is));
+      room_after = absurd (twelve_room _ _ c.put-arg-1.given.0.1 (sym c.put-written.ensures.value ∙ c.in-Err.is));
     }
 
-pub returns-in-NoText : goal.returns-in-NoText
+pub returns-in-Err : goal.returns-in-Err
 unfolding shown_of
-returns-in-NoText c = record { upper_bound = omega arith; room_after = rw (no_text_known _ _ _ (sym c.put-written.ensures.value ∙ c.in-NoText.is)) }
+returns-in-Err c = record { upper_bound = omega arith; room_after = rw (no_text_known _ _ _ (sym c.put-written.ensures.value ∙ c.in-Err.is)) }

@@ -12,18 +12,18 @@ returns-in_default c =
 
 pub returns-then-not-is_allowed : goal.returns-then-not-is_allowed
 returns-then-not-is_allowed c =
-    let both = in_strike_case _ _ (strike_damaged _ _ _ c.read.ensures _ c.in-Read.is (sym c.is_allowed.ensures ∙ not-true _ c.if-not-is_allowed.true-raw)) in
+    let both = in_strike_case _ _ (strike_damaged _ _ _ c.read.ensures _ c.in-Some.is (sym c.is_allowed.ensures ∙ not-true _ c.if-not-is_allowed.true-raw)) in
     record { value = both.0; board_after = both.1.0; strike_case = both.1.1 }
 
 pub strike-struck-requires : goal.strike-struck-requires
 strike-struck-requires c = sym c.is_allowed.ensures ∙ not-false _ c.if-not-is_allowed.false-raw
 
-pub returns-in-Gone : goal.returns-in-Gone
-returns-in-Gone c =
-    let both = in_strike_case _ _ (strike_gone _ _ _ c.read.ensures _ c.in-Read.is (sym c.is_allowed.ensures ∙ not-false _ c.if-not-is_allowed.false-raw) _ _ c.strike-struck.ensures c.in-Gone.is) in
+pub returns-in-Ok : goal.returns-in-Ok
+returns-in-Ok c =
+    let both = in_strike_case _ _ (strike_gone _ _ _ c.read.ensures _ c.in-Some.is (sym c.is_allowed.ensures ∙ not-false _ c.if-not-is_allowed.false-raw) _ _ c.strike-struck.ensures c.in-Ok.is) in
     record { value = both.0; board_after = both.1.0; strike_case = both.1.1 }
 
-pub returns-in-Missing : goal.returns-in-Missing
-returns-in-Missing c =
-    let both = in_strike_case _ _ (strike_missing _ _ _ c.read.ensures _ c.in-Read.is (sym c.is_allowed.ensures ∙ not-false _ c.if-not-is_allowed.false-raw) _ _ c.strike-struck.ensures c.in-Missing.is) in
+pub returns-in-Err : goal.returns-in-Err
+returns-in-Err c =
+    let both = in_strike_case _ _ (strike_missing _ _ _ c.read.ensures _ c.in-Some.is (sym c.is_allowed.ensures ∙ not-false _ c.if-not-is_allowed.false-raw) _ _ c.strike-struck.ensures c.in-Err.is) in
     record { value = both.0; board_after = both.1.0; strike_case = both.1.1 }

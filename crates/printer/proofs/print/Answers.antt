@@ -1,4 +1,5 @@
 -- `printer::print` meets its contract: a text that some allowed board has, and that has room, is written. Assumes nothing.
+use Rattle.std.specs.Prelude.{Err, Ok}
 use mathlib.Core.Path.{◌≡◌, sym, ap, ◌∙◌}
 use mathlib.Core.Bool.{Bool, true, false, not}
 use mathlib.Core.List.{List}
@@ -12,9 +13,9 @@ use Rattle.text.proofs.Logic.{so, not_so}
 use Rattle.board.specs.Board.{is_allowed}
 use Rattle.printer.specs.Print.{text_in, print_of, out_after}
 use Rattle.printer.specs.Asks.{BoardAsks}
-use Rattle.printer.specs.declared.Printed.TheVariants.{Next, NoRoom}
 use Rattle.printer.proofs.Cases.{in_print_case, not_allowed, no_room, printed}
 use Rattle.printer.proofs.print.Goals as goal
+use Rattle.printer.specs.declared.NotPrinted.TheVariants.{NoRoom}
 
 -- n is the size of the text
 module _ (l out : List ℕ) (at : ℕ) {n : ℕ} (size : n ≡ length (text_in l)) where
@@ -24,7 +25,7 @@ module _ (l out : List ℕ) (at : ℕ) {n : ℕ} (size : n ≡ length (text_in l
 
   -- what `has_room` answered
   module _ (good : is_allowed l ≡ true) {r : Bool} (told : r ≡ leb (at + n) (length out)) where
-    refuses : not r ≡ true → (NoRoom ≡ print_of l out at) × (out ≡ out_after l out at)
+    refuses : not r ≡ true → ((Err NoRoom) ≡ print_of l out at) × (out ≡ out_after l out at)
     refuses f = no_room l out at good (sym room_is ∙ not_so told f)
 
     module _ (f : not r ≡ false) where
@@ -34,10 +35,10 @@ module _ (l out : List ℕ) (at : ℕ) {n : ℕ} (size : n ≡ length (text_in l
       asks : BoardAsks l out at
       asks = record { good = good; room = omega (arith, roomy) }
 
-      puts : {o : List ℕ} → o ≡ spliced out at (text_in l) → (Next (at + n) ≡ print_of l out at) × (o ≡ out_after l out at)
+      puts : {o : List ℕ} → o ≡ spliced out at (text_in l) → (Ok (at + n) ≡ print_of l out at) × (o ≡ out_after l out at)
       puts w =
           let p = printed l out at good (sym room_is ∙ so told f) in
-          (ap (λ (i : ℕ). Next (at + i)) size ∙ p.0, w ∙ p.1)
+          (ap (λ (i : ℕ). Ok (at + i)) size ∙ p.0, w ∙ p.1)
 
 pub returns-then-not-is_allowed : goal.returns-then-not-is_allowed
 returns-then-not-is_allowed c =

@@ -1,4 +1,5 @@
 -- `printer::print_counts` meets its contract: a line that has room is written. Assumes nothing.
+use Rattle.std.specs.Prelude.{Ok}
 use mathlib.Core.Path.{◌≡◌, refl, ap, ◌∙◌}
 use mathlib.Core.Bool.{true}
 use mathlib.Core.List.{List}
@@ -6,7 +7,6 @@ use Prim.Native.Nat.{ℕ, ◌+◌, ◌≤◌}
 use native.Mathlib.Omega.{arith}
 use lib.ListN.{length}
 use Rattle.text.specs.Text.{spliced, written_next, written_bytes}
-use Rattle.text.specs.declared.Written.TheVariants.{Next}
 use Rattle.text.proofs.Laws.{has_room_lem, no_room_told, room_told}
 use Rattle.text.specs.Decimal.{decimal}
 use Rattle.text.proofs.Decimal.{decimal_short}
@@ -24,10 +24,10 @@ module _ (lines taken : ℕ) {a b : ℕ} (first : a ≡ length (decimal lines)) 
   size = omega (arith, counts_size lines taken)
 
   puts : (out : List ℕ) (at : ℕ) → at + length (counts_text lines taken) ≤ length out → {o : List ℕ} → o ≡ spliced out at (counts_text lines taken)
-      → (Next (at + (14 + a + b)) ≡ written_next true (counts_text lines taken) out at) × (o ≡ written_bytes true (counts_text lines taken) out at)
+      → (Ok (at + (14 + a + b)) ≡ written_next true (counts_text lines taken) out at) × (o ≡ written_bytes true (counts_text lines taken) out at)
   puts out at room w =
       let h = has_room_lem (counts_text lines taken) out at refl room in
-      (ap (λ (i : ℕ). Next (at + i)) size ∙ h.0, w ∙ h.1)
+      (ap (λ (i : ℕ). Ok (at + i)) size ∙ h.0, w ∙ h.1)
 
 pub overflow_add-n : goal.overflow_add-n
 overflow_add-n c = omega (arith, c.size.ensures, decimal_short c.args.lines)

@@ -5,7 +5,7 @@ use Rattle.readings.proofs.writes_old_same.Goals as goal
 
 pub slice_bounds-room-end : goal.slice_bounds-room-end
 slice_bounds-room-end c =
-    next_inside _ _ _ _ (sym c.write_old-written.ensures.value ∙ c.in-Next.is) c.write_old-written.ensures.out_after
+    next_inside _ _ _ _ (sym c.write_old-written.ensures.value ∙ c.in-Ok.is) c.write_old-written.ensures.out_after
 
 pub slice_bounds-same-end : goal.slice_bounds-same-end
-slice_bounds-same-end c = next_part _ _ _ _ (sym c.write_old-written.ensures.value ∙ c.in-Next.is) c.write_old-written.ensures.out_after
+slice_bounds-same-end c = next_part _ _ _ _ (sym c.write_old-written.ensures.value ∙ c.in-Ok.is) c.write_old-written.ensures.out_after

@@ -16,8 +16,8 @@ returns-in_default c = block_first _ _ c.find-i.ensures c.if-i-s.false (sym c.he
 
 pub returns-in_default-height : goal.returns-in_default-height
 returns-in_default-height c =
-    block_second _ _ c.find-i.ensures c.if-i-s.false _ (sym c.height.ensures ∙ c.in-Value.is) (sym c.height-2.ensures ∙ c.in_default-height.is)
+    block_second _ _ c.find-i.ensures c.if-i-s.false _ (sym c.height.ensures ∙ c.in-Some.is) (sym c.height-2.ensures ∙ c.in_default-height.is)
 
 pub returns : goal.returns
 returns c =
-    block_told _ _ c.find-i.ensures c.if-i-s.false _ (sym c.height.ensures ∙ c.in-Value.is) _ (sym c.height-2.ensures ∙ c.in-Value-height.is)
+    block_told _ _ c.find-i.ensures c.if-i-s.false _ (sym c.height.ensures ∙ c.in-Some.is) _ (sym c.height-2.ensures ∙ c.in-Some-height.is)

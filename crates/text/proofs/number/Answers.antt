@@ -1,5 +1,6 @@
 -- `text::number` meets its contract. The invariant: n, moved up by the places that are left, and what the digits from index i
 -- on are make the whole number, and those bytes are digits as all of them are. Assumes nothing.
+use Rattle.std.specs.Prelude.{None, Some}
 use mathlib.Core.Path.{◌≡◌, refl, sym, ◌∙◌}
 use mathlib.Core.Bool.{true, false, ◌&&◌, and-false}
 use mathlib.Core.List.{List, [], ◌∷◌, map}
@@ -16,7 +17,6 @@ use Rattle.text.specs.Class.{all}
 use Rattle.text.specs.Code.{code_of}
 use Rattle.text.specs.Place.{value}
 use Rattle.text.specs.Number.{is_digit_to, digit_of, number_of, is_numeral, read_number}
-use Rattle.text.specs.declared.Numeral.TheVariants.{Value, Nothing}
 use Rattle.text.proofs.Places.{value_suc, value_none}
 use Rattle.text.proofs.number.Invariants.{Inv}
 use Rattle.text.proofs.number.Goals as goal
@@ -27,7 +27,7 @@ begin s B h k = record { at = omega arith; short = h; few = k; small = omega (ar
 
 -- c is the code of the byte at i
 module _ {s : List ℕ} {B n i : ℕ} (v : Inv s B n i) where
-  done : length s ≤ i → Value n ≡ read_number B s
+  done : length s ≤ i → Some n ≡ read_number B s
   unfolding read_number is_numeral all
   done left =
       let e : drop i s ≡ [] = drop_of_length-le s left in
@@ -41,7 +41,7 @@ module _ {s : List ℕ} {B n i : ℕ} (v : Inv s B n i) where
     cons : drop i s ≡ get_or s i 0 ∷ drop (i + 1) s
     cons = rw (add-one, drop-cons s i 0)
 
-    bad : (leb 1 c && leb c B) ≡ false → Nothing ≡ read_number B s
+    bad : (leb 1 c && leb c B) ≡ false → None ≡ read_number B s
     unfolding read_number is_numeral all is_digit_to
     bad e =
         let every : all (is_digit_to B) s ≡ false = sym v.rest ∙ rw (cons, ← is, e) in

@@ -1,4 +1,5 @@
 -- `text::pack` meets its contract: its loop keeps `Packs`. Assumes nothing.
+use Rattle.std.specs.Prelude.{None, Some}
 use mathlib.Core.Path.{◌≡◌, sym, ◌∙◌}
 use mathlib.Core.Bool.{false}
 use mathlib.Core.List.{List, map}
@@ -10,17 +11,16 @@ use Rattle.text.specs.Code.{code_of}
 use Rattle.text.specs.Class.{all}
 use Rattle.text.specs.Place.{all_in}
 use Rattle.text.specs.Text.{is_text, pack_of}
-use Rattle.text.specs.declared.Packed.TheVariants.{Text, Nothing}
 use Rattle.text.proofs.Codes.{text_all}
 use Rattle.text.proofs.Packs.{Packs, begin, all_summed, all_codes, codes, fits, again}
 use Rattle.text.proofs.pack.Goals as goal
 
 module _ {s : List ℕ} {n w i : ℕ} (v : Packs s n w i) where
-  done : length s ≤ i → Text n ≡ pack_of s
+  done : length s ≤ i → Some n ≡ pack_of s
   unfolding pack_of is_text
   done left = rw (le-leb (length s) 12 v.short, text_all, all_codes v left, all_summed v left)
 
-  bad : (c : ℕ) → i < length s → c ≡ code_of (get_or s i 0) → c ≡ 0 → Nothing ≡ pack_of s
+  bad : (c : ℕ) → i < length s → c ≡ code_of (get_or s i 0) → c ≡ 0 → None ≡ pack_of s
   unfolding pack_of is_text all_in all
   bad c more is none =
       let all : all_in 1 37 (map code_of s) ≡ false = sym v.rest ∙ rw (codes v c more is, lt-leb 1 c (omega arith)) in

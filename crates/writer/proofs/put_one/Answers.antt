@@ -1,8 +1,8 @@
 -- `writer::put_one` meets its contract: there is a text, and room for it. Assumes nothing.
+use Rattle.std.specs.Prelude.{Ok}
 use mathlib.Core.Path.{◌≡◌, sym, ap, ◌∙◌}
 use native.Mathlib.Omega.{arith}
 use Rattle.text.specs.Text.{written_next}
-use Rattle.text.specs.declared.Written.TheVariants.{Next}
 use Rattle.text.proofs.Logic.{true_false}
 use Rattle.text.proofs.Laws.{no_room_known, no_text_known}
 use Rattle.table.specs.Field.{trace_of, is_value, shown}
@@ -11,17 +11,17 @@ use Rattle.writer.proofs.put_one.Goals as goal
 
 pub slice_bounds-trace-end : goal.slice_bounds-trace-end
 slice_bounds-trace-end c =
-    let told : let a = c.args in written_next (is_value a.kind a.trace a.route.now a.v) (shown a.kind a.trace a.route.now a.v) a.out.now 0 ≡ Next c.in-Next.n = sym c.put_field-written.ensures.value ∙ c.in-Next.is in
+    let told : let a = c.args in written_next (is_value a.kind a.trace a.route.now a.v) (shown a.kind a.trace a.route.now a.v) a.out.now 0 ≡ Ok c.in-Ok.n = sym c.put_field-written.ensures.value ∙ c.in-Ok.is in
     next_inside _ _ _ _ told c.put_field-written.ensures.out_after
 
-pub slice_bounds-trace-end-in-Next : goal.slice_bounds-trace-end-in-Next
-slice_bounds-trace-end-in-Next c =
-    let told : let a = c.args in written_next (is_value a.kind a.trace a.route.now a.v) (shown a.kind a.trace a.route.now a.v) a.out.now 0 ≡ Next c.in-Next.n = sym c.put_field-written.ensures.value ∙ c.in-Next.is in
+pub slice_bounds-trace-end-in-Ok : goal.slice_bounds-trace-end-in-Ok
+slice_bounds-trace-end-in-Ok c =
+    let told : let a = c.args in written_next (is_value a.kind a.trace a.route.now a.v) (shown a.kind a.trace a.route.now a.v) a.out.now 0 ≡ Ok c.in-Ok.n = sym c.put_field-written.ensures.value ∙ c.in-Ok.is in
     next_part _ _ _ _ told c.put_field-written.ensures.out_after
 
-pub returns-in-Next : goal.returns-in-Next
-returns-in-Next c =
-    let told : let a = c.args in written_next (is_value a.kind a.trace a.route.now a.v) (shown a.kind a.trace a.route.now a.v) a.out.now 0 ≡ Next c.in-Next.n = sym c.put_field-written.ensures.value ∙ c.in-Next.is in
+pub returns-in-Ok : goal.returns-in-Ok
+returns-in-Ok c =
+    let told : let a = c.args in written_next (is_value a.kind a.trace a.route.now a.v) (shown a.kind a.trace a.route.now a.v) a.out.now 0 ≡ Ok c.in-Ok.n = sym c.put_field-written.ensures.value ∙ c.in-Ok.is in
     let is = c.put_field-written.ensures.out_after in
     record {
       end_value = next_size _ _ _ told is;
@@ -29,18 +29,18 @@ returns-in-Next c =
       out_after = next_bytes _ _ _ _ told is;
     }
 
-pub returns-in-NoRoom : goal.returns-in-NoRoom
-returns-in-NoRoom c =
+pub returns-in-Err : goal.returns-in-Err
+returns-in-Err c =
     record {
-      end_value = absurd (omega (arith, (no_room_known _ _ _ (sym c.put_field-written.ensures.value ∙ c.in-NoRoom.is)).1, c.requires.room));
-      trace_value = absurd (omega (arith, (no_room_known _ _ _ (sym c.put_field-written.ensures.value ∙ c.in-NoRoom.is)).1, c.requires.room));
-      out_after = absurd (omega (arith, (no_room_known _ _ _ (sym c.put_field-written.ensures.value ∙ c.in-NoRoom.is)).1, c.requires.room));
+      end_value = absurd (omega (arith, (no_room_known _ _ _ (sym c.put_field-written.ensures.value ∙ c.in-Err.is)).1, c.requires.room));
+      trace_value = absurd (omega (arith, (no_room_known _ _ _ (sym c.put_field-written.ensures.value ∙ c.in-Err.is)).1, c.requires.room));
+      out_after = absurd (omega (arith, (no_room_known _ _ _ (sym c.put_field-written.ensures.value ∙ c.in-Err.is)).1, c.requires.room));
     }
 
-pub returns-in-NoText : goal.returns-in-NoText
-returns-in-NoText c =
+pub returns-in-Err : goal.returns-in-Err
+returns-in-Err c =
     record {
-      end_value = true_false c.requires.good (no_text_known _ _ _ (sym c.put_field-written.ensures.value ∙ c.in-NoText.is));
-      trace_value = true_false c.requires.good (no_text_known _ _ _ (sym c.put_field-written.ensures.value ∙ c.in-NoText.is));
-      out_after = true_false c.requires.good (no_text_known _ _ _ (sym c.put_field-written.ensures.value ∙ c.in-NoText.is));
+      end_value = true_false c.requires.good (no_text_known _ _ _ (sym c.put_field-written.ensures.value ∙ c.in-Err.is));
+      trace_value = true_false c.requires.good (no_text_known _ _ _ (sym c.put_field-written.ensures.value ∙ c.in-Err.is));
+      out_after = true_false c.requires.good (no_text_known _ _ _ (sym c.put_field-written.ensures.value ∙ c.in-Err.is));
     }

@@ -4,10 +4,10 @@ use mathlib.Core.Path.{◌∙◌}
 use Rattle.board.specs.Row.{arrival_words}
 use Rattle.board.proofs.keeping.put_arrival.Goals as goal
 
-pub returns-in-Empty : goal.returns-in-Empty
+pub returns-in-None : goal.returns-in-None
 unfolding arrival_words
-returns-in-Empty c = c.put_five.ensures ∙ rw c.in-Empty.is
+returns-in-None c = c.put_five.ensures ∙ rw c.in-None.is
 
-pub returns-in-Entry : goal.returns-in-Entry
+pub returns-in-Some : goal.returns-in-Some
 unfolding arrival_words
-returns-in-Entry c = c.put_five-in-Entry.ensures ∙ rw c.in-Entry.is
+returns-in-Some c = c.put_five-in-Some.ensures ∙ rw c.in-Some.is

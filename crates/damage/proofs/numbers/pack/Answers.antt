@@ -13,7 +13,7 @@ returns-in_default c = prefix_len_of_le _ _ (omega (arith, c.put_bytes-written.a
 
 pub loop-i-preserved : goal.loop-i-preserved
 loop-i-preserved c =
-    (next_inside _ _ _ _ (sym c.put_bytes-written.ensures.value ∙ c.in-Next.is) c.put_bytes-written.ensures.out_after, c.put_bytes-written.auto.out ∙ c.loop-i.invariant.1)
+    (next_inside _ _ _ _ (sym c.put_bytes-written.ensures.value ∙ c.in-Ok.is) c.put_bytes-written.ensures.out_after, c.put_bytes-written.auto.out ∙ c.loop-i.invariant.1)
 
 pub returns : goal.returns
 returns c = prefix_len_of_le _ _ c.loop-i.invariant.0

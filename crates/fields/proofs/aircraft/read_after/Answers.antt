@@ -3,8 +3,8 @@ use mathlib.Core.Path.{sym, ap, ◌∙◌}
 use Rattle.fields.specs.Aircraft.{with_prefix}
 use Rattle.fields.proofs.aircraft.read_after.Goals as goal
 
-pub returns-in-Both : goal.returns-in-Both
-returns-in-Both c = ap (with_prefix _) (sym c.in-Both.is ∙ c.read_pair-pair.ensures)
+pub returns-in-Some : goal.returns-in-Some
+returns-in-Some c = ap (with_prefix _) (sym c.in-Some.is ∙ c.read_pair-pair.ensures)
 
-pub returns-in-Nothing : goal.returns-in-Nothing
-returns-in-Nothing c = ap (with_prefix _) (sym c.in-Nothing.is ∙ c.read_pair-pair.ensures)
+pub returns-in-None : goal.returns-in-None
+returns-in-None c = ap (with_prefix _) (sym c.in-None.is ∙ c.read_pair-pair.ensures)

@@ -15,4 +15,4 @@ pub returns-in_default : goal.returns-in_default
 returns-in_default c = bad_prefix _ _ c.find-i.ensures c.if-i-s.false (sym c.read.ensures ∙ c.in_default.is)
 
 pub returns : goal.returns
-returns c = c.read_after.ensures ∙ with_prefix_lem _ _ c.find-i.ensures c.if-i-s.false (sym c.read.ensures ∙ c.in-Text.is)
+returns c = c.read_after.ensures ∙ with_prefix_lem _ _ c.find-i.ensures c.if-i-s.false (sym c.read.ensures ∙ c.in-Some.is)

@@ -10,9 +10,9 @@ returns-in_default c = ap (after_prefix _) (sym c.in_default.is ∙ c.pair_word.
 
 pub returns-then-a-eq0 : goal.returns-then-a-eq0
 unfolding aircraft_word
-returns-then-a-eq0 c = (rw (eq-eqb _ _ c.if-a-eq0.true)) ∙ ap (after_prefix _) (sym c.in-Text.is ∙ c.pair_word.ensures)
+returns-then-a-eq0 c = (rw (eq-eqb _ _ c.if-a-eq0.true)) ∙ ap (after_prefix _) (sym c.in-Some.is ∙ c.pair_word.ensures)
 
 pub returns : goal.returns
 unfolding aircraft_word
 returns c =
-    c.join.ensures ∙ (rw (ne_eqb _ _ c.if-a-eq0.false)) ∙ ap (after_prefix _) (sym c.in-Text.is ∙ c.pair_word.ensures)
+    c.join.ensures ∙ (rw (ne_eqb _ _ c.if-a-eq0.false)) ∙ ap (after_prefix _) (sym c.in-Some.is ∙ c.pair_word.ensures)

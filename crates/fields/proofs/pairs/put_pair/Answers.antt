@@ -12,11 +12,11 @@ returns-then-not-holds_pair c =
     let both = no_text _ _ _ (rw (not_so c.holds_pair.ensures c.if-not-holds_pair.true-raw)) in
     record { value = both.0; out_after = both.1 }
 
-pub returns-in-Text : goal.returns-in-Text
-returns-in-Text c =
-    let w = pair_writes _ _ _ _ (so c.holds_pair.ensures c.if-not-holds_pair.false-raw) (sym c.pair_word-word.ensures ∙ c.in-Text.is) in rw (← w.0, ← w.1) (record { value = c.put.ensures.value; out_after = c.put.ensures.out_after })
+pub returns-in-Some : goal.returns-in-Some
+returns-in-Some c =
+    let w = pair_writes _ _ _ _ (so c.holds_pair.ensures c.if-not-holds_pair.false-raw) (sym c.pair_word-word.ensures ∙ c.in-Some.is) in rw (← w.0, ← w.1) (record { value = c.put.ensures.value; out_after = c.put.ensures.out_after })
 
-pub returns-in-Nothing : goal.returns-in-Nothing
-returns-in-Nothing c =
-    let both = no_text _ _ _ (pair_too_long _ _ _ _ (so c.holds_pair.ensures c.if-not-holds_pair.false-raw) (sym c.pair_word-word.ensures ∙ c.in-Nothing.is)) in
+pub returns-in-None : goal.returns-in-None
+returns-in-None c =
+    let both = no_text _ _ _ (pair_too_long _ _ _ _ (so c.holds_pair.ensures c.if-not-holds_pair.false-raw) (sym c.pair_word-word.ensures ∙ c.in-None.is)) in
     record { value = both.0; out_after = both.1 }

@@ -9,25 +9,25 @@ use Rattle.fields.proofs.words.holds.Goals as goal
 pub slice_bounds-room-end : goal.slice_bounds-room-end
 slice_bounds-room-end c =
     let p = c.put-written in
-    let told = sym p.ensures.value ∙ c.in-Next.is in
+    let told = sym p.ensures.value ∙ c.in-Ok.is in
     omega (arith, shown_size _ _ _ _ refl told p.ensures.out_after, text_short _ (shown_packed _ _ _ _ refl told p.ensures.out_after), p.auto.out)
 
 pub slice_bounds-is_form-end : goal.slice_bounds-is_form-end
 slice_bounds-is_form-end c =
     let p = c.put-written in
-    let told = sym p.ensures.value ∙ c.in-Next.is in
+    let told = sym p.ensures.value ∙ c.in-Ok.is in
     sym (length-take-le _ _ (omega (arith, shown_size _ _ _ _ refl told p.ensures.out_after, text_short _ (shown_packed _ _ _ _ refl told p.ensures.out_after), p.auto.out)))
 
-pub returns-in-Next : goal.returns-in-Next
+pub returns-in-Ok : goal.returns-in-Ok
 unfolding is_word
-returns-in-Next c =
+returns-in-Ok c =
     let p = c.put-written in
-    let told = sym p.ensures.value ∙ c.in-Next.is in
+    let told = sym p.ensures.value ∙ c.in-Ok.is in
     c.is_form.ensures ∙ rw (shown_text _ _ _ _ refl told p.ensures.out_after, shown_packed _ _ _ _ refl told p.ensures.out_after)
 
-pub returns-in-NoRoom : goal.returns-in-NoRoom
-returns-in-NoRoom c = absurd (twelve_room _ _ refl (sym c.put-written.ensures.value ∙ c.in-NoRoom.is))
+pub returns-in-Err : goal.returns-in-Err
+returns-in-Err c = absurd (twelve_room _ _ refl (sym c.put-written.ensures.value ∙ c.in-Err.is))
 
-pub returns-in-NoText : goal.returns-in-NoText
+pub returns-in-Err : goal.returns-in-Err
 unfolding is_word
-returns-in-NoText c = rw (no_text_known _ _ _ (sym c.put-written.ensures.value ∙ c.in-NoText.is))
+returns-in-Err c = rw (no_text_known _ _ _ (sym c.put-written.ensures.value ∙ c.in-Err.is))

@@ -8,7 +8,7 @@ pub returns-in_default : goal.returns-in_default
 returns-in_default c = no_letters _ _ (sym c.read.ensures ∙ c.in_default.is)
 
 pub returns-then-not-has_type : goal.returns-then-not-has_type
-returns-then-not-has_type c = not_given _ _ _ (sym c.read.ensures ∙ c.in-Read.is) (not_so c.has_type.ensures c.if-not-has_type.true-raw)
+returns-then-not-has_type c = not_given _ _ _ (sym c.read.ensures ∙ c.in-Some.is) (not_so c.has_type.ensures c.if-not-has_type.true-raw)
 
 pub returns : goal.returns
-returns c = given _ _ _ (sym c.read.ensures ∙ c.in-Read.is) (so c.has_type.ensures c.if-not-has_type.false-raw)
+returns c = given _ _ _ (sym c.read.ensures ∙ c.in-Some.is) (so c.has_type.ensures c.if-not-has_type.false-raw)

@@ -36,13 +36,13 @@ age_at-requires c =
     let l : 28 ≤ c.args.last = omega (arith, c.if-last-lt28.false) in
     record {
       le_last = l;
-      ranged = ranged _ _ (sym c.stamp_moment.ensures ∙ c.in-At.is);
-      ranged_2 = ranged _ _ (sym c.stamp_moment-2.ensures ∙ c.in-At-stamp_moment.is);
+      ranged = ranged _ _ (sym c.stamp_moment.ensures ∙ c.in-Some.is);
+      ranged_2 = ranged _ _ (sym c.stamp_moment-2.ensures ∙ c.in-Some-stamp_moment.is);
     }
 
 pub returns : goal.returns
 returns c =
     let l : 28 ≤ c.args.last = omega (arith, c.if-last-lt28.false) in
     let h : c.args.last ≤ 31 = omega (arith, c.if-last-gt31.false) in
-    let both = in_age_case (c.age_at.ensures ∙ in_range_lem (record { now_at = sym c.stamp_moment.ensures ∙ c.in-At.is; stamp_at = sym c.stamp_moment-2.ensures ∙ c.in-At-stamp_moment.is; last_least = l; last_most = h })) in
+    let both = in_age_case (c.age_at.ensures ∙ in_range_lem (record { now_at = sym c.stamp_moment.ensures ∙ c.in-Some.is; stamp_at = sym c.stamp_moment-2.ensures ∙ c.in-Some-stamp_moment.is; last_least = l; last_most = h })) in
     record { value = both.0; age_is = both.1 }

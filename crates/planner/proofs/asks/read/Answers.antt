@@ -3,8 +3,8 @@ use mathlib.Core.Path.{sym, ◌∙◌}
 use Rattle.planner.proofs.AskWays.{asks_as}
 use Rattle.planner.proofs.asks.read.Goals as goal
 
-pub returns-in-Read : goal.returns-in-Read
-returns-in-Read c = c.ask.ensures ∙ asks_as _ _ (sym c.in-Read.is ∙ c.read-read.ensures.value)
+pub returns-in-Some : goal.returns-in-Some
+returns-in-Some c = c.ask.ensures ∙ asks_as _ _ (sym c.in-Some.is ∙ c.read-read.ensures.value)
 
-pub returns-in-Refused : goal.returns-in-Refused
-returns-in-Refused c = asks_as _ _ (sym c.in-Refused.is ∙ c.read-read.ensures.value)
+pub returns-in-Err : goal.returns-in-Err
+returns-in-Err c = asks_as _ _ (sym c.in-Err.is ∙ c.read-read.ensures.value)

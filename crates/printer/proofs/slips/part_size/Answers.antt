@@ -7,8 +7,8 @@ use Rattle.printer.proofs.slips.part_size.Goals as goal
 pub returns-then-word-eq0 : goal.returns-then-word-eq0
 returns-then-word-eq0 c = sym (ap length (part_none _ c.if-word-eq0.true))
 
-pub returns-in-Bytes : goal.returns-in-Bytes
-returns-in-Bytes c = size_some _ c.requires c.if-word-eq0.false (sym c.size-found.ensures ∙ c.in-Bytes.is)
+pub returns-in-Some : goal.returns-in-Some
+returns-in-Some c = size_some _ c.requires c.if-word-eq0.false (sym c.size-found.ensures ∙ c.in-Some.is)
 
-pub returns-in-NotOne : goal.returns-in-NotOne
-returns-in-NotOne c = size_never _ c.requires c.if-word-eq0.false (sym c.size-found.ensures ∙ c.in-NotOne.is)
+pub returns-in-None : goal.returns-in-None
+returns-in-None c = size_never _ c.requires c.if-word-eq0.false (sym c.size-found.ensures ∙ c.in-None.is)

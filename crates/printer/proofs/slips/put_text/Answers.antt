@@ -13,13 +13,13 @@ returns-then-word-eq0 c =
     let both = put_none _ _ _ c.requires.0 c.requires.1 c.if-word-eq0.true in
     record { value = both.0; out_after = both.1 }
 
-pub returns-in-Next : goal.returns-in-Next
-returns-in-Next c =
-    let both = put_some _ _ _ c.requires.0 c.requires.1 c.if-word-eq0.false (sym c.put-written.ensures.value ∙ c.in-Next.is) c.put-written.ensures.out_after in
+pub returns-in-Ok : goal.returns-in-Ok
+returns-in-Ok c =
+    let both = put_some _ _ _ c.requires.0 c.requires.1 c.if-word-eq0.false (sym c.put-written.ensures.value ∙ c.in-Ok.is) c.put-written.ensures.out_after in
     record { value = both.0; out_after = both.1 }
 
-pub returns-in-NoRoom : goal.returns-in-NoRoom
-returns-in-NoRoom c = put_roomy _ _ _ c.requires.0 c.requires.1 c.if-word-eq0.false (sym c.put-written.ensures.value ∙ c.in-NoRoom.is)
+pub returns-in-Err : goal.returns-in-Err
+returns-in-Err c = put_roomy _ _ _ c.requires.0 c.requires.1 c.if-word-eq0.false (sym c.put-written.ensures.value ∙ c.in-Err.is)
 
-pub returns-in-NoText : goal.returns-in-NoText
-returns-in-NoText c = put_text _ _ _ c.requires.0 c.requires.1 c.if-word-eq0.false (sym c.put-written.ensures.value ∙ c.in-NoText.is)
+pub returns-in-Err : goal.returns-in-Err
+returns-in-Err c = put_text _ _ _ c.requires.0 c.requires.1 c.if-word-eq0.false (sym c.put-written.ensures.value ∙ c.in-Err.is)

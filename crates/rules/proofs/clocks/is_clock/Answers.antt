@@ -18,8 +18,8 @@ returns-in_default c = no_minutes 2359 _ (sym c.number.ensures ∙ c.in_default.
 
 pub returns-then-n-le2359 : goal.returns-then-n-le2359
 returns-then-n-le2359 c =
-    (rw (le-leb c.in-Value.n 2359 (omega (arith, c.if-n-le2359.true)))) ∙ told_minutes 2359 _ (sym c.number.ensures ∙ c.in-Value.is) ∙ clock_is _ c.if-s-ne4.false
+    (rw (le-leb c.in-Some.n 2359 (omega (arith, c.if-n-le2359.true)))) ∙ told_minutes 2359 _ (sym c.number.ensures ∙ c.in-Some.is) ∙ clock_is _ c.if-s-ne4.false
 
 pub returns-else-n-le2359 : goal.returns-else-n-le2359
 returns-else-n-le2359 c =
-    (rw (lt-leb c.in-Value.n 2359 (omega (arith, c.if-n-le2359.false)))) ∙ told_minutes 2359 _ (sym c.number.ensures ∙ c.in-Value.is) ∙ clock_is _ c.if-s-ne4.false
+    (rw (lt-leb c.in-Some.n 2359 (omega (arith, c.if-n-le2359.false)))) ∙ told_minutes 2359 _ (sym c.number.ensures ∙ c.in-Some.is) ∙ clock_is _ c.if-s-ne4.false

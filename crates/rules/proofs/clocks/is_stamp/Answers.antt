@@ -14,4 +14,4 @@ pub returns-in_default : goal.returns-in_default
 returns-in_default c = no_stamp _ c.if-s-ne8.false (sym c.number.ensures ∙ c.in_default.is)
 
 pub returns : goal.returns
-returns c = c.is_moment.ensures ∙ stamp_is _ c.if-s-ne8.false (sym c.number.ensures ∙ c.in-Value.is)
+returns c = c.is_moment.ensures ∙ stamp_is _ c.if-s-ne8.false (sym c.number.ensures ∙ c.in-Some.is)

@@ -8,4 +8,4 @@ pub returns-in_default : goal.returns-in_default
 returns-in_default c = aircraft_as New _ (sym c.in_default.is ∙ c.read.ensures.value)
 
 pub returns : goal.returns
-returns c = aircraft_as New _ (sym c.in-Read.is ∙ c.read.ensures.value)
+returns c = aircraft_as New _ (sym c.in-Some.is ∙ c.read.ensures.value)

@@ -8,7 +8,7 @@ pub returns-in_default : goal.returns-in_default
 returns-in_default c = aircraft_as Old _ (sym c.in_default.is ∙ c.read.ensures.value)
 
 pub returns-then-aircraft-ne0 : goal.returns-then-aircraft-ne0
-returns-then-aircraft-ne0 c = old_lettered _ (sym c.in-Read.is ∙ c.read.ensures.value) c.if-aircraft-ne0.true
+returns-then-aircraft-ne0 c = old_lettered _ (sym c.in-Some.is ∙ c.read.ensures.value) c.if-aircraft-ne0.true
 
 pub returns : goal.returns
-returns c = old_plain _ (sym c.in-Read.is ∙ c.read.ensures.value) c.if-aircraft-ne0.false
+returns c = old_plain _ (sym c.in-Some.is ∙ c.read.ensures.value) c.if-aircraft-ne0.false

@@ -11,4 +11,4 @@ pub returns-then-not-follows : goal.returns-then-not-follows
 returns-then-not-follows c = plan_time_barred _ _ (not_so c.follows.ensures c.if-not-follows.true-raw)
 
 pub returns : goal.returns
-returns c = plan_time_read _ _ (sym c.in-Read.is ∙ c.read.ensures) (so c.follows.ensures c.if-not-follows.false-raw)
+returns c = plan_time_read _ _ (sym c.in-Some.is ∙ c.read.ensures) (so c.follows.ensures c.if-not-follows.false-raw)

@@ -7,4 +7,4 @@ pub returns-in_default : goal.returns-in_default
 returns-in_default c = ap of_ident (sym c.in_default.is ∙ c.read_tz.ensures)
 
 pub returns : goal.returns
-returns c = ap of_ident (sym c.in-Read.is ∙ c.read_tz.ensures)
+returns c = ap of_ident (sym c.in-Some.is ∙ c.read_tz.ensures)

@@ -1,4 +1,5 @@
 -- `table::spacing::count` meets its contract: what the spaces of the body tell. Assumes nothing.
+use Rattle.std.specs.Prelude.{None, Some}
 use mathlib.Core.Path.{◌≡◌, refl, sym, ◌∙◌}
 use mathlib.Core.Bool.{true, false}
 use mathlib.Core.List.{List, [], ◌∷◌}
@@ -11,26 +12,25 @@ use borrow.Author.Rules.{rules}
 use borrow.Author.Tests.{ne_eqb}
 use Rattle.shapes.specs.Many.{how_many, twice}
 use Rattle.table.specs.Spacing.{space, fields_of, counts, count_of}
-use Rattle.table.specs.declared.spacing.Counted.TheVariants as counted
 use Rattle.table.proofs.Spaces.{told, spaces_told}
 use Rattle.table.proofs.spacing.count.Goals as goal
 
-none : (s : List ℕ) → length s ≡ 0 → counted.Fields 0 false ≡ count_of s
+none : (s : List ℕ) → length s ≡ 0 → Some (0, false) ≡ count_of s
 unfolding count_of fields_of counts
 none [] h = refl
 none (x ∷ s) h = absurd (omega arith)
 
-bad : (s : List ℕ) → (get_or s 0 0 ≡ space → ⊥) → 0 < length s → counted.Wrong ≡ count_of s
+bad : (s : List ℕ) → (get_or s 0 0 ≡ space → ⊥) → 0 < length s → None ≡ count_of s
 unfolding count_of fields_of counts
 bad [] e h = absurd (omega arith)
 bad (x ∷ s) e h = rw (ne_eqb x space e)
 
 module _ (s : List ℕ) (h : 0 < length s) (e : get_or s 0 0 ≡ space) where
-  wrong : twice space s ≡ true → counted.Wrong ≡ count_of s
+  wrong : twice space s ≡ true → None ≡ count_of s
   unfolding told
   wrong t = rw (spaces_told s h e, t)
 
-  right : twice space s ≡ false → {n : ℕ} → n ≡ how_many space (take (length s - 1) s) → counted.Fields n (eqb (get_or s (length s - 1) 0) space) ≡ count_of s
+  right : twice space s ≡ false → {n : ℕ} → n ≡ how_many space (take (length s - 1) s) → Some (n, eqb (get_or s (length s - 1) 0) space) ≡ count_of s
   unfolding told
   right t k = rw (spaces_told s h e, t, k)
 

@@ -1,5 +1,6 @@
 -- `table::walk::read` meets its contract: the answer on what is left is the answer on the whole, and the values of what is left, put
 -- from the place that is reached, make what all the values make. Assumes nothing.
+use Rattle.std.specs.Prelude.{Err, Ok, Result}
 use mathlib.Core.Path.{◌≡◌, sym, ap, ◌∙◌, subst}
 use mathlib.Core.Bool.{Bool}
 use mathlib.Core.List.{List, [], ◌∷◌}
@@ -15,17 +16,14 @@ use Rattle.table.specs.Spacing.{end_of}
 use Rattle.table.proofs.SpacingLaws.{end_from, end_le}
 use Rattle.table.specs.Field.{read_in, trace_of, marks_of}
 use Rattle.table.specs.declared.kinds.Value.{Value}
-use Rattle.table.specs.declared.kinds.FieldRead.{FieldRead}
-use Rattle.table.specs.declared.kinds.FieldRead.TheVariants as field
 use Rattle.table.specs.contracts.kinds.FieldRead.{the_type}
 use Rattle.table.specs.Read.{none, padded, values_from, fault_at, answer_from, answer_of, values_of, Ready}
-use Rattle.table.specs.declared.walk.Answer.{Answer}
-use Rattle.table.specs.declared.walk.Answer.TheVariants.{Taken, Refused}
 use Rattle.table.specs.declared.walk.Fault.{Fault}
 use Rattle.table.proofs.WalkWays.{fields_on, at_start_lem, fields, goes, inside, at_next, answer_done, values_done, answer_read, values_read, answer_stop, values_stop, values_few, sets_padded, read_ready}
 use borrow.Enum.Refused.{opened}
 use Rattle.table.proofs.walk.read.Invariants.{Inv}
 use Rattle.table.proofs.walk.read.Goals as goal
+use Rattle.table.specs.declared.kinds.NotRead.{NotRead}
 
 start : (ks body : List ℕ) (t : Bool) → Ready ks body t → Inv ks body t (replicate 19 none) 0 0 0 0
 start ks body t r = record {
@@ -37,15 +35,15 @@ start ks body t r = record {
 }
 
 -- what `read` promises of its answer and its values
-abbrev Filled : List ℕ → List ℕ → Bool → Answer → List Value → Type 0
+abbrev Filled : List ℕ → List ℕ → Bool → Result (Bool × ℕ) Fault → List Value → Type 0
 Filled ks body t r values = (r ≡ answer_of ks body) × (values ≡ padded (values_of ks body))
 
 module _ {ks body : List ℕ} {t : Bool} {values : List Value} {at k p m : ℕ} (v : Inv ks body t values at k p m) where
-  done : length ks ≤ k → Filled ks body t (Taken t m) values
+  done : length ks ≤ k → Filled ks body t (Ok (t, m)) values
   done h =
       let e : drop k ks ≡ [] = drop_of_length-le ks h in
       let w : values_from (drop k ks) p m (drop k (fields_on body)) ≡ [] = rw e (values_done p m (drop k (fields_on body))) in
-      let a : answer_from (k + 1) t (drop k ks) p m (drop k (fields_on body)) ≡ Taken t m = rw e (answer_done (k + 1) t p m (drop k (fields_on body))) in
+      let a : answer_from (k + 1) t (drop k ks) p m (drop k (fields_on body)) ≡ Ok (t, m) = rw e (answer_done (k + 1) t p m (drop k (fields_on body))) in
       (sym a ∙ v.told, rw w at v.made)
 
   module _ (more : k < length ks) where
@@ -56,23 +54,23 @@ module _ {ks body : List ℕ} {t : Bool} {values : List Value} {at k p m : ℕ} 
     within = inside v.walk field_left
 
     -- the field from the next byte to e, and its reading x
-    module _ (e : ℕ) (is : e ≡ end_of body (at + 1)) (x : FieldRead) (reads : x ≡ read_in (get_or ks k 0) p m (take (e - (at + 1)) (drop (at + 1) body))) where
+    module _ (e : ℕ) (is : e ≡ end_of body (at + 1)) (x : Result Value NotRead) (reads : x ≡ read_in (get_or ks k 0) p m (take (e - (at + 1)) (drop (at + 1) body))) where
       is_field : take (e - (at + 1)) (drop (at + 1) body) ≡ get_or (fields_on body) k []
       is_field = (goes v.walk field_left e is).field
 
       is_read : read_in (get_or ks k 0) p m (get_or (fields_on body) k []) ≡ x
       is_read = rw is_field at (sym reads)
 
-      stops : (r : Fault) → OneOf (1 ∷ 2 ∷ []) (tag_of the_type x) → r ≡ fault_at (k + 1) x → Filled ks body t (Refused r) values
+      stops : (r : Fault) → OneOf (1 ∷ 2 ∷ []) (tag_of the_type x) → r ≡ fault_at (k + 1) x → Filled ks body t (Err r) values
       stops r h g =
           let f = get_or (fields_on body) k [] in
           let s = values_stop (get_or ks k 0) (drop (k + 1) ks) p m f (drop (k + 1) (fields_on body)) x is_read h in
           let a = answer_stop (get_or ks k 0) (drop (k + 1) ks) p m f (drop (k + 1) (fields_on body)) x is_read h (k + 1) t in
           let w : values_from (drop k ks) p m (drop k (fields_on body)) ≡ [] = rw (next_byte ks k, fields v.walk field_left) s in
-          let z : Refused (fault_at (k + 1) x) ≡ answer_from (k + 1) t (drop k ks) p m (drop k (fields_on body)) = rw (next_byte ks k, fields v.walk field_left) a in
-          (ap Refused g ∙ z ∙ v.told, rw w at v.made)
+          let z : Err (fault_at (k + 1) x) ≡ answer_from (k + 1) t (drop k ks) p m (drop k (fields_on body)) = rw (next_byte ks k, fields v.walk field_left) a in
+          (ap Err g ∙ z ∙ v.told, rw w at v.made)
 
-      again : (y : Value) (p' m' : ℕ) → x ≡ field.Read y
+      again : (y : Value) (p' m' : ℕ) → x ≡ Ok y
           → p' ≡ trace_of (get_or ks k 0) (take (e - (at + 1)) (drop (at + 1) body)) → m' ≡ marks_of (get_or ks k 0) m (take (e - (at + 1)) (drop (at + 1) body))
           → Inv ks body t (set values k y) e (k + 1) p' m'
       again y p' m' h l n =
@@ -145,7 +143,7 @@ slice_bounds-trace-end c = rw c.field_end-e.ensures (end_le _ _ (within c.loop-k
 
 pub loop-k-preserved : goal.loop-k-preserved
 loop-k-preserved c =
-    again c.loop-k.invariant c.loop-k-test.true c.field_end-e.result c.field_end-e.ensures c.read_field-read.result c.read_field-read.ensures _ _ _ c.in-Read.is c.trace-trace.ensures c.marks_after-marks.ensures
+    again c.loop-k.invariant c.loop-k-test.true c.field_end-e.result c.field_end-e.ensures c.read_field-read.result c.read_field-read.ensures _ _ _ c.in-Some.is c.trace-trace.ensures c.marks_after-marks.ensures
 
 pub returns : goal.returns
 returns c =

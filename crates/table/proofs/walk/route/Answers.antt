@@ -1,4 +1,5 @@
 -- `table::walk::route` meets its contract: the route of what is left is the route of the whole. Assumes nothing.
+use Rattle.std.specs.Prelude.{Some}
 use mathlib.Core.Path.{◌≡◌, refl, sym, ap, ◌∙◌}
 use mathlib.Core.Bool.{Bool}
 use mathlib.Core.List.{List, [], ◌∷◌}
@@ -8,7 +9,6 @@ use lib.ListN.{length, take, drop, get_or, drop_of_length-le, length-drop}
 use lib.Seq.{length-take-le}
 use Rattle.shapes.proofs.Laws.{next_byte, at_front}
 use Rattle.table.specs.Spacing.{count_of, end_of}
-use Rattle.table.specs.declared.spacing.Counted.TheVariants as counting
 use Rattle.table.proofs.SpacingLaws.{end_from, end_le, count_known}
 use Rattle.table.specs.Field.{ROUTE, plain, trace_of}
 use Rattle.table.specs.Read.{route_in, route_of, route_from, route_at}
@@ -17,7 +17,7 @@ use Rattle.table.proofs.WalkWays.{fields_on, at_start_lem, fields, goes, inside,
 use Rattle.table.proofs.walk.route.Invariants.{Inv}
 use Rattle.table.proofs.walk.route.Goals as goal
 
-start : (ks body : List ℕ) {n : ℕ} {t : Bool} → count_of body ≡ counting.Fields n t → Inv ks body n 0 0 0
+start : (ks body : List ℕ) {n : ℕ} {t : Bool} → count_of body ≡ Some (n, t) → Inv ks body n 0 0 0
 unfolding route_of route_at
 start ks body {n} {t} e = let c = count_known body e in record { walk = at_start_lem body t c.0; count = c.1; told = refl; stands = refl }
 
@@ -80,7 +80,7 @@ returns-in_default c =
     record { result_value = route_wrong _ _ w; ref_ptr_value = at_front _ (start_wrong _ _ w) }
 
 pub loop-k-init : goal.loop-k-init
-loop-k-init c = start _ _ (sym c.count.ensures ∙ c.in-Fields.is)
+loop-k-init c = start _ _ (sym c.count.ensures ∙ c.in-Some.is)
 
 pub returns-then-k-kinds : goal.returns-then-k-kinds
 returns-then-k-kinds c =

@@ -1,5 +1,6 @@
 -- `text::decimals::put` meets its contract. The invariant: the k digits of what is left, written from place `at`, make what all digits of n
 -- make. Assumes nothing.
+use Rattle.std.specs.Prelude.{Ok}
 use mathlib.Core.Path.{◌≡◌, refl, sym, ap, ◌∙◌}
 use mathlib.Core.List.{List}
 use Prim.Native.Nat.{ℕ, suc, ◌+◌, ◌-◌, ◌/◌, ◌%◌, ◌^◌, ◌≤◌, ◌<◌}
@@ -10,7 +11,6 @@ use Rattle.text.proofs.Splice.{spliced_none, spliced_last}
 use Rattle.text.specs.Place.{places}
 use Rattle.text.specs.Number.{padded}
 use Rattle.text.specs.Text.{spliced}
-use Rattle.text.specs.declared.Written.TheVariants.{Next}
 use Rattle.text.proofs.Laws.{has_room_lem, no_room_told, room_told}
 use Rattle.text.proofs.Numbers.{length-padded}
 use Rattle.text.specs.Decimal.{width_of, decimal}
@@ -81,4 +81,4 @@ returns c =
     let a = c.args in
     let v = c.loop-k.invariant in
     let r = has_room_lem (decimal a.n) a.out.now a.at refl (omega (arith, v.room, v.long)) in
-    record { value = ap Next (omega (arith, v.long)) ∙ r.0; out_after = whole v c.loop-k-test.false ∙ r.1 }
+    record { value = ap Ok (omega (arith, v.long)) ∙ r.0; out_after = whole v c.loop-k-test.false ∙ r.1 }

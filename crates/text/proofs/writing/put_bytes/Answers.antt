@@ -1,5 +1,6 @@
 -- `text::writing::put_bytes` meets its contract. The invariant: what is left, written from the place that is reached, makes what all of
 -- s makes. Assumes nothing.
+use Rattle.std.specs.Prelude.{Ok}
 use mathlib.Core.Path.{◌≡◌, refl, ap, ◌∙◌}
 use mathlib.Core.List.{List, ◌∷◌}
 use Prim.Native.Nat.{ℕ, suc, ◌+◌, ◌≤◌, ◌<◌}
@@ -9,7 +10,6 @@ use native.Mathlib.Omega.{arith}
 use lib.ListN.{length, drop, get_or, set, length-set, drop_of_length-le}
 use lib.Seq.{sets, sets-eq, drop-cons}
 use Rattle.text.specs.Text.{spliced}
-use Rattle.text.specs.declared.Written.TheVariants.{Next}
 use Rattle.text.proofs.Laws.{has_room_lem, no_room_told, room_told}
 use Rattle.text.proofs.writing.put_bytes.Invariants.{Inv}
 use Rattle.text.proofs.writing.put_bytes.Goals as goal
@@ -58,4 +58,4 @@ returns c =
     let v = c.loop-i.invariant in
     let z = c.loop-i-test.false in
     let r = has_room_lem a.s.now a.out.now a.at refl v.room in
-    record { value = ap (λ (n : ℕ). Next (a.at + n)) (all v z) ∙ r.0; out_after = whole v z ∙ r.1 }
+    record { value = ap (λ (n : ℕ). Ok (a.at + n)) (all v z) ∙ r.0; out_after = whole v z ∙ r.1 }

@@ -1,5 +1,6 @@
 -- `text::writing::size` meets its contract. The invariant: the digits of what is left, and whether they are tight, as they are of the whole.
 -- Assumes nothing.
+use Rattle.std.specs.Prelude.{None, Some}
 use mathlib.Core.Path.{◌≡◌, refl, sym, ap, ◌∙◌}
 use mathlib.Core.Bool.{true, false}
 use Prim.Native.Nat.{ℕ, ◌+◌, ◌-◌, ◌/◌, ◌%◌, ◌^◌, ◌≤◌, ◌<◌}
@@ -9,14 +10,13 @@ use lib.ListN.{length, length-map}
 use borrow.Author.Tests.{le-leb, lt-leb, lt-ltb, le-ltb}
 use Rattle.text.specs.Place.{digits, tight}
 use Rattle.text.specs.Text.{is_packed, text_of, size_of}
-use Rattle.text.specs.declared.Sized.TheVariants.{Bytes, NotOne}
 use Rattle.text.proofs.Places.{digits_zero, tight_zero}
 use Rattle.text.proofs.Turn.{place_left, next_weight, weighs, digits_turn, tight_turn}
 use Rattle.text.proofs.writing.size.Invariants.{Inv}
 use Rattle.text.proofs.writing.size.Goals as goal
 
 module _ {t r w k : ℕ} (v : Inv t r w k) where
-  done : r ≤ 0 → Bytes k ≡ size_of t
+  done : r ≤ 0 → Some k ≡ size_of t
   unfolding size_of is_packed text_of
   done h =
       let z : r ≡ 0 = omega arith in
@@ -40,7 +40,7 @@ module _ {t r w k : ℕ} (v : Inv t r w k) where
       long = omega (arith, v.long, ap length (digits_turn w k place v.weight r more));
     }
 
-    bad : r < w / 38 → NotOne ≡ size_of t
+    bad : r < w / 38 → None ≡ size_of t
     unfolding size_of is_packed
     bad h =
         let all : tight 38 12 t ≡ false = sym v.tightly ∙ tight_turn w k place v.weight r more ∙ rw (lt-leb (w / 38) r h) in

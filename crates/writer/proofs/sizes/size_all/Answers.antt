@@ -1,5 +1,6 @@
 -- `writer::sizes::size_all` meets its contract: the size so far and what is left of the fields make the size of all. Assumes
 -- nothing.
+use Rattle.std.specs.Prelude.{None, Some}
 use mathlib.Core.Path.{◌≡◌, sym, ◌∙◌}
 use mathlib.Core.List.{List, []}
 use Prim.Native.Nat.{ℕ, ◌+◌, ◌≤◌, ◌<◌}
@@ -10,8 +11,6 @@ use Rattle.shapes.proofs.Laws.{next_byte}
 use Rattle.table.specs.declared.kinds.Value.{Value}
 use Rattle.table.specs.Read.{none}
 use Rattle.writer.specs.Size.{sized_field, sized_all}
-use Rattle.writer.specs.declared.sizes.SizedField.TheVariants as field
-use Rattle.writer.specs.declared.sizes.SizedAll.TheVariants as all
 use Rattle.writer.proofs.FieldSizes.{from_all, from_none, from_stops, from_next, field_known, shown_line, next_taken}
 use Rattle.writer.proofs.sizes.size_all.Invariants.{Inv}
 use Rattle.writer.proofs.sizes.size_all.Goals as goal
@@ -20,7 +19,7 @@ module _ {ks r : List ℕ} {ws : List Value} {n k p m : ℕ} (v : Inv ks r ws n 
   taken : length ks ≤ length ws
   taken = omega (arith, v.whole, v.asks.few)
 
-  done : length ks ≤ k → all.Bytes n m ≡ sized_all ks r (take (length ks) ws)
+  done : length ks ≤ k → Some (n, m) ≡ sized_all ks r (take (length ks) ws)
   done h =
       let e : drop k ks ≡ [] = drop_of_length-le ks h in
       let l : length (take (length ks) ws) ≤ k = rw (length-take-le (length ks) ws taken) h in
@@ -28,12 +27,12 @@ module _ {ks r : List ℕ} {ws : List Value} {n k p m : ℕ} (v : Inv ks r ws n 
       sym (from_none n p m r) ∙ rw (e, f) at v.rest
 
   module _ (more : k < length ks) where
-    stops : sized_field (get_or ks k 0) p m r (get_or ws k none) ≡ field.NotOne → all.NotOne ≡ sized_all ks r (take (length ks) ws)
+    stops : sized_field (get_or ks k 0) p m r (get_or ws k none) ≡ None → None ≡ sized_all ks r (take (length ks) ws)
     stops h =
         sym (from_stops n (get_or ks k 0) (drop (k + 1) ks) p m r (get_or ws k none) (drop (k + 1) (take (length ks) ws)) h)
         ∙ rw (next_byte ks k more, next_taken (length ks) ws k more taken) at v.rest
 
-    again : (l q w : ℕ) → sized_field (get_or ks k 0) p m r (get_or ws k none) ≡ field.Bytes l q w → Inv ks r ws (n + (l + 1)) (k + 1) q w
+    again : (l q w : ℕ) → sized_field (get_or ks k 0) p m r (get_or ws k none) ≡ Some (l, q, w) → Inv ks r ws (n + (l + 1)) (k + 1) q w
     again l q w h =
         let f = field_known (get_or ks k 0) p m r (get_or ws k none) h in
         record {
@@ -57,17 +56,17 @@ returns-in_default c = stops c.loop-k.invariant c.loop-k-test.true (sym c.size_f
 
 pub overflow_add-size : goal.overflow_add-size
 overflow_add-size c =
-    let turns : let a = c.args in let s = c.in-Bytes in Inv a.kinds.now a.route.now a.values (c.loop-k.size + (s.n + 1)) (c.loop-k.k + 1) s.next s.after = again c.loop-k.invariant c.loop-k-test.true _ _ _ (sym c.size_field.ensures ∙ c.in-Bytes.is) in
+    let turns : let a = c.args in let s = c.in-Some in Inv a.kinds.now a.route.now a.values (c.loop-k.size + (s.n + 1)) (c.loop-k.k + 1) s.next s.after = again c.loop-k.invariant c.loop-k-test.true _ _ _ (sym c.size_field.ensures ∙ c.in-Some.is) in
     omega (arith, turns.few, turns.place, turns.asks.few)
 
 pub overflow_add-size-in-loop-k : goal.overflow_add-size-in-loop-k
 overflow_add-size-in-loop-k c =
-    let turns : let a = c.args in let s = c.in-Bytes in Inv a.kinds.now a.route.now a.values (c.loop-k.size + (s.n + 1)) (c.loop-k.k + 1) s.next s.after = again c.loop-k.invariant c.loop-k-test.true _ _ _ (sym c.size_field.ensures ∙ c.in-Bytes.is) in
+    let turns : let a = c.args in let s = c.in-Some in Inv a.kinds.now a.route.now a.values (c.loop-k.size + (s.n + 1)) (c.loop-k.k + 1) s.next s.after = again c.loop-k.invariant c.loop-k-test.true _ _ _ (sym c.size_field.ensures ∙ c.in-Some.is) in
     omega (arith, turns.few, turns.place, turns.asks.few)
 
 pub loop-k-preserved : goal.loop-k-preserved
 loop-k-preserved c =
-    again c.loop-k.invariant c.loop-k-test.true _ _ _ (sym c.size_field.ensures ∙ c.in-Bytes.is)
+    again c.loop-k.invariant c.loop-k-test.true _ _ _ (sym c.size_field.ensures ∙ c.in-Some.is)
 
 pub returns : goal.returns
 returns c = done c.loop-k.invariant c.loop-k-test.false

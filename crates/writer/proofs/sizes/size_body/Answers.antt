@@ -1,8 +1,8 @@
 -- `writer::sizes::size_body` meets its contract. Assumes nothing.
+use Rattle.std.specs.Prelude.{Some}
 use mathlib.Core.Path.{◌≡◌, sym, ◌∙◌}
 use mathlib.Core.Bool.{true, false}
 use native.Mathlib.Omega.{arith}
-use Rattle.text.specs.declared.Sized.TheVariants as sized
 use Rattle.text.proofs.Logic.{so, not_so}
 use Rattle.messages.specs.Allowed.{is_whole}
 use Rattle.writer.specs.Size.{sized_fields}
@@ -31,18 +31,18 @@ returns-in_default c =
 
 pub overflow_add-result : goal.overflow_add-result
 overflow_add-result c =
-    let told : let a = c.args in sized_fields a.rule a.b a.free.now ≡ sized.Bytes c.in-Bytes.n = sym c.size_fields.ensures ∙ c.in-Bytes.is in
+    let told : let a = c.args in sized_fields a.rule a.b a.free.now ≡ Some c.in-Some.n = sym c.size_fields.ensures ∙ c.in-Some.is in
     let k = fields_known _ _ _ told in
     omega (arith, k.1, fields_short _ _ _ k.0 c.requires)
 
 pub returns-then-trailing-2 : goal.returns-then-trailing-2
 returns-then-trailing-2 c =
-    let told : let a = c.args in sized_fields a.rule a.b a.free.now ≡ sized.Bytes c.in-Bytes.n = sym c.size_fields.ensures ∙ c.in-Bytes.is in
+    let told : let a = c.args in sized_fields a.rule a.b a.free.now ≡ Some c.in-Some.n = sym c.size_fields.ensures ∙ c.in-Some.is in
     let parted : is_whole c.args.b ≡ false = parted_of _ c.type_in.ensures c.has_fields.ensures c.if-not-has_fields.false-raw in
     spaced_is _ _ _ _ parted told c.if-trailing-2.true
 
 pub returns : goal.returns
 returns c =
-    let told : let a = c.args in sized_fields a.rule a.b a.free.now ≡ sized.Bytes c.in-Bytes.n = sym c.size_fields.ensures ∙ c.in-Bytes.is in
+    let told : let a = c.args in sized_fields a.rule a.b a.free.now ≡ Some c.in-Some.n = sym c.size_fields.ensures ∙ c.in-Some.is in
     let parted : is_whole c.args.b ≡ false = parted_of _ c.type_in.ensures c.has_fields.ensures c.if-not-has_fields.false-raw in
     plain_is _ _ _ _ parted told c.if-trailing-2.false

@@ -12,25 +12,25 @@ use Rattle.writer.proofs.sizes.size_field.Goals as goal
 pub slice_bounds-room-end : goal.slice_bounds-room-end
 slice_bounds-room-end c =
     let p = c.put_field-written in
-    let k = next_known _ _ _ (sym p.ensures.value ∙ c.in-Next.is) in
+    let k = next_known _ _ _ (sym p.ensures.value ∙ c.in-Ok.is) in
     omega (arith, k.1, k.2, p.auto.out)
 
 pub slice_bounds-size_text-end : goal.slice_bounds-size_text-end
 slice_bounds-size_text-end c =
     let p = c.put_field-written in
-    let k = next_known _ _ _ (sym p.ensures.value ∙ c.in-Next.is) in
+    let k = next_known _ _ _ (sym p.ensures.value ∙ c.in-Ok.is) in
     sym (length-take-le _ _ (omega (arith, k.1, k.2, p.auto.out)))
 
-pub returns-in-Next : goal.returns-in-Next
-returns-in-Next c =
+pub returns-in-Ok : goal.returns-in-Ok
+returns-in-Ok c =
     let p = c.put_field-written in
-    let told = sym p.ensures.value ∙ c.in-Next.is in
+    let told = sym p.ensures.value ∙ c.in-Ok.is in
     c.size_text.ensures ∙ field_is _ _ _ _ _ (next_known _ _ _ told).0 _ (next_text _ _ _ told p.ensures.out_after)
 
-pub returns-in-NoRoom : goal.returns-in-NoRoom
-returns-in-NoRoom c =
-    let k = no_room_known _ _ _ (sym c.put_field-written.ensures.value ∙ c.in-NoRoom.is) in
+pub returns-in-Err : goal.returns-in-Err
+returns-in-Err c =
+    let k = no_room_known _ _ _ (sym c.put_field-written.ensures.value ∙ c.in-Err.is) in
     absurd (omega (arith, k.1, shown_short _ _ _ _ k.0 (rw (← c.plain.ensures) (ne_eqb _ _ c.if-plain-eq-ROUTE.false))))
 
-pub returns-in-NoText : goal.returns-in-NoText
-returns-in-NoText c = field_not _ _ _ _ _ (no_text_known _ _ _ (sym c.put_field-written.ensures.value ∙ c.in-NoText.is))
+pub returns-in-Err : goal.returns-in-Err
+returns-in-Err c = field_not _ _ _ _ _ (no_text_known _ _ _ (sym c.put_field-written.ensures.value ∙ c.in-Err.is))

@@ -63,7 +63,7 @@ returns-then-set-marks c =
     let has : Has c.args.rule c.args.b c.type_in-kind.result c.field_count-n.result c.kinds_of-kinds.result c.values_in-values.result = record { type = c.type_in-kind.ensures; count = found; kinds = c.kinds_of-kinds.ensures; values = c.values_in-values.ensures; right = so c.is_count.ensures c.if-not-is_count.false-raw } in
     let told : let a = c.args in c.size_all.result ≡ sized_all (kinds_in a.rule a.b) a.free.now (values_in a.b) = c.size_all.ensures ∙ has_sized has _ in
     let kept : c.marks_in-marks.result ≡ marks_in c.args.b = c.marks_in-marks.ensures in
-    not_marks _ _ _ (sym told ∙ c.in-Bytes.is) (λ e. c.if-set-marks.true (e ∙ sym kept))
+    not_marks _ _ _ (sym told ∙ c.in-Some.is) (λ e. c.if-set-marks.true (e ∙ sym kept))
 
 pub returns : goal.returns
 unfolding spare
@@ -76,4 +76,4 @@ returns c =
     let has : Has c.args.rule c.args.b c.type_in-kind.result c.field_count-n.result c.kinds_of-kinds.result c.values_in-values.result = record { type = c.type_in-kind.ensures; count = found; kinds = c.kinds_of-kinds.ensures; values = c.values_in-values.ensures; right = so c.is_count.ensures c.if-not-is_count.false-raw } in
     let told : let a = c.args in c.size_all.result ≡ sized_all (kinds_in a.rule a.b) a.free.now (values_in a.b) = c.size_all.ensures ∙ has_sized has _ in
     let kept : c.marks_in-marks.result ≡ marks_in c.args.b = c.marks_in-marks.ensures in
-    fields_are _ _ _ (sym told ∙ c.in-Bytes.is) (so counted c.if-not-is_count.false-raw) free (so spared c.if-not-is_none_from.false-raw) (c.if-set-marks.false ∙ kept)
+    fields_are _ _ _ (sym told ∙ c.in-Some.is) (so counted c.if-not-is_count.false-raw) free (so spared c.if-not-is_none_from.false-raw) (c.if-set-marks.false ∙ kept)

@@ -22,24 +22,24 @@ returns-in_default c = no_body _ _ _ (sym c.size_body.ensures ∙ c.in_default.i
 pub overflow_add-size : goal.overflow_add-size
 unfolding is_head_by
 overflow_add-size c =
-    let known : let a = c.args in Known a.rule a.x a.free.now c.in-Bytes.n = record { head = rw (so c.holds_head.ensures c.if-not-holds_head.false-raw, rw c.type_in-kind.ensures at (so c.has_type.ensures c.if-not-has_type.false-raw)); body = sym c.size_body.ensures ∙ c.in-Bytes.is } in
+    let known : let a = c.args in Known a.rule a.x a.free.now c.in-Some.n = record { head = rw (so c.holds_head.ensures c.if-not-holds_head.false-raw, rw c.type_in-kind.ensures at (so c.has_type.ensures c.if-not-has_type.false-raw)); body = sym c.size_body.ensures ∙ c.in-Some.is } in
     omega (arith, c.body_at.ensures, line_fits known c.if-free-gt-LONGEST_LINE.false)
 
 pub returns-then-size-gt-LONGEST_LINE : goal.returns-then-size-gt-LONGEST_LINE
 unfolding is_head_by
 returns-then-size-gt-LONGEST_LINE c =
-    let known : let a = c.args in Known a.rule a.x a.free.now c.in-Bytes.n = record { head = rw (so c.holds_head.ensures c.if-not-holds_head.false-raw, rw c.type_in-kind.ensures at (so c.has_type.ensures c.if-not-has_type.false-raw)); body = sym c.size_body.ensures ∙ c.in-Bytes.is } in
+    let known : let a = c.args in Known a.rule a.x a.free.now c.in-Some.n = record { head = rw (so c.holds_head.ensures c.if-not-holds_head.false-raw, rw c.type_in-kind.ensures at (so c.has_type.ensures c.if-not-has_type.false-raw)); body = sym c.size_body.ensures ∙ c.in-Some.is } in
     too_long known (rw c.body_at.ensures at c.if-size-gt-LONGEST_LINE.true)
 
 pub returns-then-is_long_plan : goal.returns-then-is_long_plan
 unfolding is_head_by
 returns-then-is_long_plan c =
-    let known : let a = c.args in Known a.rule a.x a.free.now c.in-Bytes.n = record { head = rw (so c.holds_head.ensures c.if-not-holds_head.false-raw, rw c.type_in-kind.ensures at (so c.has_type.ensures c.if-not-has_type.false-raw)); body = sym c.size_body.ensures ∙ c.in-Bytes.is } in
+    let known : let a = c.args in Known a.rule a.x a.free.now c.in-Some.n = record { head = rw (so c.holds_head.ensures c.if-not-holds_head.false-raw, rw c.type_in-kind.ensures at (so c.has_type.ensures c.if-not-has_type.false-raw)); body = sym c.size_body.ensures ∙ c.in-Some.is } in
     long_plan known (rw (c.body_at.ensures, c.type_in-kind.ensures) at (sym c.is_long_plan.ensures ∙ c.if-is_long_plan.true))
 
 pub returns : goal.returns
 unfolding is_head_by
 returns c =
-    let known : let a = c.args in Known a.rule a.x a.free.now c.in-Bytes.n = record { head = rw (so c.holds_head.ensures c.if-not-holds_head.false-raw, rw c.type_in-kind.ensures at (so c.has_type.ensures c.if-not-has_type.false-raw)); body = sym c.size_body.ensures ∙ c.in-Bytes.is } in
+    let known : let a = c.args in Known a.rule a.x a.free.now c.in-Some.n = record { head = rw (so c.holds_head.ensures c.if-not-holds_head.false-raw, rw c.type_in-kind.ensures at (so c.has_type.ensures c.if-not-has_type.false-raw)); body = sym c.size_body.ensures ∙ c.in-Some.is } in
     rw c.body_at.ensures
     (line_is known (rw c.body_at.ensures at c.if-size-gt-LONGEST_LINE.false) (rw (c.body_at.ensures, c.type_in-kind.ensures) at (sym c.is_long_plan.ensures ∙ c.if-is_long_plan.false)))

@@ -14,5 +14,5 @@ returns-in_default c =
 pub returns : goal.returns
 unfolding plain_of
 returns c =
-    let both = told _ (without _ (sym c.read_after.ensures ∙ c.in-Read.is)) in
+    let both = told _ (without _ (sym c.read_after.ensures ∙ c.in-Some.is)) in
     record { value = both.0; told = both.1 }

@@ -3,8 +3,8 @@ use mathlib.Core.Path.{sym, ap, ◌∙◌}
 use Rattle.fields.proofs.IdentLaws.{as_ident, ident_as}
 use Rattle.fields.proofs.idents.Ident.read.Goals as goal
 
-pub returns-in-Both : goal.returns-in-Both
-returns-in-Both c = ap as_ident (sym c.in-Both.is ∙ c.read_pair-pair.ensures) ∙ ident_as _
+pub returns-in-Some : goal.returns-in-Some
+returns-in-Some c = ap as_ident (sym c.in-Some.is ∙ c.read_pair-pair.ensures) ∙ ident_as _
 
-pub returns-in-Nothing : goal.returns-in-Nothing
-returns-in-Nothing c = ap as_ident (sym c.in-Nothing.is ∙ c.read_pair-pair.ensures) ∙ ident_as _
+pub returns-in-None : goal.returns-in-None
+returns-in-None c = ap as_ident (sym c.in-None.is ∙ c.read_pair-pair.ensures) ∙ ident_as _

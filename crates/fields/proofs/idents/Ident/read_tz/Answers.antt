@@ -5,10 +5,10 @@ use Rattle.fields.proofs.IdentLaws.{as_tz, tz_as}
 use Rattle.fields.proofs.idents.Ident.read_tz.Goals as goal
 
 pub returns-then-n-eq0 : goal.returns-then-n-eq0
-returns-then-n-eq0 c = (rw (eq-eqb _ _ c.if-n-eq0.true)) ∙ ap as_tz (sym c.in-Both.is ∙ c.read_pair-pair.ensures) ∙ tz_as _
+returns-then-n-eq0 c = (rw (eq-eqb _ _ c.if-n-eq0.true)) ∙ ap as_tz (sym c.in-Some.is ∙ c.read_pair-pair.ensures) ∙ tz_as _
 
 pub returns-else-n-eq0 : goal.returns-else-n-eq0
-returns-else-n-eq0 c = (rw (ne_eqb _ _ c.if-n-eq0.false)) ∙ ap as_tz (sym c.in-Both.is ∙ c.read_pair-pair.ensures) ∙ tz_as _
+returns-else-n-eq0 c = (rw (ne_eqb _ _ c.if-n-eq0.false)) ∙ ap as_tz (sym c.in-Some.is ∙ c.read_pair-pair.ensures) ∙ tz_as _
 
-pub returns-in-Nothing : goal.returns-in-Nothing
-returns-in-Nothing c = ap as_tz (sym c.in-Nothing.is ∙ c.read_pair-pair.ensures) ∙ tz_as _
+pub returns-in-None : goal.returns-in-None
+returns-in-None c = ap as_tz (sym c.in-None.is ∙ c.read_pair-pair.ensures) ∙ tz_as _

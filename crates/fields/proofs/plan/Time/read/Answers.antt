@@ -7,4 +7,4 @@ pub returns-in_default : goal.returns-in_default
 returns-in_default c = ap as_time (sym c.in_default.is ∙ c.read.ensures)
 
 pub returns : goal.returns
-returns c = ap as_time (sym c.in-Text.is ∙ c.read.ensures)
+returns c = ap as_time (sym c.in-Some.is ∙ c.read.ensures)
