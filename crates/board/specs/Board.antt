@@ -72,8 +72,8 @@ gone_of false = Err (record {})
 -- document 01's numbers: 12, "board full"; 14, "flight not listed"
 abbrev pub done_number : Result (Unit {0}) Full → ℕ
 done_number (Ok tt) = 0
-done_number (Err (record {})) = 12
+done_number (Err _) = 12
 
 abbrev pub struck_number : Result (Unit {0}) NotListed → ℕ
 struck_number (Ok tt) = 0
-struck_number (Err (record {})) = 14
+struck_number (Err _) = 14

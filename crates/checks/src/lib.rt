@@ -68,7 +68,7 @@ fn type_word(kind: MessageType) -> u64
     ensures { result ≡ packed (type_text kind) }
 {
     let mut letters = [0u8; 2];
-    kind.put(&mut letters, 0);
+    let _ = kind.put(&mut letters, 0);
     pack_known(&letters)
 }
 

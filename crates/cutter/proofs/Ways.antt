@@ -13,7 +13,6 @@ use denote.Enum.Declared.{tag_of}
 use types.Run.{OneOf, miss}
 use Rattle.text.specs.Text.{has_room, spliced, written_next, written_bytes}
 use Rattle.text.proofs.Logic.{true_false}
-use Rattle.text.specs.contracts.Written.{the_type}
 use Rattle.shapes.specs.Cut.{up_to, has, before}
 use Rattle.shapes.proofs.Laws.{up_to_le}
 use Rattle.shapes.proofs.Joins.{whole_has}
@@ -26,8 +25,8 @@ use Rattle.cutter.specs.declared.CutAnswer.{CutAnswer}
 use Rattle.cutter.specs.declared.CutAnswer.TheVariants as cut
 use Rattle.cutter.specs.declared.EndAnswer.TheVariants as end
 use Rattle.cutter.specs.contracts.CutAnswer.{the_type as the-answer}
-use Rattle.text.specs.declared.NotWritten.TheVariants.{NoRoom, NoText}
 use Rattle.text.specs.declared.NotWritten.{NotWritten}
+use Rattle.text.specs.declared.NotWritten.TheVariants.{NoRoom}
 
 -- ---- `is_allowed`
 
@@ -79,17 +78,13 @@ module _ (held : List ℕ) (begun : Begun) (s : List ℕ) where
   mark_more e = rw e (refl, refl)
 
   module _ (n : ℕ) (e : begun ≡ Held n) (out : List ℕ) (o : out ≡ written_bytes true s held n) where
-    -- where it isn't written, the code tells only the variant's number
-    pub more_full : (r : Result ℕ NotWritten) → r ≡ written_next true s held n → OneOf (1 ∷ 2 ∷ []) (tag_of the_type r) → (Overlong ≡ more_in held begun s) × (out ≡ held_more held begun s)
+    pub more_full : {r : NotWritten} → Err r ≡ written_next true s held n → (Overlong ≡ more_in held begun s) × (out ≡ held_more held begun s)
     unfolding more_in held_more written_next written_bytes
-    more_full r w h = go (has_room s held n) refl r w h
+    more_full {r} w = go (has_room s held n) refl
       where
-        go : (b : Bool) → has_room s held n ≡ b → (r : Result ℕ NotWritten) → r ≡ written_next true s held n → OneOf (1 ∷ 2 ∷ []) (tag_of the_type r)
-            → (Overlong ≡ more_in held begun s) × (out ≡ held_more held begun s)
-        go true q (Ok m) w h = absurd (miss (1 ∷ 2 ∷ []) 0 tt h)
-        go true q (Err NoRoom) w h = let d : (Err NoRoom) ≡ Ok (n + length s) = rw q at w in ((cc), (cc))
-        go true q (Err NoText) w h = let d : (Err NoText) ≡ Ok (n + length s) = rw q at w in ((cc), (cc))
-        go false q r w h = let d : out ≡ held = rw q at o in rw (e, q) (refl, d)
+        go : (b : Bool) → has_room s held n ≡ b → (Overlong ≡ more_in held begun s) × (out ≡ held_more held begun s)
+        go true q = let d : Err r ≡ Ok (n + length s) = rw q at w in ((cc), (cc))
+        go false q = let d : out ≡ held = rw q at o in rw (e, q) (refl, d)
 
     pub more_held : (m : ℕ) → Ok m ≡ written_next true s held n → (Held m ≡ more_in held begun s) × (out ≡ held_more held begun s)
     unfolding more_in held_more written_next written_bytes

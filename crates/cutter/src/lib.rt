@@ -88,7 +88,7 @@ fn hold(held: &mut [u8], begun: Begun, bytes: &[u8]) -> Begun
     let written = put_bytes(bytes, held, n);
     match written {
         Ok(next) => Begun::Held(next),
-        _ => Begun::Overlong,
+        Err(_) => Begun::Overlong,
     }
 }
 

@@ -1,5 +1,5 @@
 -- The line with a number: found by its offset in the index of a file that opened, or none, an empty part at the start. Assumes nothing.
-use Rattle.std.specs.Prelude.{Err, Ok, Result}
+use Rattle.std.specs.Prelude.{Err, Ok}
 use mathlib.Core.Path.{◌≡◌, refl, sym, ap, ◌∙◌}
 use mathlib.Core.Bool.{true}
 use mathlib.Core.List.{List, [], ◌∷◌, ◌++◌, append_assoc}
@@ -8,8 +8,6 @@ use native.Mathlib.Omega.{arith}
 use lib.ListN.{length, take, drop, get_or, length-append, length-drop, take-append-drop, get_or-eq_default}
 use lib.Seq.{length-take-le, take_at}
 use borrow.Author.Tests.{ne_eqb}
-use denote.Enum.Declared.{tag_of}
-use types.Run.{OneOf, miss}
 use Rattle.text.specs.Place.{value}
 use Rattle.text.proofs.Logic.{and_left, and_right}
 use Rattle.shapes.specs.Picture.{starts_at}
@@ -24,7 +22,6 @@ use Rattle.dayfile.specs.declared.Contents.{Contents}
 use Rattle.dayfile.proofs.Bytes.{value_take, length-offsets}
 use Rattle.dayfile.proofs.Files.{length-starts, start_at, lines_at, from_line, lines_run}
 use Rattle.dayfile.proofs.Opens.{is_day, is_told}
-use Rattle.dayfile.specs.contracts.Opened.{the_type}
 use Rattle.dayfile.proofs.Walks.{number_at, size_of}
 use Rattle.dayfile.proofs.Opening.{front_long, front_number}
 use Rattle.dayfile.specs.declared.NotOpened.TheVariants.{TooShort, UnknownVersion, WrongLength, WrongLines}
@@ -94,17 +91,15 @@ no_lines : (p : ℕ × ℕ) (n : ℕ) → AtFront p [] n
 no_lines p zero = number_0 [] 0 refl
 no_lines p (suc n) = past p [] (suc n) (omega arith)
 
-none_of : (o : Result Contents NotOpened) (file : List ℕ) → OneOf (1 ∷ 2 ∷ 3 ∷ 4 ∷ []) (tag_of the_type o) → lines_by o file ≡ []
+none_of : (e : NotOpened) (file : List ℕ) → lines_by (Err e) file ≡ []
 unfolding lines_by
-none_of (Ok c) file h = absurd (miss (1 ∷ 2 ∷ 3 ∷ 4 ∷ []) 0 tt h)
-none_of (Err TooShort) file h = refl
-none_of (Err UnknownVersion) file h = refl
-none_of (Err WrongLength) file h = refl
-none_of (Err WrongLines) file h = refl
+none_of TooShort file = refl
+none_of UnknownVersion file = refl
+none_of WrongLength file = refl
+none_of WrongLines file = refl
 
-pub not_opened : {p : ℕ × ℕ} (t : Trailer) (file : List ℕ) (told : Result Contents NotOpened) (n : ℕ) → told ≡ open_of t file → OneOf (1 ∷ 2 ∷ 3 ∷ 4 ∷ []) (tag_of the_type told)
-    → AtFront p (lines_in t file) n
-not_opened {p = p} t file told n e h = rw (← e, none_of told file h) (no_lines p n)
+pub not_opened : {p : ℕ × ℕ} {e : NotOpened} (t : Trailer) (file : List ℕ) (n : ℕ) → Err e ≡ open_of t file → AtFront p (lines_in t file) n
+not_opened {p = p} {e = e} t file n is = rw (← is, none_of e file) (no_lines p n)
 
 -- ---- the number of a line that there is
 

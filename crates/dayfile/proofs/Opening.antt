@@ -2,16 +2,14 @@
 use Rattle.std.specs.Prelude.{Err, Ok, Result}
 use mathlib.Core.Path.{◌≡◌, refl, sym, ap, ◌∙◌}
 use mathlib.Core.Bool.{Bool, true, false, cond}
-use mathlib.Core.List.{List, [], ◌∷◌}
+use mathlib.Core.List.{List}
 use Prim.Native.Nat.{ℕ, ◌+◌, ◌-◌, ◌*◌, ◌^◌, ◌≤◌, ◌<◌}
 use native.Mathlib.Nat.{pow-le-pow_right}
 use native.Mathlib.Omega.{arith}
 use lib.Dec.{eqb, ltb}
-use lib.ListN.{length, take, drop, length-take, length-drop}
+use lib.ListN.{length, take, drop, length-drop}
 use lib.Seq.{length-take-le}
 use borrow.Author.Tests.{lt-ltb, le-ltb, eq-eqb, ne_eqb, eqb-true}
-use denote.Enum.Declared.{tag_of}
-use types.Run.{OneOf, miss}
 use Rattle.text.specs.Place.{value}
 use Rattle.dayfile.specs.DayFile.{Sound, trailer_size}
 use Rattle.dayfile.specs.Opening.{start_by, count_by, version_by, offsets_in, open_by, agree, or_wrong_lines, tail_of, open_of}
@@ -20,7 +18,6 @@ use Rattle.dayfile.specs.declared.Trailer.{Trailer}
 use Rattle.dayfile.specs.declared.Contents.{Contents}
 use Rattle.dayfile.specs.declared.walking.Walked.{Walked}
 use Rattle.dayfile.proofs.Bytes.{value_take, length-offsets}
-use Rattle.dayfile.specs.contracts.Opened.{the_type}
 use Rattle.dayfile.proofs.Walks.{walked_agree, fewer_lines, fewer_bytes}
 use Rattle.dayfile.specs.declared.NotOpened.TheVariants.{TooShort, UnknownVersion, WrongLength, WrongLines}
 use Rattle.dayfile.specs.declared.NotOpened.{NotOpened}
@@ -34,10 +31,6 @@ module _ (m w : ℕ) (x : List ℕ) (e : m ≡ w) (h : w ≤ length x) where
 
   pub front_number : value 256 (length (take m x)) (take m x) ≡ value 256 w x
   front_number = rw (front_long, e) (value_take 256 w x)
-
--- the first bytes are no more than all
-pub few_first : {m : ℕ} (n : ℕ) (s : List ℕ) → length s < m → 0 + length (take n s) < m
-few_first n s h = rw length-take (omega arith)
 
 -- a number of four bytes at most
 pub below_four : (w n : ℕ) → w ≤ 4 → n < 256 ^ w → n < 4294967296
@@ -156,9 +149,6 @@ pub record Told (t : Trailer) (file : List ℕ) (told : Result Contents NotOpene
   pub by : told ≡ open_by t (length file) (tail_of t file)
 
 module _ (t : Trailer) (file tail : List ℕ) (width : ℕ) (w : width ≡ trailer_size t) (at : tail ≡ drop (length file - width) file) where
-  pub tail_long : trailer_size t ≤ length file → length tail ≡ trailer_size t
-  tail_long h = omega (arith, ap length at, length-drop (length file - width) file)
-
   pub by_tail : {told : (Result Contents NotOpened)} → told ≡ open_by t (length file) tail → Told t file told
   by_tail e = record { by = rw (at, w) at e }
 
@@ -167,15 +157,14 @@ module _ {t : Trailer} {file : List ℕ} {told : (Result Contents NotOpened)} (v
   unfolding open_of
   whole = rw (← v.by)
 
-  pub no_day : OneOf (1 ∷ 2 ∷ 3 ∷ 4 ∷ []) (tag_of the_type told) → told ≡ open_of t file
-  no_day h = go told h ∙ sym whole
+  pub no_day : {e : NotOpened} → told ≡ Err e → told ≡ open_of t file
+  no_day {e} is = is ∙ go e ∙ sym (whole ∙ ap (λ (o : Result Contents NotOpened). or_wrong_lines o file) is)
     where
-      go : (o : Result Contents NotOpened) → OneOf (1 ∷ 2 ∷ 3 ∷ 4 ∷ []) (tag_of the_type o) → o ≡ or_wrong_lines o file
-      go (Ok c) h = absurd (miss (1 ∷ 2 ∷ 3 ∷ 4 ∷ []) 0 tt h)
-      go (Err TooShort) h = refl
-      go (Err UnknownVersion) h = refl
-      go (Err WrongLength) h = refl
-      go (Err WrongLines) h = refl
+      go : (e : NotOpened) → Err e ≡ or_wrong_lines (Err e) file
+      go TooShort = refl
+      go UnknownVersion = refl
+      go WrongLength = refl
+      go WrongLines = refl
 
   module _ (c : Contents) (day : told ≡ Ok c) where
     abbrev index : List ℕ

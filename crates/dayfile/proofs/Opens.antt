@@ -264,11 +264,11 @@ module _ (t : Trailer) (sound : Sound t) where
 -- what does not open has no lines
 pub no_lines : (o : Result Contents NotOpened) (file : List ℕ) → (open_number o ≡ 0 → ⊥) → lines_by o file ≡ []
 unfolding open_number lines_by
-no_lines (Ok c) file n = absurd (n refl)
-no_lines (Err TooShort) file n = refl
-no_lines (Err UnknownVersion) file n = refl
-no_lines (Err WrongLength) file n = refl
-no_lines (Err WrongLines) file n = refl
+no_lines (Ok c) _ n = absurd (n refl)
+no_lines (Err TooShort) _ n = refl
+no_lines (Err UnknownVersion) _ n = refl
+no_lines (Err WrongLength) _ n = refl
+no_lines (Err WrongLines) _ n = refl
 
 -- ---- at its offset a line stands, and its offset stands in the index
 

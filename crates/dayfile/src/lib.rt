@@ -132,10 +132,7 @@ fn open_as(trailer: Trailer, file: &[u8]) -> Result<Contents, NotOpened>
     ensures { result ≡ open_of trailer file.now }
 {
     let width = trailer_size(trailer);
-    let told = open_tail(trailer, file.len(), last(width, file));
-    let Ok(day) = told else {
-        return told;
-    };
+    let day = open_tail(trailer, file.len(), last(width, file))?;
     let start = day.start;
     let end = start + 4 * day.lines;
     let walked = walk(0, &file[..start], &file[start..end]);
@@ -145,7 +142,7 @@ fn open_as(trailer: Trailer, file: &[u8]) -> Result<Contents, NotOpened>
     if walked.used != start {
         return Err(NotOpened::WrongLines);
     }
-    told
+    Ok(day)
 }
 
 // How many lines a file has and where its index starts, whatever its bytes are.
@@ -177,8 +174,7 @@ pub fn line<'a>(file: &'a [u8], number: usize) -> &'a [u8]
     ensures result_value { result.now ≡ numbered (lines_in version1 file.now) number }
     ensures ref_ptr_value { result.ref_ptr ≡ starts_at file.entry.ref_ptr (place_of (lines_in version1 file.now) number) }
 {
-    let told = open(file);
-    let Ok(day) = told else {
+    let Ok(day) = open(file) else {
         return &file[..0];
     };
     if number == 0 {
@@ -236,7 +232,7 @@ pub fn keep_from(
     if count >= offsets.len() {
         return Err(NotKept::NoRoom);
     }
-    put_bytes(line, out, at);
+    let _ = put_bytes(line, out, at);
     out[at + n] = LINE_FEED;
     offsets[count] = place.at as u32;
     Ok(Place {

@@ -27,7 +27,6 @@ use Rattle.cutter.specs.contracts.CutAnswer.{the_type as the-cut}
 use Rattle.feeding.specs.Tally.{event_of, one, rows_by, taken_by}
 use Rattle.feeding.specs.Fed.{refused_with, fed_of, board_fed, held_after}
 use Rattle.feeding.specs.declared.AfterFeed.{AfterFeed}
-use Rattle.planner.specs.declared.NotTaken.TheVariants.{Full, Line, NotAllowed}
 use Rattle.planner.specs.declared.NotTaken.{NotTaken}
 
 -- ---- `ended`
@@ -58,9 +57,7 @@ module _ (a : CutAnswer) where
 -- 1 for a line that is taken
 abbrev pub counted : Result (Unit {0}) NotTaken → ℕ
 counted (Ok tt) = 1
-counted (Err (Line x)) = 0
-counted (Err NotAllowed) = 0
-counted (Err Full) = 0
+counted (Err e) = 0
 
 count_room : (b : Bool) → counted (room b) ≡ one (cond b Took NoRoom)
 count_room true = refl

@@ -14,7 +14,7 @@ ghost use Rattle.feeding.specs.Cases.{FeedCase, outcome_of};
 
 use board::is_allowed;
 use cutter::{Begun, CutAnswer, cut, line};
-use planner::{NotTaken, apply_allowed};
+use planner::apply_allowed;
 
 // What `feed` answers: 0, 13.
 #[derive(Clone, Copy)]
@@ -55,7 +55,6 @@ fn apply_line(board: &mut [u64], line: &[u8]) -> usize
     let answer = apply_allowed(board, line);
     match answer {
         Ok(()) => 1,
-        Err(NotTaken::Line(_)) => 0,
         Err(_) => 0,
     }
 }

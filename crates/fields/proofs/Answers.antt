@@ -1,5 +1,5 @@
 -- That each answer number of a field is given exactly in its case, with the numbers as document 01 has them. Assumes nothing.
-use Rattle.std.specs.Prelude.{Option, Some}
+use Rattle.std.specs.Prelude.{None, Option, Some}
 use Prim.Native.Nat.{ℕ}
 use mathlib.Core.Bool.{Bool, true, false, cond}
 use mathlib.Core.List.{List}
@@ -11,7 +11,7 @@ use Rattle.text.specs.Text.{has_room, written_next}
 use Rattle.rules.specs.Form.{is_sequence, is_stamp, is_ident, is_tz_ident, is_facility}
 use Rattle.rules.specs.Kind.{SEQUENCE, STAMP, is_form}
 use Rattle.rules.specs.declared.Rule.{Rule}
-use Rattle.fields.specs.Aircraft.{Case, One, None, aircraft_by, aircraft_answer}
+use Rattle.fields.specs.Aircraft.{Case, One, NoOne, aircraft_by, aircraft_answer}
 use Rattle.fields.specs.Answer.{refusal, read_answer, pair_answer, write_answer}
 use Rattle.fields.specs.Facility.{facility_of, facility_answer}
 use Rattle.fields.specs.Ident.{ident_from, ident_of, tz_ident_of, ident_answer}
@@ -86,7 +86,7 @@ aircraft_answer_lem ρ s = go (aircraft_by ρ s) refl
   where
     go : (r : Option Aircraft) → aircraft_by ρ s ≡ r → Case ρ s (aircraft_answer r)
     go (Some a) q = let p = aircraft_one_by ρ s a q in One a p.0 p.1
-    go None q = None (aircraft_none_by ρ s q)
+    go None q = NoOne (aircraft_none_by ρ s q)
 
 -- ---- facility and type
 

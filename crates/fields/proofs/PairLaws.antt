@@ -10,7 +10,7 @@ use lib.ListN.{length, take, drop}
 use borrow.Author.Tests.{ne_eqb, eqb-true, lt-leb, le-leb}
 use Rattle.text.specs.Place.{value, digits}
 use Rattle.text.specs.Text.{packed, text_of, is_text, is_packed, slashed, join_of}
-use Rattle.text.proofs.Logic.{and_left, and_right}
+use Rattle.text.proofs.Logic.{some_pair, and_left, and_right}
 use Rattle.text.proofs.Laws.{text_packed, packed_text, packed_is, text_length, text_short}
 use Rattle.text.proofs.Joined.{join_known, join_none, length-slashed}
 use Rattle.shapes.specs.Cut.{up_to, has, before, after}
@@ -103,8 +103,8 @@ pair_sound k l s {a} {b} e = go (is_pair_form k l s) refl
     go false q = let z : None ≡ Some (a, b) = rw q at e in ((cc), (cc), (cc))
     go true q =
         let z : Some (packed (before slash s), packed (after slash s)) ≡ Some (a, b) = rw q at e in
-        let p : packed (before slash s) ≡ a = cc in
-        let r : packed (after slash s) ≡ b = cc in
+        let p : packed (before slash s) ≡ a = (some_pair z).0 in
+        let r : packed (after slash s) ≡ b = (some_pair z).1 in
         let h = pair_held k l s q in
         (q, rw (← p, ← r) h.0, rw (← p, ← r) h.1)
 

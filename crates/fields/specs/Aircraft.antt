@@ -59,7 +59,7 @@ pub record ReadingBy (ρ : Rule) (s : List ℕ) (a : Aircraft) : Type 0 where
 -- the cases of document 01's answer numbers: 0 where a text has one reading, 9 where it has none, and no other
 pub data Case (ρ : Rule) (s : List ℕ) : ℕ → Type 0 where
   One : (a : Aircraft) → ReadingBy ρ s a → ((b : Aircraft) → ReadingBy ρ s b → b ≡ a) → Case ρ s 0
-  None : ((a : Aircraft) → ReadingBy ρ s a → ⊥) → Case ρ s 9
+  NoOne : ((a : Aircraft) → ReadingBy ρ s a → ⊥) → Case ρ s 9
 
 -- ---- what the reader answers: the reading without a prefix, or else the one with a prefix
 

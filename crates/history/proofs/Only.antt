@@ -1,6 +1,6 @@
 -- The customer's words leave no choice: whatever has the meaning of 'taken' is what is answered 0, and rows that show
 -- what a history says are those after it. Assumes nothing.
-use Rattle.std.specs.Prelude.{None, Some}
+use Rattle.std.specs.Prelude.{None, Some, Option as Slot}
 use Prim.Native.Nat.{ℕ}
 use mathlib.Core.Logic.{◌↔◌, ◌⊎◌, inl, inr}
 use mathlib.Core.Path.{◌≡◌, refl, sym, ap, ◌∙◌}
@@ -92,12 +92,12 @@ key_shown k (x ∷ xs) r e = go (eqb (key_of x) k) refl e (key_shown k xs r)
     go true t q ih = let s : x ≡ r = cc in ap key_of (sym s) ∙ eqb-true (key_of x) k t
     go false t q ih = ih q
 
-same_arrival : (s t : Option Arrival) → ((a : Arrival) → s ≡ Some a → t ≡ Some a) → ((a : Arrival) → t ≡ Some a → s ≡ Some a) → s ≡ t
+same_arrival : (s t : Slot Arrival) → ((a : Arrival) → s ≡ Some a → t ≡ Some a) → ((a : Arrival) → t ≡ Some a → s ≡ Some a) → s ≡ t
 same_arrival None None f g = refl
 same_arrival None (Some a) f g = g a refl
 same_arrival (Some a) t f g = sym (f a refl)
 
-same_track : (s t : Option Track) → ((u : Track) → s ≡ Some u → t ≡ Some u) → ((u : Track) → t ≡ Some u → s ≡ Some u) → s ≡ t
+same_track : (s t : Slot Track) → ((u : Track) → s ≡ Some u → t ≡ Some u) → ((u : Track) → t ≡ Some u → s ≡ Some u) → s ≡ t
 same_track None None f g = refl
 same_track None (Some u) f g = g u refl
 same_track (Some u) t f g = sym (f u refl)

@@ -1,6 +1,6 @@
 -- After every history each key shows what the customer's words say of its flight: listed or not, its arrival entry, its
 -- track. Assumes nothing.
-use Rattle.std.specs.Prelude.{None, Some}
+use Rattle.std.specs.Prelude.{None, Some, Option as Slot}
 use Prim.Native.Nat.{ℕ}
 use mathlib.Core.Logic.{◌↔◌, ◌⊎◌, inl, inr}
 use mathlib.Core.Path.{◌≡◌, refl, sym, ap, ◌∙◌}
@@ -60,28 +60,28 @@ not_both o a p q = clash (cc)
 
 -- ---- what stands in a slot
 
-abbrev entry_in : Option Arrival → Option Arrival
+abbrev entry_in : Slot Arrival → Option Arrival
 entry_in None = none
 entry_in (Some a) = some a
 
-abbrev spot_in : Option Track → Option Track
+abbrev spot_in : Slot Track → Option Track
 spot_in None = none
 spot_in (Some t) = some t
 
-entry_is : (s : Option Arrival) (a : Arrival) → (s ≡ Some a) ↔ (entry_in s ≡ some a)
+entry_is : (s : Slot Arrival) (a : Arrival) → (s ≡ Some a) ↔ (entry_in s ≡ some a)
 entry_is None a = (λ q. cc, λ q. cc)
 entry_is (Some b) a = (λ q. cc, λ q. let s : b ≡ a = cc in ap Some s)
 
-spot_is : (s : Option Track) (t : Track) → (s ≡ Some t) ↔ (spot_in s ≡ some t)
+spot_is : (s : Slot Track) (t : Track) → (s ≡ Some t) ↔ (spot_in s ≡ some t)
 spot_is None t = (λ q. cc, λ q. cc)
 spot_is (Some u) t = (λ q. cc, λ q. let s : u ≡ t = cc in ap Some s)
 
 -- a slot is empty exactly if it has none of the entries that it can have
-empty_arrival : (P : Arrival → Type 0) (s : Option Arrival) → ((a : Arrival) → (s ≡ Some a) ↔ P a) → (s ≡ None) ↔ ((a : Arrival) → P a → ⊥)
+empty_arrival : (P : Arrival → Type 0) (s : Slot Arrival) → ((a : Arrival) → (s ≡ Some a) ↔ P a) → (s ≡ None) ↔ ((a : Arrival) → P a → ⊥)
 empty_arrival P None f = (λ q a p. let e = (f a).1 p in clash (cc), λ n. refl)
 empty_arrival P (Some b) f = (λ q. clash (cc), λ n. absurd (n b ((f b).0 refl)))
 
-empty_track : (P : Track → Type 0) (s : Option Track) → ((t : Track) → (s ≡ Some t) ↔ P t) → (s ≡ None) ↔ ((t : Track) → P t → ⊥)
+empty_track : (P : Track → Type 0) (s : Slot Track) → ((t : Track) → (s ≡ Some t) ↔ P t) → (s ≡ None) ↔ ((t : Track) → P t → ⊥)
 empty_track P None f = (λ q t p. let e = (f t).1 p in clash (cc), λ n. refl)
 empty_track P (Some u) f = (λ q. clash (cc), λ n. absurd (n u ((f u).0 refl)))
 

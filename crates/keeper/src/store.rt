@@ -44,8 +44,8 @@ fn put_part(name: &[u8], out: &mut [u8]) -> usize
     ensures out_after { take result out.new ≡ name.now ++ bytes ".part" }
 {
     let n = name.len();
-    put_bytes(name, out, 0);
-    put_bytes(b".part", out, n);
+    let _ = put_bytes(name, out, 0);
+    let _ = put_bytes(b".part", out, n);
     n + 5
 }
 

@@ -27,7 +27,7 @@ use Rattle.line.specs.declared.front.Head.{Head}
 use Rattle.line.specs.declared.Refusal.{Refusal}
 use Rattle.line.specs.declared.Refusal.TheVariants.{Short, Long, Unprintable, LongPlan, Body}
 use Rattle.line.proofs.Heads.{five_parts, IsHeadOf, where_holds, where_fails, head_sound, head_complete, headed_parts, headed_is, headed_printable}
-use Rattle.messages.specs.declared.Body.{Body}
+use Rattle.messages.specs.declared.Body.{Body as BodyOf}
 use Rattle.table.specs.declared.walk.Fault.{Fault}
 
 -- the head of a reading of type k
@@ -56,7 +56,7 @@ module _ (ρ : Rule) (x : Reading) where
   refused : (y : Refusal) → Err y ≡ Ok x → ⊥
   refused y e = let z : ◌≡◌ {A = ℕ} 0 1 = cc in omega arith
 
-  from_body : (h : Head) (r : Result (Body × Bool) Fault) → with_body h r ≡ Ok x → (h ≡ head_in x h.kind) × (r ≡ Ok (x.body, x.trailing))
+  from_body : (h : Head) (r : Result (BodyOf × Bool) Fault) → with_body h r ≡ Ok x → (h ≡ head_in x h.kind) × (r ≡ Ok (x.body, x.trailing))
   from_body h (Ok (b, t)) e =
       let z : record { sequence = h.sequence; stamp = h.stamp; facility = h.facility; body = b; trailing = t } ≡ x = cc in
       (ap (λ (n : Reading). head_in n h.kind) z, ap (λ (n : Reading). Ok (n.body, n.trailing)) z)

@@ -15,7 +15,7 @@ use Rattle.messages.specs.Reading.{message_of, old_message_of}
 use Rattle.line.specs.declared.front.Head.{Head}
 use Rattle.line.specs.declared.Refusal.{Refusal}
 use Rattle.line.specs.declared.Refusal.TheVariants.{Short, Long, Unprintable, NoSequence, NoStamp, NoFacility, NoType, LongPlan, Body}
-use Rattle.messages.specs.declared.Body.{Body}
+use Rattle.messages.specs.declared.Body.{Body as BodyOf}
 use Rattle.table.specs.declared.walk.Fault.{Fault}
 use Rattle.messages.specs.declared.Message.{Message}
 use Rattle.fields.specs.declared.heads.MessageType.{MessageType}
@@ -45,7 +45,7 @@ head_of ρ s =
 
 -- ---- the body after it
 
-abbrev pub with_body : Head → Result (Body × Bool) Fault → Result Reading Refusal
+abbrev pub with_body : Head → Result (BodyOf × Bool) Fault → Result Reading Refusal
 with_body h (Ok (b, t)) = Ok (record { sequence = h.sequence; stamp = h.stamp; facility = h.facility; body = b; trailing = t })
 with_body h (Err x) = Err (Body x)
 

@@ -18,8 +18,8 @@ use Rattle.meanings.specs.Age.{age_in}
 use Rattle.meanings.specs.Age as ages
 use Rattle.meanings.specs.declared.ages.Aged.{Aged}
 use Rattle.meanings.specs.declared.ages.Aged.TheVariants as aged
-use Rattle.fields.specs.declared.aircraft.Aircraft.{Aircraft}
-use Rattle.fields.specs.declared.idents.Ident.{Ident}
+use Rattle.fields.specs.declared.aircraft.Aircraft.{Aircraft as AircraftField}
+use Rattle.fields.specs.declared.idents.Ident.{Ident as IdentField}
 use Rattle.messages.specs.declared.Message.{Message}
 use Rattle.line.specs.declared.Refusal.{Refusal}
 
@@ -38,7 +38,7 @@ pub data Question : Type 0 where
 pub data Answer : Type 0 where
   Numbered : ℕ → List (List ℕ) → Answer
   Refused : ℕ → Answer
-  None : Answer
+  NoReading : Answer
   Parts : List (List ℕ) → Answer
   Signed : ℤ → ℤ → Answer
   Seconds : ℕ → Answer
@@ -52,21 +52,21 @@ abbrev of_line : Result Message Refusal → List ℕ → Answer
 of_line (Ok m) r = Numbered (line_number (Ok m)) (text_of m.sequence.0 ∷ text_of m.stamp.0 ∷ facility_text m.facility.0 ∷ type_text (type_in m.body) ∷ r ∷ [])
 of_line (Err x) r = Numbered (line_number (Err x)) []
 
-abbrev of_ident : Option Ident → Answer
+abbrev of_ident : Option IdentField → Answer
 of_ident (Some i) = Parts (text_of i.key.0 ∷ text_of i.number.0 ∷ [])
-of_ident None = None
+of_ident None = NoReading
 
-abbrev of_aircraft : Option Aircraft → Answer
+abbrev of_aircraft : Option AircraftField → Answer
 of_aircraft (Some a) = Parts (text_of a.prefix ∷ text_of a.model ∷ text_of a.letter ∷ [])
-of_aircraft None = None
+of_aircraft None = NoReading
 
 abbrev of_word : Option ℕ → Answer
 of_word (Some t) = Parts (text_of t ∷ [])
-of_word None = None
+of_word None = NoReading
 
 abbrev of_minutes : Option (ℤ × ℤ) → Answer
 of_minutes (Some (y, x)) = Signed y x
-of_minutes None = None
+of_minutes None = NoReading
 
 abbrev of_age : Aged → Answer
 of_age (aged.Seconds n) = Seconds n
@@ -97,18 +97,18 @@ table =
     row (Line "000006143655KZMAHB") (Numbered 0 (bytes "0000" ∷ bytes "06143655" ∷ bytes "KZMA" ∷ bytes "HB" ∷ [] ∷ []))
     ∷ row (Line "000006143655KZMAH") (Numbered 1 [])
     ∷ row (Ident "N5") (Parts (bytes "N5" ∷ [] ∷ []))
-    ∷ row (Ident "N") None
+    ∷ row (Ident "N") NoReading
     ∷ row (Ident "ABCDEFG/12Z") (Parts (bytes "ABCDEFG" ∷ bytes "12Z" ∷ []))
     ∷ row (Aircraft "C172/A") (Parts ([] ∷ bytes "C172" ∷ bytes "A" ∷ []))
     ∷ row (Aircraft "T/AB") (Parts (bytes "T" ∷ bytes "AB" ∷ [] ∷ []))
-    ∷ row (Aircraft "AB/CD") None
+    ∷ row (Aircraft "AB/CD") NoReading
     ∷ row (Position "9000N/18000W") (Parts (bytes "9000N/18000W" ∷ []))
-    ∷ row (Position "9001N/00000E") None
-    ∷ row (Position "8960N/00000E") None
+    ∷ row (Position "9001N/00000E") NoReading
+    ∷ row (Position "8960N/00000E") NoReading
     ∷ row (MinutesOf "3015N/08430W") (Signed (pos 1815) (negsuc 5069))
     ∷ row (MinutesOf "0000S/00000W") (Signed (pos 0) (pos 0))
     ∷ row (Clock "2359") (Parts (bytes "2359" ∷ []))
-    ∷ row (Clock "2400") None
+    ∷ row (Clock "2400") NoReading
     ∷ row (Age "06081800" 30 "06081700") (Seconds 60)
     ∷ row (Age "01000010" 30 "30235950") (Seconds 20)
     ∷ row (Age "06081659" 30 "06081700") Ahead

@@ -22,7 +22,7 @@ use shapes::sweeps;
 use table::walk::Fault;
 
 // Document 01's answers 1 to 7 and 11; and 8, 9 and 10 as the body's fault.
-#[derive(Clone, Copy)]
+#[derive(Clone, Copy, PartialEq, Eq)]
 pub enum Refusal {
     Short,
     Long,
@@ -129,11 +129,8 @@ fn read_by(rule: Rule, line: &[u8]) -> Result<Reading, Refusal>
     if !sweeps::each_within(32, 126, line) {
         return Err(Refusal::Unprintable);
     }
-    let head = read_head(rule, line);
-    match head {
-        Ok(head) => read_rest(rule, head, line),
-        Err(refusal) => Err(refusal),
-    }
+    let head = read_head(rule, line)?;
+    read_rest(rule, head, line)
 }
 
 // Reads a line: any bytes, of any length. Its answer has the number and the place of the line's case in document 01's

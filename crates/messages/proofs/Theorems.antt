@@ -11,7 +11,7 @@ use lib.Dec.{eqb}
 use lib.ListN.{length, take}
 use borrow.Author.Tests.{eq-eqb, eqb-true}
 use Rattle.text.specs.Place.{all_in}
-use Rattle.text.proofs.Logic.{and_left, and_right, true_false}
+use Rattle.text.proofs.Logic.{ok_pair, and_left, and_right, true_false}
 use Rattle.rules.specs.declared.Rule.{Rule}
 use Rattle.fields.specs.declared.heads.MessageType.{MessageType}
 use Rattle.fields.specs.declared.heads.MessageType.TheVariants as type
@@ -64,13 +64,13 @@ typed_taken : (ρ : Rule) (t : MessageType) (s : List ℕ) (b : Body) (u : Bool)
 unfolding answer_by values_by
 typed_taken ρ t s b u e = go (is_count t (count_in s)) refl
   where
-    none : {X : Type 0} (x : Fault) → Err x ≡ Ok (b, u) → X
+    none : {X : Type 0} (x : Fault) → ◌≡◌ {A = Result (Body × Bool) Fault} (Err x) (Ok (b, u)) → X
     none x z = absurd (let y : ◌≡◌ {A = ℕ} 0 1 = cc in omega arith)
 
     at : is_count t (count_in s) ≡ true → (a : Result (Bool × ℕ) Fault) → answer_of (kinds_of ρ t (count_in s)) s ≡ a → typed_of t (padded (values_of (kinds_of ρ t (count_in s)) s)) a ≡ Ok (b, u) → Taken ρ t s b u
     at q (Ok (v, m)) p d =
-        let z : v ≡ u = cc in
-        let y : body_from t m (padded (values_of (kinds_of ρ t (count_in s)) s)) ≡ b = cc in
+        let z : v ≡ u = (ok_pair d).1 in
+        let y : body_from t m (padded (values_of (kinds_of ρ t (count_in s)) s)) ≡ b = (ok_pair d).0 in
         record { marks = m; count = q; answer = p ∙ rw z; is = y }
     at q (Err x) p d = none x d
 
@@ -176,9 +176,9 @@ body_sound ρ t s b u h e = go (has_fields t) refl
     go : (c : Bool) → has_fields t ≡ c → (type_in b ≡ t) × (is_body ρ b (free_in ρ t s) u ≡ true) × (body_text ρ b (free_in ρ t s) u ≡ s)
     go true f = rw f (fielded ρ t s b u f (fields_held ρ t s b u (sym (by_table ρ t s f) ∙ e)))
     go false f =
-        let d : Ok (body_from t 0 (padded []), false) ≡ Ok (b, u) = sym (kept_whole ρ t s f) ∙ e in
-        let z : body_from t 0 (padded []) ≡ b = cc in
-        let y : false ≡ u = cc in
+        let d = ok_pair (sym (kept_whole ρ t s f) ∙ e) in
+        let z : body_from t 0 (padded []) ≡ b = d.0 in
+        let y : false ≡ u = d.1 in
         rw (f, ← z, ← y) (whole_held ρ t s f h)
 
 -- "the count of marks set is the count of amendments": an AF that is read has three fields, and two more for each mark

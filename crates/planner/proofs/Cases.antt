@@ -26,7 +26,7 @@ use Rattle.planner.proofs.Answers.{asks_read, asks_number}
 use Rattle.planner.specs.Apply.{line_event, strike_event, KeyIsAsked, room, apply_of, board_after, strike_of, board_struck, apply_number, apply_place, strike_number, strike_place}
 use Rattle.planner.specs.Cases.{ApplyCase, Unread, NotAllowed, Full, Taken, StrikeCase, NoKey, StrikeNotAllowed, NotListed, Struck}
 use Rattle.planner.proofs.Ways.{stays}
-use Rattle.planner.specs.declared.NotTaken.TheVariants.{NotAllowed}
+use Rattle.planner.specs.declared.NotTaken.TheVariants as line
 use Rattle.planner.specs.declared.NotStruck.{NotStruck}
 use Rattle.planner.specs.declared.NotTaken.{NotTaken}
 
@@ -44,7 +44,7 @@ module _ (l s : List ℕ) where
 
   -- a line that asks the row r of the flight k to be written
   module _ (k : ℕ) (r : Row) (key : key_of r ≡ k) (asks : KeyIsAsked (asked_of s) k) (only : (j : ℕ) → KeyIsAsked (asked_of s) j → k ≡ j) (zero : line_number (read_of s) ≡ 0)
-      (is : apply_of l s ≡ cond (is_allowed l) (room (fits (rows_of l) k)) (Err NotAllowed)) (rows : rows_after (rows_of l) (line_event s) ≡ written (rows_of l) r) where
+      (is : apply_of l s ≡ cond (is_allowed l) (room (fits (rows_of l) k)) (Err line.NotAllowed)) (rows : rows_after (rows_of l) (line_event s) ≡ written (rows_of l) r) where
     put_own : Own l s
     unfolding board_after
     put_own = go (is_allowed l) refl (fits (rows_of l) k) refl

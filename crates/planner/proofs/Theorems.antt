@@ -26,8 +26,8 @@ use Rattle.planner.specs.Run.{Applies, Strikes, Run, fresh, applied, struck, Alt
 use Rattle.planner.proofs.apply.Reads as apply
 use Rattle.planner.proofs.strike.Reads as struck-off
 use Rattle.planner.proofs.Ways.{line_event_lem}
-use Rattle.planner.specs.declared.NotStruck.TheVariants.{NoKey, NotAllowed, NotListed}
-use Rattle.planner.specs.declared.NotTaken.TheVariants.{Full, Line, NotAllowed}
+use Rattle.planner.specs.declared.NotStruck.TheVariants as struck
+use Rattle.planner.specs.declared.NotTaken.TheVariants as line
 use Rattle.planner.specs.declared.NotStruck.{NotStruck}
 use Rattle.planner.specs.declared.NotTaken.{NotTaken}
 
@@ -86,15 +86,15 @@ run_rows (struck {l = l} {l' = l'} {r = r} s p c) =
 
 heard_line : Result (Unit {0}) NotTaken → Answer
 heard_line (Ok tt) = Took
-heard_line (Err (Line x)) = Refused
-heard_line (Err NotAllowed) = Refused
-heard_line (Err Full) = NoRoom
+heard_line (Err (line.Line x)) = Refused
+heard_line (Err line.NotAllowed) = Refused
+heard_line (Err line.Full) = NoRoom
 
 heard_strike : Result (Unit {0}) NotStruck → Answer
 heard_strike (Ok tt) = Took
-heard_strike (Err NoKey) = Refused
-heard_strike (Err NotAllowed) = Refused
-heard_strike (Err NotListed) = NotListed
+heard_strike (Err struck.NoKey) = Refused
+heard_strike (Err struck.NotAllowed) = Refused
+heard_strike (Err struck.NotListed) = NotListed
 
 heard_room : (b : Bool) → heard_line (room b) ≡ cond b Took NoRoom
 unfolding heard_line
@@ -137,23 +137,23 @@ listed_took e = let z : ◌≡◌ {A = ℕ} 0 1 = cc in omega arith
 line_zero : (r : Result (Unit {0}) NotTaken) → (apply_number r ≡ 0) ↔ (heard_line r ≡ Took)
 unfolding heard_line
 line_zero (Ok tt) = (λ e. refl, λ e. refl)
-line_zero (Err (Line x)) = (λ e. absurd (omega (arith, (refusal_numbers x).0, e)), λ e. absurd (refused_took e))
-line_zero (Err NotAllowed) = (λ e. absurd (omega arith), λ e. absurd (refused_took e))
-line_zero (Err Full) = (λ e. absurd (omega arith), λ e. absurd (room_took e))
+line_zero (Err (line.Line x)) = (λ e. absurd (omega (arith, (refusal_numbers x).0, e)), λ e. absurd (refused_took e))
+line_zero (Err line.NotAllowed) = (λ e. absurd (omega arith), λ e. absurd (refused_took e))
+line_zero (Err line.Full) = (λ e. absurd (omega arith), λ e. absurd (room_took e))
 
 line_twelve : (r : Result (Unit {0}) NotTaken) → (apply_number r ≡ 12) ↔ (heard_line r ≡ NoRoom)
 unfolding heard_line
 line_twelve (Ok tt) = (λ e. absurd (omega arith), λ e. absurd (room_took (sym e)))
-line_twelve (Err (Line x)) = (λ e. absurd (omega (arith, (refusal_numbers x).1, e)), λ e. absurd (refused_room e))
-line_twelve (Err NotAllowed) = (λ e. absurd (omega arith), λ e. absurd (refused_room e))
-line_twelve (Err Full) = (λ e. refl, λ e. refl)
+line_twelve (Err (line.Line x)) = (λ e. absurd (omega (arith, (refusal_numbers x).1, e)), λ e. absurd (refused_room e))
+line_twelve (Err line.NotAllowed) = (λ e. absurd (omega arith), λ e. absurd (refused_room e))
+line_twelve (Err line.Full) = (λ e. refl, λ e. refl)
 
 strike_zero : (r : Result (Unit {0}) NotStruck) → (strike_number r ≡ 0) ↔ (heard_strike r ≡ Took)
 unfolding heard_strike
 strike_zero (Ok tt) = (λ e. refl, λ e. refl)
-strike_zero (Err NoKey) = (λ e. absurd (omega arith), λ e. absurd (refused_took e))
-strike_zero (Err NotAllowed) = (λ e. absurd (omega arith), λ e. absurd (refused_took e))
-strike_zero (Err NotListed) = (λ e. absurd (omega arith), λ e. absurd (listed_took e))
+strike_zero (Err struck.NoKey) = (λ e. absurd (omega arith), λ e. absurd (refused_took e))
+strike_zero (Err struck.NotAllowed) = (λ e. absurd (omega arith), λ e. absurd (refused_took e))
+strike_zero (Err struck.NotListed) = (λ e. absurd (omega arith), λ e. absurd (listed_took e))
 
 -- ---- DEMAND 3 OF EVERY BOARD THAT CALLS HAVE LED TO
 

@@ -30,9 +30,9 @@ use Rattle.line.specs.declared.Refusal.{Refusal}
 use Rattle.planner.specs.declared.asks.Asked.{Asked}
 use Rattle.planner.specs.declared.asks.Asked.TheVariants as asked
 use Rattle.planner.specs.Apply.{event_of, line_event, told_of, room, Entered, apply_of, board_after, strike_event, strike_of, board_struck}
-use Rattle.planner.specs.declared.NotStruck.TheVariants.{NoKey, NotAllowed, NotListed}
-use Rattle.planner.specs.declared.NotTaken.TheVariants.{Line, NotAllowed}
-use Rattle.board.specs.declared.Full.{Full}
+use Rattle.planner.specs.declared.NotStruck.TheVariants as struck
+use Rattle.planner.specs.declared.NotTaken.TheVariants as line
+use Rattle.board.specs.declared.Full.{Full as BoardFull}
 use Rattle.board.specs.declared.NotListed.{NotListed}
 use Rattle.planner.specs.declared.NotTaken.{NotTaken}
 
@@ -67,7 +67,7 @@ told_room : (b : Bool) → told_of (done_of b) ≡ room b
 told_room true = refl
 told_room false = refl
 
-module _ (l : List ℕ) (k : Key) (d : Result (Unit {0}) Full) (r : Result (Unit {0}) NotTaken) (told : r ≡ told_of d) (l' : List ℕ) where
+module _ (l : List ℕ) (k : Key) (d : Result (Unit {0}) BoardFull) (r : Result (Unit {0}) NotTaken) (told : r ≡ told_of d) (l' : List ℕ) where
   pub dz_entered : (a : Arrival) → Wrote l (record { key = k; arrival = Some a; track = None }) d l' → Entered l (asked.Dz k a) r l'
   unfolding rows_after
   dz_entered a w = record { answered = told ∙ ap told_of w.done ∙ told_room (fits (rows_of l) k.0); words = w.words; still = w.still }
@@ -101,7 +101,7 @@ module _ (l : List ℕ) (e : is_allowed l ≡ true) where
   unfolding rows_after
   other_entered = record { answered = refl; words = sym (words_rows l e); still = e }
 
-  pub refused_entered : (x : Refusal) → Entered l (asked.Refused x) (Err (Line x)) l
+  pub refused_entered : (x : Refusal) → Entered l (asked.Refused x) (Err (line.Line x)) l
   unfolding rows_after
   refused_entered x = record { answered = refl; words = sym (words_rows l e); still = e }
 
@@ -135,13 +135,13 @@ stays l s x e = go (is_allowed l) refl
     go true q = rw (q, e) (sym (words_rows l q))
     go false q = rw q
 
-pub apply_refused : (l s : List ℕ) (a : Asked) (x : Refusal) → a ≡ asked_of s → a ≡ asked.Refused x → (Err (Line x) ≡ apply_of l s) × (l ≡ board_after l s)
+pub apply_refused : (l s : List ℕ) (a : Asked) (x : Refusal) → a ≡ asked_of s → a ≡ asked.Refused x → (Err (line.Line x) ≡ apply_of l s) × (l ≡ board_after l s)
 unfolding apply_of
 apply_refused l s a x is e = let q : asked_of s ≡ asked.Refused x = sym is ∙ e in (rw q, stays l s x q)
 
 -- the code tells only that it is no refusal
 pub apply_damaged : (l s : List ℕ) (a : Asked) → a ≡ asked_of s → OneOf (0 ∷ 1 ∷ 2 ∷ 3 ∷ []) (tag_of the_type a) → is_allowed l ≡ false
-    → ((Err NotAllowed) ≡ apply_of l s) × (l ≡ board_after l s)
+    → ((Err line.NotAllowed) ≡ apply_of l s) × (l ≡ board_after l s)
 unfolding apply_of board_after
 apply_damaged l s (asked.Dz k x) is h q = rw (← is, q) (refl, refl)
 apply_damaged l s (asked.Az k x) is h q = rw (← is, q) (refl, refl)
@@ -178,19 +178,19 @@ key_word s k e = go (is_form KEY s) refl
     go false q = let z : None ≡ Some k = rw q at e in ((cc), (cc))
 
 module _ (l s : List ℕ) (r : Option Key) (is : r ≡ as_key (word_of KEY s)) where
-  pub strike_no_key : r ≡ None → ((Err NoKey) ≡ strike_of l s) × (l ≡ board_struck l s)
+  pub strike_no_key : r ≡ None → ((Err struck.NoKey) ≡ strike_of l s) × (l ≡ board_struck l s)
   unfolding strike_of board_struck strike_event rows_after
   strike_no_key e = go (is_allowed l) refl
     where
       none : is_form KEY s ≡ false
       none = no_key s (sym is ∙ e)
 
-      go : (b : Bool) → is_allowed l ≡ b → ((Err NoKey) ≡ strike_of l s) × (l ≡ board_struck l s)
+      go : (b : Bool) → is_allowed l ≡ b → ((Err struck.NoKey) ≡ strike_of l s) × (l ≡ board_struck l s)
       go true q = rw (none, q) (refl, sym (words_rows l q))
       go false q = rw (none, q) (refl, refl)
 
   module _ (k : Key) (e : r ≡ Some k) where
-    pub strike_damaged : is_allowed l ≡ false → ((Err NotAllowed) ≡ strike_of l s) × (l ≡ board_struck l s)
+    pub strike_damaged : is_allowed l ≡ false → ((Err struck.NotAllowed) ≡ strike_of l s) × (l ≡ board_struck l s)
     unfolding strike_of board_struck
     strike_damaged q = rw ((key_word s k (sym is ∙ e)).0, q) (refl, refl)
 
@@ -203,10 +203,10 @@ module _ (l s : List ℕ) (r : Option Key) (is : r ≡ as_key (word_of KEY s)) w
           go true p = let f = key_word s k (sym is ∙ e) in rw (f.0, q, ← f.1, p) (refl, w.words)
           go false p = let z : (Ok tt) ≡ Err (record {}) = sym g ∙ w.done ∙ rw p in ((cc), (cc))
 
-      pub strike_missing : d ≡ Err (record {}) → ((Err NotListed) ≡ strike_of l s) × (l' ≡ board_struck l s)
+      pub strike_missing : d ≡ Err (record {}) → ((Err struck.NotListed) ≡ strike_of l s) × (l' ≡ board_struck l s)
       unfolding strike_of board_struck strike_event rows_after
       strike_missing g = go (is_listed (rows_of l) k.0) refl
         where
-          go : (b : Bool) → is_listed (rows_of l) k.0 ≡ b → ((Err NotListed) ≡ strike_of l s) × (l' ≡ board_struck l s)
+          go : (b : Bool) → is_listed (rows_of l) k.0 ≡ b → ((Err struck.NotListed) ≡ strike_of l s) × (l' ≡ board_struck l s)
           go true p = let z : (Err (record {})) ≡ Ok tt = sym g ∙ w.done ∙ rw p in ((cc), (cc))
           go false p = let f = key_word s k (sym is ∙ e) in rw (f.0, q, ← f.1, p) (refl, w.words)

@@ -12,9 +12,9 @@ use Rattle.line.specs.Read.{refusal_number, refusal_place}
 use Rattle.planner.specs.Asked.{asked_of}
 use Rattle.planner.specs.declared.asks.Asked.{Asked}
 use Rattle.planner.specs.declared.asks.Asked.TheVariants as asked
-use Rattle.planner.specs.declared.NotStruck.TheVariants.{NoKey, NotAllowed, NotListed}
-use Rattle.planner.specs.declared.NotTaken.TheVariants.{Full, Line, NotAllowed}
-use Rattle.board.specs.declared.Full.{Full}
+use Rattle.planner.specs.declared.NotStruck.TheVariants as struck
+use Rattle.planner.specs.declared.NotTaken.TheVariants as line
+use Rattle.board.specs.declared.Full.{Full as BoardFull}
 use Rattle.planner.specs.declared.NotStruck.{NotStruck}
 use Rattle.planner.specs.declared.NotTaken.{NotTaken}
 
@@ -43,20 +43,20 @@ KeyIsAsked (asked.Refused x) k = ⊥
 
 -- ---- a line on an allowed board
 
-abbrev pub told_of : Result (Unit {0}) Full → Result (Unit {0}) NotTaken
+abbrev pub told_of : Result (Unit {0}) BoardFull → Result (Unit {0}) NotTaken
 told_of (Ok tt) = Ok tt
-told_of (Err (record {})) = Err Full
+told_of (Err _) = Err line.Full
 
 abbrev pub room : Bool → Result (Unit {0}) NotTaken
 room true = Ok tt
-room false = Err Full
+room false = Err line.Full
 
 abbrev pub answer_to : List Row → Asked → Result (Unit {0}) NotTaken
 answer_to rs (asked.Dz k a) = room (fits rs k.0)
 answer_to rs (asked.Az k a) = room (fits rs k.0)
 answer_to rs (asked.Tz k t) = room (fits rs k.0)
 answer_to rs asked.Other = Ok tt
-answer_to rs (asked.Refused x) = Err (Line x)
+answer_to rs (asked.Refused x) = Err (line.Line x)
 
 pub record Entered (l : List ℕ) (a : Asked) (r : Result (Unit {0}) NotTaken) (l' : List ℕ) : Type 0 where
   pub answered : r ≡ answer_to (rows_of l) a
@@ -66,11 +66,11 @@ pub record Entered (l : List ℕ) (a : Asked) (r : Result (Unit {0}) NotTaken) (
 -- ---- a line on any words
 
 abbrev pub apply_by : List ℕ → Asked → Result (Unit {0}) NotTaken
-apply_by l (asked.Refused x) = Err (Line x)
-apply_by l (asked.Dz k a) = cond (is_allowed l) (answer_to (rows_of l) (asked.Dz k a)) (Err NotAllowed)
-apply_by l (asked.Az k a) = cond (is_allowed l) (answer_to (rows_of l) (asked.Az k a)) (Err NotAllowed)
-apply_by l (asked.Tz k t) = cond (is_allowed l) (answer_to (rows_of l) (asked.Tz k t)) (Err NotAllowed)
-apply_by l asked.Other = cond (is_allowed l) (Ok tt) (Err NotAllowed)
+apply_by l (asked.Refused x) = Err (line.Line x)
+apply_by l (asked.Dz k a) = cond (is_allowed l) (answer_to (rows_of l) (asked.Dz k a)) (Err line.NotAllowed)
+apply_by l (asked.Az k a) = cond (is_allowed l) (answer_to (rows_of l) (asked.Az k a)) (Err line.NotAllowed)
+apply_by l (asked.Tz k t) = cond (is_allowed l) (answer_to (rows_of l) (asked.Tz k t)) (Err line.NotAllowed)
+apply_by l asked.Other = cond (is_allowed l) (Ok tt) (Err line.NotAllowed)
 
 unfoldable pub apply_of : List ℕ → List ℕ → Result (Unit {0}) NotTaken
 apply_of l s = apply_by l (asked_of s)
@@ -82,7 +82,7 @@ board_after l s = cond (is_allowed l) (words_of (rows_after (rows_of l) (line_ev
 
 unfoldable pub strike_of : List ℕ → List ℕ → Result (Unit {0}) NotStruck
 strike_of l s =
-    cond (is_form KEY s) (cond (is_allowed l) (cond (is_listed (rows_of l) (packed s)) (Ok tt) (Err NotListed)) (Err NotAllowed)) (Err NoKey)
+    cond (is_form KEY s) (cond (is_allowed l) (cond (is_listed (rows_of l) (packed s)) (Ok tt) (Err struck.NotListed)) (Err struck.NotAllowed)) (Err struck.NoKey)
 
 unfoldable pub board_struck : List ℕ → List ℕ → List ℕ
 board_struck l s = cond (is_allowed l) (words_of (rows_after (rows_of l) (strike_event s))) l
@@ -91,24 +91,24 @@ board_struck l s = cond (is_allowed l) (words_of (rows_after (rows_of l) (strike
 
 abbrev pub apply_number : Result (Unit {0}) NotTaken → ℕ
 apply_number (Ok tt) = 0
-apply_number (Err (Line x)) = refusal_number x
-apply_number (Err NotAllowed) = 13
-apply_number (Err Full) = 12
+apply_number (Err (line.Line x)) = refusal_number x
+apply_number (Err line.NotAllowed) = 13
+apply_number (Err line.Full) = 12
 
 abbrev pub apply_place : Result (Unit {0}) NotTaken → ℕ
 apply_place (Ok tt) = 0
-apply_place (Err (Line x)) = refusal_place x
-apply_place (Err NotAllowed) = 0
-apply_place (Err Full) = 0
+apply_place (Err (line.Line x)) = refusal_place x
+apply_place (Err line.NotAllowed) = 0
+apply_place (Err line.Full) = 0
 
 abbrev pub strike_number : Result (Unit {0}) NotStruck → ℕ
 strike_number (Ok tt) = 0
-strike_number (Err NoKey) = 9
-strike_number (Err NotAllowed) = 13
-strike_number (Err NotListed) = 14
+strike_number (Err struck.NoKey) = 9
+strike_number (Err struck.NotAllowed) = 13
+strike_number (Err struck.NotListed) = 14
 
 abbrev pub strike_place : Result (Unit {0}) NotStruck → ℕ
 strike_place (Ok tt) = 0
-strike_place (Err NoKey) = 1
-strike_place (Err NotAllowed) = 0
-strike_place (Err NotListed) = 0
+strike_place (Err struck.NoKey) = 1
+strike_place (Err struck.NotAllowed) = 0
+strike_place (Err struck.NotListed) = 0

@@ -17,6 +17,7 @@ use Rattle.shapes.proofs.Laws.{next_byte}
 use Rattle.rules.specs.Frame.{line_feed}
 use Rattle.printer.specs.RowText.{space, hyphen, line_text}
 use Rattle.printer.specs.Parts.{part_text, slip_text, SlipWords}
+use Rattle.text.specs.declared.NotWritten.{NotWritten}
 use Rattle.text.specs.declared.NotWritten.TheVariants.{NoRoom, NoText}
 
 -- ---- one part
@@ -65,11 +66,10 @@ module _ (w : ℕ) (out : List ℕ) (at : ℕ) (e : is_packed w ≡ true) (room 
         let t = part_some w some in
         (rw t (next_known (text_of w) out at told).1, rw t (is ∙ sym (has_room_lem (text_of w) out at e fits).1))
 
-    pub put_roomy : {X : Type 0} → written_next (is_packed w) (text_of w) out at ≡ Err NoRoom → X
-    put_roomy told = absurd (omega (arith, fits, (no_room_known (text_of w) out at told).1))
-
-    pub put_text : {X : Type 0} → written_next (is_packed w) (text_of w) out at ≡ Err NoText → X
-    put_text told = true_false e (no_text_known (text_of w) out at told)
+    -- it is a text, and there is room
+    pub put_never : {X : Type 0} (r : NotWritten) → written_next (is_packed w) (text_of w) out at ≡ Err r → X
+    put_never NoRoom told = absurd (omega (arith, fits, (no_room_known (text_of w) out at told).1))
+    put_never NoText told = true_false e (no_text_known (text_of w) out at told)
 
 -- the byte after a part
 pub put_after : (out vs : List ℕ) (at b : ℕ) {end : ℕ} {o : List ℕ} → at + length vs + 1 ≤ length out → end ≡ at + length vs → o ≡ spliced out at vs

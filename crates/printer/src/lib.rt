@@ -32,8 +32,8 @@ pub fn put_count(name: &[u8], n: u64, after: u8, out: &mut [u8], at: usize) -> u
 {
     let start = at + name.len();
     let end = start + decimals::size(n);
-    put_bytes(name, out, at);
-    decimals::put(n, out, start);
+    let _ = put_bytes(name, out, at);
+    let _ = decimals::put(n, out, start);
     out[end] = after;
     end + 1
 }

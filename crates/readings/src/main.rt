@@ -106,7 +106,7 @@ fn show(rule: Rule, body: Body, as_it_was: bool) {
     let kind = type_in(body);
     let mut letters = [0u8; 2];
     answer(0, 0, b" ");
-    kind.put(&mut letters, 0);
+    let _ = kind.put(&mut letters, 0);
     say(&letters);
     let values = values_in(body);
     say_key(values[0].a);

@@ -13,7 +13,7 @@ use lib.Dec.{eqb, lit≤}
 use lib.ListN.{length, get_or}
 use borrow.Author.Tests.{eqb-true}
 use Rattle.text.specs.Bytes.{bytes}
-use Rattle.text.proofs.Logic.{and_left, and_right, true_false, not_fails, not_holds, implied}
+use Rattle.text.proofs.Logic.{ok_pair, and_left, and_right, true_false, not_fails, not_holds, implied}
 use Rattle.rules.specs.declared.Rule.{Rule}
 use Rattle.table.specs.Field.{AMENDMENT, ROUTE, kind_by, plain, trace_of, marks_of}
 use Rattle.table.specs.declared.kinds.Value.{Value}
@@ -78,7 +78,7 @@ content_next (k ∷ ks) p (f ∷ fs) h c e = let z : eqb (plain k p) ROUTE ≡ t
 -- so where each number has its content, the mark comes with a route
 set-routed : (i : ℕ) (t : Bool) (ks : List ℕ) (p m : ℕ) (fs : List (List ℕ)) (u : Bool) (n : ℕ) → m < 256 → length fs ≡ length ks → followed ks ≡ true → routeless m ≡ true → answer_from i t ks p m fs ≡ Ok (u, n) → routed_in ks p fs ≡ false → routeless n ≡ true
 unfolding routed_in answer_from followed
-set-routed i t [] p m fs u n l h w g e r = let z : m ≡ n = cc in rw z at g
+set-routed i t [] p m fs u n l h w g e r = let z : m ≡ n = (ok_pair e).1 in rw z at g
 set-routed i t (k ∷ ks) p m [] u n l h w g e r = absurd (omega arith)
 set-routed i t (k ∷ ks) p m (f ∷ fs) u n l h w g e r =
     let c = taken_more i t k ks p m f fs u n e in

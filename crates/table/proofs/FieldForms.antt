@@ -82,9 +82,9 @@ form_own k s = go (is_for AIRCRAFT k) refl (has_form k s) refl
 
 aircraft_one : {ρ : Rule} {s : List ℕ} {n m : ℕ} → aircraft.Case ρ s n → aircraft.Case ρ s m → n ≡ m
 aircraft_one (aircraft.One a r u) (aircraft.One a' r' u') = refl
-aircraft_one (aircraft.One a r u) (aircraft.None f) = absurd (f a r)
-aircraft_one (aircraft.None f) (aircraft.One a r u) = absurd (f a r)
-aircraft_one (aircraft.None f) (aircraft.None f') = refl
+aircraft_one (aircraft.One a r u) (aircraft.NoOne f) = absurd (f a r)
+aircraft_one (aircraft.NoOne f) (aircraft.One a r u) = absurd (f a r)
+aircraft_one (aircraft.NoOne f) (aircraft.NoOne f') = refl
 
 -- and a text is in one case of a form
 pub form_one : {k : ℕ} {s : List ℕ} {n m : ℕ} → FormCase k s n → FormCase k s m → n ≡ m

@@ -54,7 +54,7 @@ aircraft_there ρ t fs i c h a k = ByForm (aircraft_asked ρ t fs i c h a) (Read
 module _ (t : MessageType) (fs : List (List ℕ)) (i : ℕ) (c : is_count t (length fs) ≡ true) (h : i < length fs) (a : AircraftAt fs t i) where
   -- "An aircraft field with a last letter .. has no reading there"
   pub letter_wrong : (p m l : List ℕ) → CutInto (field_at fs i) p m l → is_one_letter l ≡ true → FieldCase (kinds_of Old t (length fs)) fs i 9
-  letter_wrong p m l k e = aircraft_there Old t fs i c h a (aircraft.None (lettered_none (field_at fs i) p m l k e))
+  letter_wrong p m l k e = aircraft_there Old t fs i c h a (aircraft.NoOne (lettered_none (field_at fs i) p m l k e))
 
 -- "or an AZ clock with a prefix": the fourth field of an AZ is right exactly if it is a clock
 module _ (fs : List (List ℕ)) (h : 3 < length fs) where

@@ -12,7 +12,7 @@ use lib.Count.{ones}
 use lib.Dec.{eqb}
 use lib.ListN.{length}
 use borrow.Author.Tests.{eqb-true, eqb-false}
-use Rattle.text.proofs.Logic.{and_left, true_false, not_holds}
+use Rattle.text.proofs.Logic.{ok_pair, and_left, true_false, not_holds}
 use Rattle.rules.specs.Form.{is_position}
 use Rattle.rules.specs.Kind.{FIX}
 use Rattle.rules.specs.declared.Rule.{Rule}
@@ -97,7 +97,7 @@ step k p m s v l e = go (eqb k AMENDMENT) refl
 -- the marks that are set in the end: one more for each number
 pub marks_number : (i : ℕ) (t : Bool) (ks : List ℕ) (p m : ℕ) (fs : List (List ℕ)) (u : Bool) (n : ℕ) → m < 256 → length fs ≡ length ks → answer_from i t ks p m fs ≡ Ok (u, n) → (n < 256) × (ones n ≡ times AMENDMENT ks + ones m)
 unfolding answer_from times
-marks_number i t [] p m fs u n l h e = let z : m ≡ n = cc in (omega arith, omega (arith, ap ones z))
+marks_number i t [] p m fs u n l h e = let z : m ≡ n = (ok_pair e).1 in (omega arith, omega (arith, ap ones z))
 marks_number i t (k ∷ ks) p m [] u n l h e = absurd (omega arith)
 marks_number i t (k ∷ ks) p m (f ∷ fs) u n l h e =
     let c = taken_more i t k ks p m f fs u n e in
@@ -112,8 +112,8 @@ marks_number i t (k ∷ ks) p m (f ∷ fs) u n l h e =
 -- a mark that is set stays
 pub marks_stay : (i : ℕ) (t : Bool) (ks : List ℕ) (p m : ℕ) (fs : List (List ℕ)) (u : Bool) (n : ℕ) → m < 256 → routeless m ≡ false → answer_from i t ks p m fs ≡ Ok (u, n) → routeless n ≡ false
 unfolding answer_from
-marks_stay i t [] p m fs u n l h e = let z : m ≡ n = cc in rw z at h
-marks_stay i t (k ∷ ks) p m [] u n l h e = let z : m ≡ n = cc in rw z at h
+marks_stay i t [] p m fs u n l h e = let z : m ≡ n = (ok_pair e).1 in rw z at h
+marks_stay i t (k ∷ ks) p m [] u n l h e = let z : m ≡ n = (ok_pair e).1 in rw z at h
 marks_stay i t (k ∷ ks) p m (f ∷ fs) u n l h e =
     let c = taken_more i t k ks p m f fs u n e in
     let s = step k p m f c.0 l c.1 in

@@ -68,7 +68,7 @@ fault_number_lem i (Err Number) h = (refl, refl)
 fault_number_lem i (Ok v) h = true_false h refl
 
 -- two faults are one only with one place
-fault_same : (n j : ℕ) (a b : Result Value NotRead) → is_fault a ≡ true → is_fault b ≡ true → Err (fault_at n b) ≡ Err (fault_at j a) → (j ≡ n) × (b ≡ a)
+fault_same : (n j : ℕ) (a b : Result Value NotRead) → is_fault a ≡ true → is_fault b ≡ true → ◌≡◌ {A = Result (Bool × ℕ) Fault} (Err (fault_at n b)) (Err (fault_at j a)) → (j ≡ n) × (b ≡ a)
 fault_same n j (Ok v) b h g e = true_false h refl
 fault_same n j (Err Nothing) (Ok v) h g e = true_false g refl
 fault_same n j (Err Nothing) (Err Nothing) h g e = ((cc), refl)
@@ -78,7 +78,7 @@ fault_same n j (Err Number) (Err Nothing) h g e = ((cc), (cc))
 fault_same n j (Err Number) (Err Number) h g e = ((cc), refl)
 
 -- and none is the spacing
-pub fault_spacing : (j : ℕ) (a : Result Value NotRead) → is_fault a ≡ true → Err Spacing ≡ Err (fault_at j a) → ⊥
+pub fault_spacing : (j : ℕ) (a : Result Value NotRead) → is_fault a ≡ true → ◌≡◌ {A = Result (Bool × ℕ) Fault} (Err Spacing) (Err (fault_at j a)) → ⊥
 fault_spacing j (Ok v) h e = true_false h refl
 fault_spacing j (Err Nothing) h e = let z : ◌≡◌ {A = ℕ} 0 1 = cc in omega arith
 fault_spacing j (Err Number) h e = let z : ◌≡◌ {A = ℕ} 0 1 = cc in omega arith

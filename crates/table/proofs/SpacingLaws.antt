@@ -10,7 +10,7 @@ use lib.Dec.{eqb, leb}
 use lib.ListN.{length, take, drop, get_or, length-drop}
 use lib.Seq.{drop-drop, take-append_seam, drop-append_seam}
 use borrow.Author.Tests.{eq-eqb, ne_eqb, eqb-true, eqb-false, not-true, leb-true}
-use Rattle.text.proofs.Logic.{and_left, and_right, true_false}
+use Rattle.text.proofs.Logic.{some_pair, and_left, and_right, true_false}
 use Rattle.text.specs.Class.{all}
 use Rattle.shapes.specs.Picture.{is_of}
 use Rattle.shapes.specs.Cut.{up_to}
@@ -248,7 +248,7 @@ count_known body {n} {t} e = go (fields_of body) e
   where
     go : (p : Split) → counts p ≡ Some (n, t) → (p ≡ Fields (fields_in p) t) × (n ≡ length (fields_in p))
     go Wrong d = ((cc), (cc))
-    go (Fields fs u) d = (ap (Fields fs) (cc), (cc))
+    go (Fields fs u) d = (ap (Fields fs) (some_pair d).1, sym (some_pair d).0)
 
 pub count_wrong : (body : List ℕ) → count_of body ≡ None → fields_of body ≡ Wrong
 unfolding count_of counts

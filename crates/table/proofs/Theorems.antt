@@ -13,7 +13,7 @@ use lib.ListN.{length}
 use borrow.Author.Tests.{eq-eqb, eqb-true, le-leb, leb-true}
 use Rattle.text.specs.Class.{all}
 use Rattle.text.specs.Place.{all_in}
-use Rattle.text.proofs.Logic.{and_left, and_right, true_false}
+use Rattle.text.proofs.Logic.{ok_pair, and_left, and_right, true_false}
 use Rattle.shapes.specs.Picture.{is_of}
 use Rattle.rules.specs.Form.{is_route}
 use Rattle.table.specs.Spacing.{body_of, all_fields, Split, Fields, Wrong, fields_of}
@@ -141,7 +141,7 @@ unfolding allowed_from texts_from marks_from
 shows_more k ks p m r v vs f fs n i g s h = record { allowed = rw (s, i, g, h.allowed); texts = rw (s, h.texts); marks = rw s h.marks }
 
 -- what is refused is not taken
-pub not_taken : {X : Type 0} (u : Bool) (n : ℕ) (x : Fault) → Err x ≡ Ok (u, n) → X
+pub not_taken : {X : Type 0} (u : Bool) (n : ℕ) (x : Fault) → ◌≡◌ {A = Result (Bool × ℕ) Fault} (Err x) (Ok (u, n)) → X
 not_taken u n x e = absurd (let z : ◌≡◌ {A = ℕ} 0 1 = cc in omega arith)
 
 -- where all fields are read, the first is, and all others are
@@ -157,7 +157,7 @@ taken_more i t k ks p m f fs u n e = go (read_in k p m f) refl
 
 pub answer_taken : (i : ℕ) (t : Bool) (ks : List ℕ) (p m : ℕ) (fs : List (List ℕ)) (u : Bool) (n : ℕ) → length fs ≡ length ks → answer_from i t ks p m fs ≡ Ok (u, n) → (u ≡ t) × Reads ks p m fs n
 unfolding answer_from values_from allowed_from texts_from marks_from all_visible
-answer_taken i t [] p m [] u n h e = ((cc), record { count = refl; visible = refl; shows = λ r a. record { allowed = refl; texts = refl; marks = cc } })
+answer_taken i t [] p m [] u n h e = (sym (ok_pair e).0, record { count = refl; visible = refl; shows = λ r a. record { allowed = refl; texts = refl; marks = (ok_pair e).1 } })
 answer_taken i t [] p m (f ∷ fs) u n h e = absurd (omega arith)
 answer_taken i t (k ∷ ks) p m [] u n h e = absurd (omega arith)
 answer_taken i t (k ∷ ks) p m (f ∷ fs) u n h e =

@@ -9,7 +9,6 @@ use native.Mathlib.Nat.{zero-add, sub-zero, zero-sub, suc-sub-suc}
 use native.Mathlib.Numerals.{add-one}
 use native.Mathlib.Omega.{arith}
 use denote.Enum.Declared.{tag_of}
-use types.Run.{OneOf, miss}
 use lib.Dec.{eqb, leb}
 use lib.ListN.{length, drop, get_or, replicate}
 use lib.Seq.{sets, sets-eq, drop-cons}
@@ -18,7 +17,6 @@ use Rattle.table.specs.Spacing.{Fields, fields_of, fields_in, count_of, end_of}
 use Rattle.table.proofs.SpacingLaws.{rest, Turn, turn, split_rest, count_known, count_wrong}
 use Rattle.table.specs.Field.{ROUTE, read_in, plain, trace_of, marks_of}
 use Rattle.table.specs.declared.kinds.Value.{Value}
-use Rattle.table.specs.contracts.kinds.FieldRead.{the_type}
 use Rattle.table.specs.Read.{none, padded, more, values_from, fault_at, or_else, answer_from, counted, answers, values, answer_of, values_of, Ready, route_in, route_of, route_from, route_at}
 use Rattle.table.specs.declared.walk.Fault.TheVariants.{Spacing}
 use Rattle.table.specs.declared.kinds.NotRead.TheVariants.{Nothing, Number}
@@ -71,24 +69,22 @@ module _ (k : ℕ) (ks : List ℕ) (p m : ℕ) (f : List ℕ) (fs : List (List �
   unfolding values_from
   values_read e = rw e
 
-  -- it is not read, of which the code tells only the variant's number: its fault is the answer
-  pub answer_stop : (x : Result Value NotRead) → read_in k p m f ≡ x → OneOf (1 ∷ 2 ∷ []) (tag_of the_type x) → (i : ℕ) (t : Bool) → Err (fault_at i x) ≡ answer_from i t (k ∷ ks) p m (f ∷ fs)
+  -- it is not read: its fault is the answer
+  pub answer_stop : (x : NotRead) → read_in k p m f ≡ Err x → (i : ℕ) (t : Bool) → Err (fault_at i (Err x)) ≡ answer_from i t (k ∷ ks) p m (f ∷ fs)
   unfolding answer_from
-  answer_stop x e h i t = rw e (go x h (answer_from (suc i) t ks (trace_of k f) (marks_of k m f) fs))
+  answer_stop x e i t = rw e (go x (answer_from (suc i) t ks (trace_of k f) (marks_of k m f) fs))
     where
-      go : (x : Result Value NotRead) → OneOf (1 ∷ 2 ∷ []) (tag_of the_type x) → (r : Result (Bool × ℕ) Fault) → Err (fault_at i x) ≡ or_else i x r
-      go (Ok v) h r = absurd (miss (1 ∷ 2 ∷ []) 0 tt h)
-      go (Err Nothing) h r = refl
-      go (Err Number) h r = refl
+      go : (x : NotRead) (r : Result (Bool × ℕ) Fault) → Err (fault_at i (Err x)) ≡ or_else i (Err x) r
+      go Nothing r = refl
+      go Number r = refl
 
-  pub values_stop : (x : Result Value NotRead) → read_in k p m f ≡ x → OneOf (1 ∷ 2 ∷ []) (tag_of the_type x) → values_from (k ∷ ks) p m (f ∷ fs) ≡ []
+  pub values_stop : (x : NotRead) → read_in k p m f ≡ Err x → values_from (k ∷ ks) p m (f ∷ fs) ≡ []
   unfolding values_from
-  values_stop x e h = rw e (go x h (values_from ks (trace_of k f) (marks_of k m f) fs))
+  values_stop x e = rw e (go x (values_from ks (trace_of k f) (marks_of k m f) fs))
     where
-      go : (x : Result Value NotRead) → OneOf (1 ∷ 2 ∷ []) (tag_of the_type x) → (vs : List Value) → more x vs ≡ []
-      go (Ok v) h vs = absurd (miss (1 ∷ 2 ∷ []) 0 tt h)
-      go (Err Nothing) h vs = refl
-      go (Err Number) h vs = refl
+      go : (x : NotRead) (vs : List Value) → more (Err x) vs ≡ []
+      go Nothing vs = refl
+      go Number vs = refl
 
 -- ---- the values in their places
 

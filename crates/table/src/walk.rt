@@ -9,7 +9,7 @@ use crate::{field, kinds, spacing};
 
 // What is wrong with a body: its spacing or its count of fields (answer 8), or the first field that is at fault, with its
 // place (9, 10).
-#[derive(Clone, Copy)]
+#[derive(Clone, Copy, PartialEq, Eq)]
 pub enum Fault {
     Spacing,
     Field(usize),
@@ -24,13 +24,12 @@ pub struct TableRead {
 }
 
 // What a field that is not read makes of the whole body.
-fn as_fault(read: Result<Value, NotRead>, place: usize) -> Fault
-    ensures { result ≡ fault_at place read }
+fn as_fault(read: NotRead, place: usize) -> Fault
+    ensures { result ≡ fault_at place (Err read) }
 {
     match read {
-        Err(NotRead::Nothing) => Fault::Field(place),
-        Err(NotRead::Number) => Fault::Number(place),
-        Ok(_) => Fault::Spacing,
+        NotRead::Nothing => Fault::Field(place),
+        NotRead::Number => Fault::Number(place),
     }
 }
 
@@ -60,12 +59,14 @@ pub(crate) fn read(kinds: &[u8], body: &[u8], trailing: bool) -> TableRead
         let j = at + 1;
         let e = spacing::field_end(body, j);
         let kind = kinds[k];
-        let read = field::read_field(kind, trace, marks, &body[j..e]);
-        let Ok(value) = read else {
-            return TableRead {
-                answer: Err(as_fault(read, k + 1)),
-                values,
-            };
+        let value = match field::read_field(kind, trace, marks, &body[j..e]) {
+            Ok(value) => value,
+            Err(read) => {
+                return TableRead {
+                    answer: Err(as_fault(read, k + 1)),
+                    values,
+                };
+            }
         };
         values[k] = value;
         marks = kinds::marks_after(kind, marks, &body[j..e]);

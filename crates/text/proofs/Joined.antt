@@ -14,8 +14,9 @@ use Rattle.text.specs.Class.{all, is_digit, is_letter, is_alnum, is_text_byte}
 use Rattle.text.specs.Text.{packed, text_of, is_text, is_packed, pack_of, slashed, join_of, spliced, written_next, written_bytes}
 use Rattle.text.proofs.Logic.{and_left, and_right}
 use Rattle.text.proofs.Codes.{all_between}
-use Rattle.text.proofs.Laws.{text_is, next_known, no_room_known, no_text_known, has_room_lem}
+use Rattle.text.proofs.Laws.{text_is, next_known, no_room_known, no_text_known, has_room_lem, twelve_unwritten}
 use Rattle.text.proofs.Splice.{length-spliced, spliced_next, set-spliced, take-spliced}
+use Rattle.text.specs.declared.NotWritten.{NotWritten}
 use Rattle.text.specs.declared.NotWritten.TheVariants.{NoRoom, NoText}
 
 pub length-slashed : (x y : List ℕ) → length (slashed x y) ≡ length x + 1 + length y
@@ -52,6 +53,10 @@ module _ (a b : ℕ) where
       rw (e, f, short, slashed_bytes (text_of a) (text_of b) (text_bytes a e) (text_bytes b f))
 
 -- the first text was written
+module _ (a b : ℕ) (room : List ℕ) (twelve : length room ≡ 12) where
+  pub join_unwritten : (e : NotWritten) → written_next (is_packed a) (text_of a) room 0 ≡ Err e → None ≡ join_of a b
+  join_unwritten k h = join_first a b (twelve_unwritten a room k twelve h)
+
 module _ (a b n : ℕ) (room once : List ℕ) (twelve : length room ≡ 12) (told : written_next (is_packed a) (text_of a) room 0 ≡ Ok n) (is : once ≡ written_bytes (is_packed a) (text_of a) room 0) where
   known : (is_packed a ≡ true) × (n ≡ 0 + length (text_of a)) × (0 + length (text_of a) ≤ length room)
   known = next_known (text_of a) room 0 told
@@ -72,11 +77,9 @@ module _ (a b n : ℕ) (room once : List ℕ) (twelve : length room ≡ 12) (tol
         let l = length-append (text_of a) (47 ∷ []) in
         ap length begun ∙ length-spliced room (text_of a ++ 47 ∷ []) 0 (omega (arith, known.1, l)) ∙ twelve
 
-    pub join_no_text : written_next (is_packed b) (text_of b) (set once n 47) (n + 1) ≡ Err NoText → None ≡ join_of a b
-    join_no_text e = join_second a b known.0 (no_text_known (text_of b) (set once n 47) (n + 1) e)
-
-    pub join_no_room : written_next (is_packed b) (text_of b) (set once n 47) (n + 1) ≡ Err NoRoom → None ≡ join_of a b
-    join_no_room e = join_long a b known.0 (omega (arith, sized, known.1, (no_room_known (text_of b) (set once n 47) (n + 1) e).1))
+    pub join_unfinished : (e : NotWritten) → written_next (is_packed b) (text_of b) (set once n 47) (n + 1) ≡ Err e → None ≡ join_of a b
+    join_unfinished NoText e = join_second a b known.0 (no_text_known (text_of b) (set once n 47) (n + 1) e)
+    join_unfinished NoRoom e = join_long a b known.0 (omega (arith, sized, known.1, (no_room_known (text_of b) (set once n 47) (n + 1) e).1))
 
     -- and the second
     module _ (end : ℕ) (twice : List ℕ) (told₂ : written_next (is_packed b) (text_of b) (set once n 47) (n + 1) ≡ Ok end) (is₂ : twice ≡ written_bytes (is_packed b) (text_of b) (set once n 47) (n + 1)) where

@@ -16,6 +16,7 @@ use Rattle.text.specs.Text.{packed, text_of, is_text, is_packed, size_of, has_ro
 use Rattle.text.proofs.Logic.{and_left, and_right, so, not_so, same_test}
 use Rattle.text.proofs.Codes.{code_byte, byte_code, text_all}
 use Rattle.text.proofs.Places.{all_in_cons, digits_value, tight_value, value_lt, value_digits, digits_in, length_digits}
+use Rattle.text.specs.declared.NotWritten.{NotWritten}
 use Rattle.text.specs.declared.NotWritten.TheVariants.{NoRoom, NoText}
 
 codes_bytes : (ds : List ℕ) → all_in 1 37 ds ≡ true → map code_of (map byte_of ds) ≡ ds
@@ -173,3 +174,8 @@ text_short t e = text_length (text_of t) (text_is t e)
 -- twelve bytes have room for every text
 pub twelve_room : (t : ℕ) (room : List ℕ) → length room ≡ 12 → written_next (is_packed t) (text_of t) room 0 ≡ Err NoRoom → ⊥
 twelve_room t room h e = let k = no_room_known (text_of t) room 0 e in omega (arith, text_short t k.0, k.1)
+
+-- twelve bytes have room for any text, so what is not written there has none
+pub twelve_unwritten : (t : ℕ) (room : List ℕ) (e : NotWritten) → length room ≡ 12 → written_next (is_packed t) (text_of t) room 0 ≡ Err e → is_packed t ≡ false
+twelve_unwritten t room NoText h e = no_text_known (text_of t) room 0 e
+twelve_unwritten t room NoRoom h e = absurd (twelve_room t room h e)

@@ -1,5 +1,6 @@
 -- Laws of tests: what two tests together say, and a test at every number below a bound. Assumes nothing.
-use mathlib.Core.Path.{◌≡◌, refl, sym, ◌∙◌, subst}
+use Rattle.std.specs.Prelude.{Option, Some, None, Result, Ok, Err}
+use mathlib.Core.Path.{◌≡◌, refl, sym, ap, ◌∙◌, subst}
 use mathlib.Core.Bool.{Bool, true, false, cond, not, ◌&&◌, ◌||◌, and-false, beq}
 use Prim.Native.Nat.{ℕ, zero, suc, ◌<◌}
 use native.Mathlib.Nat.{le_of_suc-le-suc, not-suc-le-zero}
@@ -91,3 +92,20 @@ below_at f (suc n) e k h = go (eqb k n) refl (below_at f n (and_right (f n) (bel
     go : (t : Bool) → eqb k n ≡ t → (k < n → f k ≡ true) → f k ≡ true
     go true q r = subst (λ (m : ℕ). f m ≡ true) (sym (eqb-true k n q)) (and_left (f n) (below f n) e)
     go false q r = r (lt_of_le-ne (le_of_suc-le-suc h) (eqb-false k n q))
+
+-- two pairs under Some, or Ok, are equal only part by part
+some_parts : {P : Type 0} → P → Option P → P
+some_parts x (Some p) = p
+some_parts x None = x
+
+ok_parts : {P E : Type 0} → P → Result P E → P
+ok_parts x (Ok p) = p
+ok_parts x (Err e) = x
+
+pub some_pair : {A B : Type 0} {a c : A} {b d : B} → ◌≡◌ {A = Option (A × B)} (Some (a, b)) (Some (c, d)) → (a ≡ c) × (b ≡ d)
+unfolding some_parts
+some_pair {A} {B} {a} {c} {b} {d} e = (ap (λ (r : Option (A × B)). (some_parts (a, b) r).0) e, ap (λ (r : Option (A × B)). (some_parts (a, b) r).1) e)
+
+pub ok_pair : {A B E : Type 0} {a c : A} {b d : B} → ◌≡◌ {A = Result (A × B) E} (Ok (a, b)) (Ok (c, d)) → (a ≡ c) × (b ≡ d)
+unfolding ok_parts
+ok_pair {A} {B} {E} {a} {c} {b} {d} e = (ap (λ (r : Result (A × B) E). (ok_parts (a, b) r).0) e, ap (λ (r : Result (A × B) E). (ok_parts (a, b) r).1) e)

@@ -1,7 +1,7 @@
 -- The laws of sizes: a field's, in twelve bytes of its own or as a route; and all fields', from what is left of them. Assumes
 -- nothing.
-use Rattle.std.specs.Prelude.{None, Option, Some}
-use mathlib.Core.Path.{◌≡◌, refl, ◌∙◌}
+use Rattle.std.specs.Prelude.{Err, None, Option, Some}
+use mathlib.Core.Path.{◌≡◌, refl, sym, ap, ◌∙◌}
 use mathlib.Core.Bool.{Bool, true, false, cond, ◌&&◌}
 use mathlib.Core.List.{List, [], ◌∷◌, ◌++◌}
 use Prim.Native.Nat.{ℕ, suc, ◌+◌, ◌≤◌, ◌<◌}
@@ -12,7 +12,11 @@ use lib.Dec.{eqb}
 use lib.ListN.{length, take, drop, get_or, length-append}
 use lib.Seq.{drop-cons, get_or-take, length-take-le}
 use borrow.Author.Tests.{eqb-true}
+use Rattle.text.specs.Text.{written_next}
+use Rattle.text.specs.declared.NotWritten.{NotWritten}
+use Rattle.text.specs.declared.NotWritten.TheVariants.{NoRoom, NoText}
 use Rattle.text.proofs.Logic.{not_holds}
+use Rattle.text.proofs.Laws.{no_room_known, no_text_known}
 use Rattle.rules.specs.Form.{is_route}
 use Rattle.rules.specs.Frame.{longest_line}
 use Rattle.table.specs.Spacing.{body_of}
@@ -24,6 +28,11 @@ use Rattle.table.specs.Show.{texts_from, allowed_from, marks_from}
 use Rattle.writer.specs.Size.{sized_text, sized_field, fields_text, sized_all}
 
 -- ---- one field
+
+-- what has room where it holds, and is not written, does not hold
+pub unwritten : {ok : Bool} (vs out : List ℕ) (e : NotWritten) → (ok ≡ true → length vs ≤ length out) → written_next ok vs out 0 ≡ Err e → ok ≡ false
+unwritten vs out NoText h e = no_text_known vs out 0 e
+unwritten vs out NoRoom h e = let k = no_room_known vs out 0 e in absurd (omega (arith, h k.0, k.1))
 
 pub text_not : (k p m : ℕ) (s : List ℕ) → follows k p m s ≡ false → None ≡ sized_text k p m s
 unfolding sized_text
@@ -60,6 +69,16 @@ module _ (k p m : ℕ) (r : List ℕ) (v : Value) (e : plain k p ≡ ROUTE) wher
   unfolding is_value is_kind_value
   route_is h = field_is k p m r v (rw (route_plain k p e, e, h)) r (route_shown k p r v e)
 
+-- two triples under Some are equal only part by part
+triple_in : ℕ × ℕ × ℕ → Option (ℕ × ℕ × ℕ) → ℕ × ℕ × ℕ
+triple_in x (Some t) = t
+triple_in x None = x
+
+some_triple : {a b c d e f : ℕ} → ◌≡◌ {A = Option (ℕ × ℕ × ℕ)} (Some (a, b, c)) (Some (d, e, f)) → (a ≡ d) × (b ≡ e) × (c ≡ f)
+unfolding triple_in
+some_triple {a} {b} {c} q =
+    (ap (λ (r : Option (ℕ × ℕ × ℕ)). (triple_in (a, b, c) r).0) q, ap (λ (r : Option (ℕ × ℕ × ℕ)). (triple_in (a, b, c) r).1) q, ap (λ (r : Option (ℕ × ℕ × ℕ)). (triple_in (a, b, c) r).2) q)
+
 -- what a field's size says
 module _ (k p m : ℕ) (r : List ℕ) (v : Value) where
   pub field_known : {n q w : ℕ} → sized_field k p m r v ≡ Some (n, q, w)
@@ -70,8 +89,9 @@ module _ (k p m : ℕ) (r : List ℕ) (v : Value) where
       go : (a : Bool) → is_value k p r v ≡ a → (b : Bool) → follows k p m (shown k p r v) ≡ b
           → (is_value k p r v ≡ true) × (follows k p m (shown k p r v) ≡ true) × (n ≡ length (shown k p r v)) × (q ≡ trace_of k (shown k p r v)) × (w ≡ marks_of k m (shown k p r v))
       go true x true y =
-          let z : Some (length (shown k p r v), trace_of k (shown k p r v), marks_of k m (shown k p r v)) ≡ Some (n, q, w) = rw (x, y) at e in
-          (x, y, (cc), (cc), (cc))
+          let z : ◌≡◌ {A = Option (ℕ × ℕ × ℕ)} (Some (length (shown k p r v), trace_of k (shown k p r v), marks_of k m (shown k p r v))) (Some (n, q, w)) = rw (x, y) at e in
+          let s = some_triple z in
+          (x, y, sym s.0, sym s.1, sym s.2)
       go true x false y = let z : None ≡ Some (n, q, w) = rw (x, y) at e in ((cc), (cc), (cc), (cc), (cc))
       go false x b y = let z : None ≡ Some (n, q, w) = rw x at e in ((cc), (cc), (cc), (cc), (cc))
 

@@ -9,7 +9,7 @@ use lib.Dec.{eqb}
 use lib.ListN.{length, take, length-append}
 use borrow.Author.Tests.{eq-eqb, ne_eqb, le-leb, lt-leb}
 use Rattle.text.specs.Place.{all_in}
-use Rattle.text.proofs.Logic.{true_false, not_fails, not_holds, and_four}
+use Rattle.text.proofs.Logic.{true_false, not_fails, not_holds, and_four, some_pair}
 use Rattle.rules.specs.Frame.{longest_line}
 use Rattle.rules.specs.declared.Rule.{Rule}
 use Rattle.rules.specs.declared.Rule.TheVariants.{New, Old}
@@ -54,7 +54,7 @@ module _ (ks r : List ℕ) (vs : List Value) where
   all_known {n} {m} e = go (allowed_from ks 0 0 r vs) refl
     where
       go : (b : Bool) → allowed_from ks 0 0 r vs ≡ b → (allowed_from ks 0 0 r vs ≡ true) × (n ≡ length (fields_text ks r vs)) × (m ≡ marks_from ks 0 0 r vs)
-      go true q = let z : Some (length (fields_text ks r vs), marks_from ks 0 0 r vs) ≡ Some (n, m) = rw q at e in (q, (cc), (cc))
+      go true q = let z : Some (length (fields_text ks r vs), marks_from ks 0 0 r vs) ≡ Some (n, m) = rw q at e in let s = some_pair z in (q, sym s.0, sym s.1)
       go false q = let z : None ≡ Some (n, m) = rw q at e in ((cc), (cc), (cc))
 
   all_unknown : sized_all ks r vs ≡ None → allowed_from ks 0 0 r vs ≡ false

@@ -49,8 +49,7 @@ fn put_one(kind: u8, trace: u8, v: Value, route: &[u8], out: &mut [u8]) -> Put
             end: n,
             trace: kinds::trace(kind, &out[..n]),
         },
-        Err(NotWritten::NoRoom) => Put { end: 0, trace: 0 },
-        Err(NotWritten::NoText) => Put { end: 0, trace: 0 },
+        Err(_) => Put { end: 0, trace: 0 },
     }
 }
 
@@ -80,7 +79,7 @@ fn put_body(rule: Rule, b: Body, free: &[u8], trailing: bool, out: &mut [u8])
 {
     let kind = type_in(b);
     if !has_fields(kind) {
-        put_bytes(free, out, 0);
+        let _ = put_bytes(free, out, 0);
         return;
     }
     let n = field_count(kind, marks_in(b));
@@ -97,19 +96,19 @@ fn put_new_head(sequence: u64, stamp: u64, facility: u64, kind: MessageType, out
     requires { HeadAsks New sequence stamp facility out.old }
     ensures { out.new ≡ spliced out.old 0 (head_text New sequence stamp facility kind) }
 {
-    Sequence(sequence).put(out, 0);
-    Stamp(stamp).put(&mut out[STAMP_AT..], 0);
-    Facility(facility).put(&mut out[FACILITY_AT..], 0);
-    kind.put(&mut out[TYPE_AT..], 0);
+    let _ = Sequence(sequence).put(out, 0);
+    let _ = Stamp(stamp).put(&mut out[STAMP_AT..], 0);
+    let _ = Facility(facility).put(&mut out[FACILITY_AT..], 0);
+    let _ = kind.put(&mut out[TYPE_AT..], 0);
 }
 
 fn put_old_head(sequence: u64, stamp: u64, center: u64, kind: MessageType, out: &mut [u8])
     requires { HeadAsks Old sequence stamp center out.old }
     ensures { out.new ≡ spliced out.old 0 (head_text Old sequence stamp center kind) }
 {
-    words::put(rules::OLD_STAMP, stamp, out, 0);
-    words::put(rules::LETTER, center, &mut out[OLD_CENTER_AT..], 0);
-    kind.put(&mut out[OLD_TYPE_AT..], 0);
+    let _ = words::put(rules::OLD_STAMP, stamp, out, 0);
+    let _ = words::put(rules::LETTER, center, &mut out[OLD_CENTER_AT..], 0);
+    let _ = kind.put(&mut out[OLD_TYPE_AT..], 0);
 }
 
 fn put_head(rule: Rule, sequence: u64, stamp: u64, facility: u64, kind: MessageType, out: &mut [u8])

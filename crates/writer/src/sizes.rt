@@ -17,7 +17,6 @@ use shapes::sweeps;
 use table::field::put_field;
 use table::kinds::{ROUTE, Value};
 use table::{field_count, has_fields, has_route, has_type, is_count, kinds, kinds_of};
-use text::NotWritten;
 
 fn size_text(kind: u8, trace: u8, marks: u8, s: &[u8]) -> Option<(usize, u8, u8)>
     ensures { result ≡ sized_text kind trace marks s.now }

@@ -4,8 +4,8 @@ use Rattle.rules.specs.declared.Rule.TheVariants.{Old}
 use Rattle.checks.proofs.Ways.{answer_judged}
 use Rattle.checks.proofs.judge_old.Goals as goal
 
-pub returns-in-Some : goal.returns-in-Some
-returns-in-Some c = answer_judged Old _ _ c.read_old-read.ensures.value (Ok _) c.in-Some.is c.of_body.ensures
+pub returns-in-Ok : goal.returns-in-Ok
+returns-in-Ok c = answer_judged Old _ _ c.read_old-read.ensures.value (Ok _) c.in-Ok.is c.of_body.ensures
 
 pub returns-in-Err : goal.returns-in-Err
 returns-in-Err c = answer_judged Old _ _ c.read_old-read.ensures.value (Err _) c.in-Err.is c.of_refusal.ensures

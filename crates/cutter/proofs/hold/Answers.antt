@@ -1,7 +1,6 @@
 -- `hold` meets its contract. Assumes nothing.
 use mathlib.Core.Path.{sym, ◌∙◌}
 use Rattle.cutter.proofs.Ways.{mark_more, more_full, more_held}
-use borrow.Enum.Refused.{opened}
 use Rattle.cutter.proofs.hold.Goals as goal
 
 pub returns-in_default : goal.returns-in_default
@@ -14,7 +13,7 @@ returns-in-Ok c =
     let both = more_held _ _ _ _ c.in-Held.is _ c.put_bytes-written.ensures.out_after _ (sym c.in-Ok.is ∙ c.put_bytes-written.ensures.value) in
     record { value = both.0; held_after = both.1 }
 
-pub returns-in_default-written : goal.returns-in_default-written
-returns-in_default-written c =
-    let both = more_full _ _ _ _ c.in-Held.is _ c.put_bytes-written.ensures.out_after _ c.put_bytes-written.ensures.value (opened c.in_default-written.in_default-written-own.keys2) in
+pub returns-in-Err : goal.returns-in-Err
+returns-in-Err c =
+    let both = more_full _ _ _ _ c.in-Held.is _ c.put_bytes-written.ensures.out_after (sym c.in-Err.is ∙ c.put_bytes-written.ensures.value) in
     record { value = both.0; held_after = both.1 }

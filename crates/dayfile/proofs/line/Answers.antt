@@ -1,14 +1,12 @@
 -- `line` meets its contract. Assumes nothing.
-use mathlib.Core.Path.{sym, ◌∙◌}
-use native.Mathlib.Omega.{arith}
+use mathlib.Core.Path.{sym}
 use Rattle.dayfile.specs.DayFile.{version1}
 use Rattle.dayfile.proofs.Numbered.{IsOpen, not_opened, number_0, past_last}
-use borrow.Enum.Refused.{opened}
 use Rattle.dayfile.proofs.line.Goals as goal
 
 pub returns-in_default : goal.returns-in_default
 returns-in_default c =
-    let both = not_opened _ _ _ _ c.open-told.ensures (opened c.in_default.in_default-own.keys2) in
+    let both = not_opened _ _ _ c.in_default.ensures in
     record { result_value = both.0; ref_ptr_value = both.1 }
 
 pub returns-then-number-eq0 : goal.returns-then-number-eq0
@@ -18,11 +16,6 @@ returns-then-number-eq0 c =
 
 pub returns-then-number-day : goal.returns-then-number-day
 returns-then-number-day c =
-    let is_open : IsOpen version1 c.args.file.now c.in-Ok.day = record { told = sym c.open-told.ensures ∙ c.in-Ok.is } in
+    let is_open : IsOpen version1 c.args.file.now c.in-Ok.day = record { told = sym c.in-Ok.ensures } in
     let both = past_last is_open _ c.if-number-day.true in
     record { result_value = both.0; ref_ptr_value = both.1 }
-
-pub known_line-requires : goal.known_line-requires
-known_line-requires c =
-    let is_open : IsOpen version1 c.args.file.now c.in-Ok.day = record { told = sym c.open-told.ensures ∙ c.in-Ok.is } in
-    record { file_value = is_open.told; number_nonzero = omega (arith, c.if-number-eq0.false); number_le_lines = c.if-number-day.false }

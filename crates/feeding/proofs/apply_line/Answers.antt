@@ -11,13 +11,3 @@ pub returns-in-Err : goal.returns-in-Err
 returns-in-Err c =
     let both = line_as _ _ _ _ c.apply_allowed-answer.ensures _ c.in-Err.is in
     record { value = both.0; board_after = both.1 }
-
-pub returns-in-Err : goal.returns-in-Err
-returns-in-Err c =
-    let both = line_as _ _ _ _ c.apply_allowed-answer.ensures _ c.in-Err.is in
-    record { value = both.0; board_after = both.1 }
-
-pub returns-in-Err : goal.returns-in-Err
-returns-in-Err c =
-    let both = line_as _ _ _ _ c.apply_allowed-answer.ensures _ c.in-Err.is in
-    record { value = both.0; board_after = both.1 }

@@ -8,5 +8,5 @@ returns-in-InsideLine c = torn_as _ _ c.end-end.result c.end-end.ensures.value _
 pub returns-in-AtStart : goal.returns-in-AtStart
 returns-in-AtStart c = torn_as _ _ c.end-end.result c.end-end.ensures.value _ c.in-AtStart.is
 
-pub returns-in-Err : goal.returns-in-Err
-returns-in-Err c = torn_as _ _ c.end-end.result c.end-end.ensures.value _ c.in-Err.is
+pub returns-in-NotAllowed : goal.returns-in-NotAllowed
+returns-in-NotAllowed c = torn_as _ _ c.end-end.result c.end-end.ensures.value _ c.in-NotAllowed.is

@@ -5,10 +5,10 @@ use Rattle.line.specs.Read.{newly, read_of}
 use Rattle.line.proofs.Cases.{told}
 use Rattle.line.proofs.read.Goals as goal
 
-pub returns-in-Some : goal.returns-in-Some
+pub returns-in-Ok : goal.returns-in-Ok
 unfolding read_of
-returns-in-Some c =
-    let both = told New _ (ap newly (sym c.in-Some.is ∙ c.read_by-read.ensures)) in
+returns-in-Ok c =
+    let both = told New _ (ap newly (sym c.in-Ok.is ∙ c.read_by-read.ensures)) in
     record { value = both.0; case = both.1 }
 
 pub returns-in-Err : goal.returns-in-Err

@@ -5,10 +5,10 @@ use Rattle.line.specs.Read.{oldly, old_read_of}
 use Rattle.line.proofs.Cases.{told}
 use Rattle.line.proofs.read_old.Goals as goal
 
-pub returns-in-Some : goal.returns-in-Some
+pub returns-in-Ok : goal.returns-in-Ok
 unfolding old_read_of
-returns-in-Some c =
-    let both = told Old _ (ap oldly (sym c.in-Some.is ∙ c.read_by-read.ensures)) in
+returns-in-Ok c =
+    let both = told Old _ (ap oldly (sym c.in-Ok.is ∙ c.read_by-read.ensures)) in
     record { value = both.0; case = both.1 }
 
 pub returns-in-Err : goal.returns-in-Err

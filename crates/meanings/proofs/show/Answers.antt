@@ -1,7 +1,7 @@
 -- `meanings::show` meets its contract: twelve bytes have room for every text. Assumes nothing.
 use mathlib.Core.Path.{sym, ◌∙◌}
 use native.Mathlib.Omega.{arith}
-use Rattle.text.proofs.Laws.{shown_packed, shown_size, shown_text, text_short, twelve_room, no_text_known}
+use Rattle.text.proofs.Laws.{shown_packed, shown_size, shown_text, text_short, twelve_unwritten}
 use Rattle.meanings.specs.Meaning.{shown_of}
 use Rattle.meanings.proofs.show.Goals as goal
 
@@ -18,12 +18,6 @@ returns-in-Ok c =
     }
 
 pub returns-in-Err : goal.returns-in-Err
-returns-in-Err c =
-    record {
-      upper_bound = absurd (twelve_room _ _ c.put-arg-1.given.0.1 (sym c.put-written.ensures.value ∙ c.in-Err.is));
-      room_after = absurd (twelve_room _ _ c.put-arg-1.given.0.1 (sym c.put-written.ensures.value ∙ c.in-Err.is));
-    }
-
-pub returns-in-Err : goal.returns-in-Err
 unfolding shown_of
-returns-in-Err c = record { upper_bound = omega arith; room_after = rw (no_text_known _ _ _ (sym c.put-written.ensures.value ∙ c.in-Err.is)) }
+returns-in-Err c =
+    record { upper_bound = omega arith; room_after = rw (twelve_unwritten _ _ _ c.put-arg-1.given.0.1 (sym c.put-written.ensures.value ∙ c.in-Err.is)) }

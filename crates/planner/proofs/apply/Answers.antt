@@ -6,9 +6,9 @@ use Rattle.planner.proofs.Cases.{in_apply_case}
 use borrow.Enum.Refused.{opened}
 use Rattle.planner.proofs.apply.Goals as goal
 
-pub returns-in-Err : goal.returns-in-Err
-returns-in-Err c =
-    let both = in_apply_case _ _ (apply_refused _ _ _ _ c.read-asked.ensures c.in-Err.is) in
+pub returns-in-Refused : goal.returns-in-Refused
+returns-in-Refused c =
+    let both = in_apply_case _ _ (apply_refused _ _ _ _ c.read-asked.ensures c.in-Refused.is) in
     record { value = both.0; board_after = both.1.0; apply_case = both.1.1 }
 
 pub returns-then-not-is_allowed : goal.returns-then-not-is_allowed

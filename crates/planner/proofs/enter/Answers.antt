@@ -29,5 +29,5 @@ returns-in-Tz c = entered_as _ _ _ _ _ c.in-Tz.is c.put_tz.ensures
 pub returns-in-Other : goal.returns-in-Other
 returns-in-Other c = entered_as _ _ _ _ _ c.in-Other.is (other_entered _ c.requires.board_value)
 
-pub returns-in-Err : goal.returns-in-Err
-returns-in-Err c = entered_as _ _ _ _ _ c.in-Err.is (refused_entered _ c.requires.board_value _)
+pub returns-in-Refused : goal.returns-in-Refused
+returns-in-Refused c = entered_as _ _ _ _ _ c.in-Refused.is (refused_entered _ c.requires.board_value _)

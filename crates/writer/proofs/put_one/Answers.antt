@@ -1,12 +1,11 @@
 -- `writer::put_one` meets its contract: there is a text, and room for it. Assumes nothing.
 use Rattle.std.specs.Prelude.{Ok}
 use mathlib.Core.Path.{◌≡◌, sym, ap, ◌∙◌}
-use native.Mathlib.Omega.{arith}
 use Rattle.text.specs.Text.{written_next}
 use Rattle.text.proofs.Logic.{true_false}
-use Rattle.text.proofs.Laws.{no_room_known, no_text_known}
 use Rattle.table.specs.Field.{trace_of, is_value, shown}
 use Rattle.text.proofs.Wrote.{next_size, next_bytes, next_inside, next_part, next_text}
+use Rattle.writer.proofs.FieldSizes.{unwritten}
 use Rattle.writer.proofs.put_one.Goals as goal
 
 pub slice_bounds-trace-end : goal.slice_bounds-trace-end
@@ -31,16 +30,9 @@ returns-in-Ok c =
 
 pub returns-in-Err : goal.returns-in-Err
 returns-in-Err c =
+    let none = unwritten _ _ _ (λ q. c.requires.room) (sym c.put_field-written.ensures.value ∙ c.in-Err.is) in
     record {
-      end_value = absurd (omega (arith, (no_room_known _ _ _ (sym c.put_field-written.ensures.value ∙ c.in-Err.is)).1, c.requires.room));
-      trace_value = absurd (omega (arith, (no_room_known _ _ _ (sym c.put_field-written.ensures.value ∙ c.in-Err.is)).1, c.requires.room));
-      out_after = absurd (omega (arith, (no_room_known _ _ _ (sym c.put_field-written.ensures.value ∙ c.in-Err.is)).1, c.requires.room));
-    }
-
-pub returns-in-Err : goal.returns-in-Err
-returns-in-Err c =
-    record {
-      end_value = true_false c.requires.good (no_text_known _ _ _ (sym c.put_field-written.ensures.value ∙ c.in-Err.is));
-      trace_value = true_false c.requires.good (no_text_known _ _ _ (sym c.put_field-written.ensures.value ∙ c.in-Err.is));
-      out_after = true_false c.requires.good (no_text_known _ _ _ (sym c.put_field-written.ensures.value ∙ c.in-Err.is));
+      end_value = true_false c.requires.good none;
+      trace_value = true_false c.requires.good none;
+      out_after = true_false c.requires.good none;
     }

@@ -12,32 +12,32 @@ use Rattle.board.proofs.listing.look.Goals as goal
 pub overflow_mul-i : goal.overflow_mul-i
 overflow_mul-i c =
     let l : List ℕ = c.args.board.now in
-    let i : ℕ = c.in-Some.i in
-    let e = at_back (find_in (rows_of l) c.args.key.0) i c.find-found.ensures c.in-Some.is in
+    let i : ℕ = c.in-At.i in
+    let e = at_back (find_in (rows_of l) c.args.key.0) i c.find-found.ensures c.in-At.is in
     let p = parts l c.requires in
     omega (arith, at_below l c.args.key.0 i e, p.size, p.count, cap_is)
 
 pub overflow_add-i : goal.overflow_add-i
 overflow_add-i c =
     let l : List ℕ = c.args.board.now in
-    let i : ℕ = c.in-Some.i in
-    let e = at_back (find_in (rows_of l) c.args.key.0) i c.find-found.ensures c.in-Some.is in
+    let i : ℕ = c.in-At.i in
+    let e = at_back (find_in (rows_of l) c.args.key.0) i c.find-found.ensures c.in-At.is in
     let p = parts l c.requires in
     omega (arith, at_below l c.args.key.0 i e, p.size, p.count, cap_is)
 
 pub row_at-requires : goal.row_at-requires
 row_at-requires c =
     let l : List ℕ = c.args.board.now in
-    let i : ℕ = c.in-Some.i in
-    let e = at_back (find_in (rows_of l) c.args.key.0) i c.find-found.ensures c.in-Some.is in
+    let i : ℕ = c.in-At.i in
+    let e = at_back (find_in (rows_of l) c.args.key.0) i c.find-found.ensures c.in-At.is in
     let p = parts l c.requires in
     omega (arith, at_below l c.args.key.0 i e, p.size, p.count, cap_is)
 
-pub returns-in-Some : goal.returns-in-Some
-returns-in-Some c =
+pub returns-in-At : goal.returns-in-At
+returns-in-At c =
     let l : List ℕ = c.args.board.now in
-    let i : ℕ = c.in-Some.i in
-    let e = at_back (find_in (rows_of l) c.args.key.0) i c.find-found.ensures c.in-Some.is in
+    let i : ℕ = c.in-At.i in
+    let e = at_back (find_in (rows_of l) c.args.key.0) i c.find-found.ensures c.in-At.is in
     c.row_at.ensures ∙ look_at l c.args.key.0 i e
 
 pub returns-in-Gap : goal.returns-in-Gap

@@ -17,26 +17,26 @@ bounds-board-0 c = omega (arith, (parts _ c.requires).size)
 pub close_gap-requires : goal.close_gap-requires
 close_gap-requires c =
     let l : List ℕ = c.args.board.now in
-    let i : ℕ = c.in-Some.i in
-    let e = at_back (find_in (rows_of l) c.args.key.0) i c.find-found.ensures c.in-Some.is in
+    let i : ℕ = c.in-At.i in
+    let e = at_back (find_in (rows_of l) c.args.key.0) i c.find-found.ensures c.in-At.is in
     let p = parts l c.requires in
     (at_below l c.args.key.0 i e, omega (arith, p.size, p.count))
 
 pub overflow_sub-board : goal.overflow_sub-board
 overflow_sub-board c =
     let l : List ℕ = c.args.board.now in
-    let i : ℕ = c.in-Some.i in
-    let e = at_back (find_in (rows_of l) c.args.key.0) i c.find-found.ensures c.in-Some.is in
+    let i : ℕ = c.in-At.i in
+    let e = at_back (find_in (rows_of l) c.args.key.0) i c.find-found.ensures c.in-At.is in
     omega (arith, at_below l c.args.key.0 i e)
 
-pub bounds-board-0-in-Some : goal.bounds-board-0-in-Some
-bounds-board-0-in-Some c = omega (arith, (parts _ c.requires).size, c.close_gap.auto.board)
+pub bounds-board-0-in-At : goal.bounds-board-0-in-At
+bounds-board-0-in-At c = omega (arith, (parts _ c.requires).size, c.close_gap.auto.board)
 
-pub returns-in-Some : goal.returns-in-Some
-returns-in-Some c =
+pub returns-in-At : goal.returns-in-At
+returns-in-At c =
     let l : List ℕ = c.args.board.now in
-    let i : ℕ = c.in-Some.i in
-    let e = at_back (find_in (rows_of l) c.args.key.0) i c.find-found.ensures c.in-Some.is in
+    let i : ℕ = c.in-At.i in
+    let e = at_back (find_in (rows_of l) c.args.key.0) i c.find-found.ensures c.in-At.is in
     subst (Stricken l c.args.key.0 _) (ap (λ (x : List ℕ). set x 0 (get_or l 0 0 - 1)) (sym c.close_gap.ensures))
     (strike_at l c.requires c.args.key.0 i e)
 

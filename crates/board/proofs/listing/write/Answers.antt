@@ -16,24 +16,24 @@ use Rattle.board.proofs.listing.write.Goals as goal
 pub overflow_mul-i : goal.overflow_mul-i
 overflow_mul-i c =
     let l : List ℕ = c.args.board.now in
-    let i : ℕ = c.in-Some.i in
-    let e = at_back (find_in (rows_of l) c.args.row.key.0) i c.find-found.ensures c.in-Some.is in
+    let i : ℕ = c.in-At.i in
+    let e = at_back (find_in (rows_of l) c.args.row.key.0) i c.find-found.ensures c.in-At.is in
     let p = parts l c.requires.0 in
     omega (arith, at_below l c.args.row.key.0 i e, p.size, p.count, cap_is)
 
 pub overflow_add-i : goal.overflow_add-i
 overflow_add-i c =
     let l : List ℕ = c.args.board.now in
-    let i : ℕ = c.in-Some.i in
-    let e = at_back (find_in (rows_of l) c.args.row.key.0) i c.find-found.ensures c.in-Some.is in
+    let i : ℕ = c.in-At.i in
+    let e = at_back (find_in (rows_of l) c.args.row.key.0) i c.find-found.ensures c.in-At.is in
     let p = parts l c.requires.0 in
     omega (arith, at_below l c.args.row.key.0 i e, p.size, p.count, cap_is)
 
 pub put_row-requires : goal.put_row-requires
 put_row-requires c =
     let l : List ℕ = c.args.board.now in
-    let i : ℕ = c.in-Some.i in
-    let e = at_back (find_in (rows_of l) c.args.row.key.0) i c.find-found.ensures c.in-Some.is in
+    let i : ℕ = c.in-At.i in
+    let e = at_back (find_in (rows_of l) c.args.row.key.0) i c.find-found.ensures c.in-At.is in
     let p = parts l c.requires.0 in
     omega (arith, at_below l c.args.row.key.0 i e, p.size, p.count)
 
@@ -78,11 +78,11 @@ put_row-requires-in-Gap c =
 pub bounds-board-0-in-Gap : goal.bounds-board-0-in-Gap
 bounds-board-0-in-Gap c = omega (arith, (parts _ c.requires.0).size, c.put_row-in-Gap.auto.words, c.open_gap.auto.board)
 
-pub returns-in-Some : goal.returns-in-Some
-returns-in-Some c =
+pub returns-in-At : goal.returns-in-At
+returns-in-At c =
     let l : List ℕ = c.args.board.now in
-    let i : ℕ = c.in-Some.i in
-    let e = at_back (find_in (rows_of l) c.args.row.key.0) i c.find-found.ensures c.in-Some.is in
+    let i : ℕ = c.in-At.i in
+    let e = at_back (find_in (rows_of l) c.args.row.key.0) i c.find-found.ensures c.in-At.is in
     subst (Wrote l c.args.row _) (sym c.put_row.ensures) (write_at l c.requires.0 c.args.row c.requires.1 i e)
 
 pub shape_of-board-else-n-ge256 : goal.shape_of-board-else-n-ge256

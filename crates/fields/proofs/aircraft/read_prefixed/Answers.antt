@@ -11,8 +11,8 @@ returns-then-i-s c = no_prefix _ _ c.find-i.ensures c.if-i-s.true
 pub slice_bounds-read-end : goal.slice_bounds-read-end
 slice_bounds-read-end c = sym (length-take-le _ _ (le_of_lt c.if-i-s.false))
 
-pub returns-in_default : goal.returns-in_default
-returns-in_default c = bad_prefix _ _ c.find-i.ensures c.if-i-s.false (sym c.read.ensures ∙ c.in_default.is)
+pub returns-in_err-prefix : goal.returns-in_err-prefix
+returns-in_err-prefix c = c.from_residual.ensures ∙ bad_prefix _ _ c.find-i.ensures c.if-i-s.false (sym c.in_err-prefix.ensures)
 
 pub returns : goal.returns
-returns c = c.read_after.ensures ∙ with_prefix_lem _ _ c.find-i.ensures c.if-i-s.false (sym c.read.ensures ∙ c.in-Some.is)
+returns c = c.read_after.ensures ∙ with_prefix_lem _ _ c.find-i.ensures c.if-i-s.false (sym c.in_ok-prefix.ensures)

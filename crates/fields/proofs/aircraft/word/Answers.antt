@@ -1,18 +1,17 @@
 -- `fields::aircraft::word` meets its contract. Assumes nothing.
-use mathlib.Core.Path.{sym, ap, ◌∙◌}
+use mathlib.Core.Path.{ap, ◌∙◌}
 use borrow.Author.Tests.{eq-eqb, ne_eqb}
 use Rattle.fields.specs.Aircraft.{after_prefix, aircraft_word}
 use Rattle.fields.proofs.aircraft.word.Goals as goal
 
-pub returns-in_default : goal.returns-in_default
+pub returns-in_err-tail : goal.returns-in_err-tail
 unfolding aircraft_word
-returns-in_default c = ap (after_prefix _) (sym c.in_default.is ∙ c.pair_word.ensures)
+returns-in_err-tail c = c.from_residual.ensures ∙ ap (after_prefix _) c.in_err-tail.ensures
 
 pub returns-then-a-eq0 : goal.returns-then-a-eq0
 unfolding aircraft_word
-returns-then-a-eq0 c = (rw (eq-eqb _ _ c.if-a-eq0.true)) ∙ ap (after_prefix _) (sym c.in-Some.is ∙ c.pair_word.ensures)
+returns-then-a-eq0 c = (rw (eq-eqb _ _ c.if-a-eq0.true)) ∙ ap (after_prefix _) c.in_ok-tail.ensures
 
 pub returns : goal.returns
 unfolding aircraft_word
-returns c =
-    c.join.ensures ∙ (rw (ne_eqb _ _ c.if-a-eq0.false)) ∙ ap (after_prefix _) (sym c.in-Some.is ∙ c.pair_word.ensures)
+returns c = c.join.ensures ∙ (rw (ne_eqb _ _ c.if-a-eq0.false)) ∙ ap (after_prefix _) c.in_ok-tail.ensures

@@ -2,7 +2,7 @@
 use mathlib.Core.Path.{refl, sym, ◌∙◌}
 use native.Mathlib.Omega.{arith}
 use lib.Seq.{length-take-le}
-use Rattle.text.proofs.Laws.{shown_packed, shown_size, shown_text, text_short, twelve_room, no_text_known}
+use Rattle.text.proofs.Laws.{shown_packed, shown_size, shown_text, text_short, twelve_unwritten}
 use Rattle.fields.specs.Word.{is_word}
 use Rattle.fields.proofs.words.holds.Goals as goal
 
@@ -26,8 +26,5 @@ returns-in-Ok c =
     c.is_form.ensures ∙ rw (shown_text _ _ _ _ refl told p.ensures.out_after, shown_packed _ _ _ _ refl told p.ensures.out_after)
 
 pub returns-in-Err : goal.returns-in-Err
-returns-in-Err c = absurd (twelve_room _ _ refl (sym c.put-written.ensures.value ∙ c.in-Err.is))
-
-pub returns-in-Err : goal.returns-in-Err
 unfolding is_word
-returns-in-Err c = rw (no_text_known _ _ _ (sym c.put-written.ensures.value ∙ c.in-Err.is))
+returns-in-Err c = rw (twelve_unwritten _ _ _ refl (sym c.put-written.ensures.value ∙ c.in-Err.is))

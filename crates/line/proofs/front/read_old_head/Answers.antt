@@ -21,4 +21,4 @@ pub returns : goal.returns
 returns c =
     let x = word_known OLD_STAMP _ (sym c.read.ensures ∙ c.in-Some.is) in
     let y = word_known LETTER _ (sym c.read-2.ensures ∙ c.in-Some-read.is) in
-    all_read Old _ refl x.0 y.0 refl x.1 y.1 _ (sym c.kind_of.ensures ∙ c.in-Some.is)
+    all_read Old _ refl x.0 y.0 refl x.1 y.1 _ (sym c.kind_of.ensures ∙ c.in-Some-kind_of.is)

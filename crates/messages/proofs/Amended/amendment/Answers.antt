@@ -26,5 +26,5 @@ returns-in-Requested c = c.held-in-Requested.ensures ∙ rw c.in-Requested.is
 pub returns-in-Route : goal.returns-in-Route
 returns-in-Route c = c.held-in-Route.ensures ∙ rw c.in-Route.is
 
-pub returns-in-None : goal.returns-in-None
-returns-in-None c = c.held-in-None.ensures ∙ rw c.in-None.is
+pub returns-in-Nothing : goal.returns-in-Nothing
+returns-in-Nothing c = c.held-in-Nothing.ensures ∙ rw c.in-Nothing.is

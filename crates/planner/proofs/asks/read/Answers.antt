@@ -3,8 +3,8 @@ use mathlib.Core.Path.{sym, ◌∙◌}
 use Rattle.planner.proofs.AskWays.{asks_as}
 use Rattle.planner.proofs.asks.read.Goals as goal
 
-pub returns-in-Some : goal.returns-in-Some
-returns-in-Some c = c.ask.ensures ∙ asks_as _ _ (sym c.in-Some.is ∙ c.read-read.ensures.value)
+pub returns-in-Ok : goal.returns-in-Ok
+returns-in-Ok c = c.ask.ensures ∙ asks_as _ _ (sym c.in-Ok.is ∙ c.read-read.ensures.value)
 
 pub returns-in-Err : goal.returns-in-Err
 returns-in-Err c = asks_as _ _ (sym c.in-Err.is ∙ c.read-read.ensures.value)

@@ -2,7 +2,7 @@
 use mathlib.Core.Path.{sym, ap, ◌∙◌}
 use native.Mathlib.Omega.{arith}
 use lib.ListN.{length}
-use Rattle.printer.proofs.Lines.{part_none, put_none, put_some, put_roomy, put_text}
+use Rattle.printer.proofs.Lines.{part_none, put_none, put_some, put_never}
 use Rattle.printer.proofs.slips.put_text.Goals as goal
 
 pub bounds-out-at : goal.bounds-out-at
@@ -19,7 +19,4 @@ returns-in-Ok c =
     record { value = both.0; out_after = both.1 }
 
 pub returns-in-Err : goal.returns-in-Err
-returns-in-Err c = put_roomy _ _ _ c.requires.0 c.requires.1 c.if-word-eq0.false (sym c.put-written.ensures.value ∙ c.in-Err.is)
-
-pub returns-in-Err : goal.returns-in-Err
-returns-in-Err c = put_text _ _ _ c.requires.0 c.requires.1 c.if-word-eq0.false (sym c.put-written.ensures.value ∙ c.in-Err.is)
+returns-in-Err c = put_never _ _ _ c.requires.0 c.requires.1 c.if-word-eq0.false _ (sym c.put-written.ensures.value ∙ c.in-Err.is)

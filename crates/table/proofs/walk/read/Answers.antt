@@ -10,17 +10,14 @@ use native.Mathlib.Omega.{arith}
 use lib.ListN.{length, take, drop, get_or, set, replicate, drop_of_length-le}
 use lib.Seq.{sets}
 use denote.Enum.Declared.{tag_of}
-use types.Run.{OneOf}
 use Rattle.shapes.proofs.Laws.{next_byte}
 use Rattle.table.specs.Spacing.{end_of}
 use Rattle.table.proofs.SpacingLaws.{end_from, end_le}
 use Rattle.table.specs.Field.{read_in, trace_of, marks_of}
 use Rattle.table.specs.declared.kinds.Value.{Value}
-use Rattle.table.specs.contracts.kinds.FieldRead.{the_type}
 use Rattle.table.specs.Read.{none, padded, values_from, fault_at, answer_from, answer_of, values_of, Ready}
 use Rattle.table.specs.declared.walk.Fault.{Fault}
 use Rattle.table.proofs.WalkWays.{fields_on, at_start_lem, fields, goes, inside, at_next, answer_done, values_done, answer_read, values_read, answer_stop, values_stop, values_few, sets_padded, read_ready}
-use borrow.Enum.Refused.{opened}
 use Rattle.table.proofs.walk.read.Invariants.{Inv}
 use Rattle.table.proofs.walk.read.Goals as goal
 use Rattle.table.specs.declared.kinds.NotRead.{NotRead}
@@ -61,13 +58,13 @@ module _ {ks body : List ℕ} {t : Bool} {values : List Value} {at k p m : ℕ} 
       is_read : read_in (get_or ks k 0) p m (get_or (fields_on body) k []) ≡ x
       is_read = rw is_field at (sym reads)
 
-      stops : (r : Fault) → OneOf (1 ∷ 2 ∷ []) (tag_of the_type x) → r ≡ fault_at (k + 1) x → Filled ks body t (Err r) values
-      stops r h g =
+      stops : (y : NotRead) (r : Fault) → x ≡ Err y → r ≡ fault_at (k + 1) (Err y) → Filled ks body t (Err r) values
+      stops y r h g =
           let f = get_or (fields_on body) k [] in
-          let s = values_stop (get_or ks k 0) (drop (k + 1) ks) p m f (drop (k + 1) (fields_on body)) x is_read h in
-          let a = answer_stop (get_or ks k 0) (drop (k + 1) ks) p m f (drop (k + 1) (fields_on body)) x is_read h (k + 1) t in
+          let s = values_stop (get_or ks k 0) (drop (k + 1) ks) p m f (drop (k + 1) (fields_on body)) y (is_read ∙ h) in
+          let a = answer_stop (get_or ks k 0) (drop (k + 1) ks) p m f (drop (k + 1) (fields_on body)) y (is_read ∙ h) (k + 1) t in
           let w : values_from (drop k ks) p m (drop k (fields_on body)) ≡ [] = rw (next_byte ks k, fields v.walk field_left) s in
-          let z : Err (fault_at (k + 1) x) ≡ answer_from (k + 1) t (drop k ks) p m (drop k (fields_on body)) = rw (next_byte ks k, fields v.walk field_left) a in
+          let z : Err (fault_at (k + 1) (Err y)) ≡ answer_from (k + 1) t (drop k ks) p m (drop k (fields_on body)) = rw (next_byte ks k, fields v.walk field_left) a in
           (ap Err g ∙ z ∙ v.told, rw w at v.made)
 
       again : (y : Value) (p' m' : ℕ) → x ≡ Ok y
@@ -110,9 +107,9 @@ slice_bounds-read_field-start c =
 pub slice_bounds-read_field-end : goal.slice_bounds-read_field-end
 slice_bounds-read_field-end c = rw c.field_end-e.ensures (end_le _ _ (within c.loop-k.invariant c.loop-k-test.true))
 
-pub returns-in_default : goal.returns-in_default
-returns-in_default c =
-    let both = stops c.loop-k.invariant c.loop-k-test.true c.field_end-e.result c.field_end-e.ensures c.read_field-read.result c.read_field-read.ensures c.as_fault.result (opened c.in_default.in_default-own.keys2) c.as_fault.ensures in
+pub returns-in-Err : goal.returns-in-Err
+returns-in-Err c =
+    let both = stops c.loop-k.invariant c.loop-k-test.true c.field_end-e.result c.field_end-e.ensures c.read_field.result c.read_field.ensures _ c.as_fault.result c.in-Err.is c.as_fault.ensures in
     record { answer_value = both.0; values_value = both.1 }
 
 pub slice_bounds-marks_after-count : goal.slice_bounds-marks_after-count
@@ -143,7 +140,7 @@ slice_bounds-trace-end c = rw c.field_end-e.ensures (end_le _ _ (within c.loop-k
 
 pub loop-k-preserved : goal.loop-k-preserved
 loop-k-preserved c =
-    again c.loop-k.invariant c.loop-k-test.true c.field_end-e.result c.field_end-e.ensures c.read_field-read.result c.read_field-read.ensures _ _ _ c.in-Some.is c.trace-trace.ensures c.marks_after-marks.ensures
+    again c.loop-k.invariant c.loop-k-test.true c.field_end-e.result c.field_end-e.ensures c.read_field.result c.read_field.ensures _ _ _ c.in-Ok.is c.trace-trace.ensures c.marks_after-marks.ensures
 
 pub returns : goal.returns
 returns c =

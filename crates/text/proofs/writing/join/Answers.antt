@@ -3,8 +3,7 @@
 use mathlib.Core.Path.{refl, sym, ◌∙◌}
 use native.Mathlib.Omega.{arith}
 use lib.Seq.{length-take-le}
-use Rattle.text.proofs.Laws.{no_text_known, twelve_room}
-use Rattle.text.proofs.Joined.{join_first, join_full, join_no_text, join_no_room, sized, join_end, join_both}
+use Rattle.text.proofs.Joined.{join_unwritten, join_full, join_unfinished, sized, join_end, join_both}
 use Rattle.text.proofs.writing.join.Goals as goal
 
 pub returns-then-n-ge12 : goal.returns-then-n-ge12
@@ -20,18 +19,11 @@ slice_bounds-pack-end c =
     sym (length-take-le _ _ (omega (arith, join_end _ _ _ _ _ refl (sym c.put-first.ensures.value ∙ c.in-Ok.is) c.put-first.ensures.out_after c.if-n-ge12.false _ _ (sym c.put-second.ensures.value ∙ c.in-Ok-second.is) c.put-second.ensures.out_after)))
 
 pub returns-in-Err : goal.returns-in-Err
-returns-in-Err c = join_first _ _ (no_text_known _ _ _ (sym c.put-first.ensures.value ∙ c.in-Err.is))
-
-pub returns-in-Err : goal.returns-in-Err
-returns-in-Err c = absurd (twelve_room _ _ refl (sym c.put-first.ensures.value ∙ c.in-Err.is))
+returns-in-Err c = join_unwritten _ _ _ refl _ (sym c.put-first.ensures.value ∙ c.in-Err.is)
 
 pub returns-in-Err-second : goal.returns-in-Err-second
 returns-in-Err-second c =
-    join_no_text _ _ _ _ _ refl (sym c.put-first.ensures.value ∙ c.in-Ok.is) c.put-first.ensures.out_after c.if-n-ge12.false (sym c.put-second.ensures.value ∙ c.in-Err-second.is)
-
-pub returns-in-Err-second : goal.returns-in-Err-second
-returns-in-Err-second c =
-    join_no_room _ _ _ _ _ refl (sym c.put-first.ensures.value ∙ c.in-Ok.is) c.put-first.ensures.out_after c.if-n-ge12.false (sym c.put-second.ensures.value ∙ c.in-Err-second.is)
+    join_unfinished _ _ _ _ _ refl (sym c.put-first.ensures.value ∙ c.in-Ok.is) c.put-first.ensures.out_after c.if-n-ge12.false _ (sym c.put-second.ensures.value ∙ c.in-Err-second.is)
 
 pub returns-in-Ok-second : goal.returns-in-Ok-second
 returns-in-Ok-second c =

@@ -51,22 +51,22 @@ loop-k-init c =
 pub bounds-values-k : goal.bounds-values-k
 bounds-values-k c = omega (arith, c.loop-k.invariant.asks.few)
 
-pub returns-in_default : goal.returns-in_default
-returns-in_default c = stops c.loop-k.invariant c.loop-k-test.true (sym c.size_field.ensures ∙ c.in_default.is)
+pub returns-in_err-n : goal.returns-in_err-n
+returns-in_err-n c = c.from_residual.ensures ∙ stops c.loop-k.invariant c.loop-k-test.true (sym c.in_err-n.ensures)
 
 pub overflow_add-size : goal.overflow_add-size
 overflow_add-size c =
-    let turns : let a = c.args in let s = c.in-Some in Inv a.kinds.now a.route.now a.values (c.loop-k.size + (s.n + 1)) (c.loop-k.k + 1) s.next s.after = again c.loop-k.invariant c.loop-k-test.true _ _ _ (sym c.size_field.ensures ∙ c.in-Some.is) in
+    let turns = again c.loop-k.invariant c.loop-k-test.true _ _ _ (sym c.in_ok-n.ensures) in
     omega (arith, turns.few, turns.place, turns.asks.few)
 
 pub overflow_add-size-in-loop-k : goal.overflow_add-size-in-loop-k
 overflow_add-size-in-loop-k c =
-    let turns : let a = c.args in let s = c.in-Some in Inv a.kinds.now a.route.now a.values (c.loop-k.size + (s.n + 1)) (c.loop-k.k + 1) s.next s.after = again c.loop-k.invariant c.loop-k-test.true _ _ _ (sym c.size_field.ensures ∙ c.in-Some.is) in
+    let turns = again c.loop-k.invariant c.loop-k-test.true _ _ _ (sym c.in_ok-n.ensures) in
     omega (arith, turns.few, turns.place, turns.asks.few)
 
 pub loop-k-preserved : goal.loop-k-preserved
 loop-k-preserved c =
-    again c.loop-k.invariant c.loop-k-test.true _ _ _ (sym c.size_field.ensures ∙ c.in-Some.is)
+    again c.loop-k.invariant c.loop-k-test.true _ _ _ (sym c.in_ok-n.ensures)
 
 pub returns : goal.returns
 returns c = done c.loop-k.invariant c.loop-k-test.false

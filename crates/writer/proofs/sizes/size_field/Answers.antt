@@ -3,9 +3,9 @@ use mathlib.Core.Path.{sym, ◌∙◌}
 use native.Mathlib.Omega.{arith}
 use lib.Seq.{length-take-le}
 use borrow.Author.Tests.{ne_eqb}
-use Rattle.text.proofs.Laws.{next_known, no_room_known, no_text_known}
+use Rattle.text.proofs.Laws.{next_known}
 use Rattle.table.proofs.FieldLaws.{shown_short}
-use Rattle.writer.proofs.FieldSizes.{field_not, field_is}
+use Rattle.writer.proofs.FieldSizes.{unwritten, field_not, field_is}
 use Rattle.text.proofs.Wrote.{next_text}
 use Rattle.writer.proofs.sizes.size_field.Goals as goal
 
@@ -29,8 +29,4 @@ returns-in-Ok c =
 
 pub returns-in-Err : goal.returns-in-Err
 returns-in-Err c =
-    let k = no_room_known _ _ _ (sym c.put_field-written.ensures.value ∙ c.in-Err.is) in
-    absurd (omega (arith, k.1, shown_short _ _ _ _ k.0 (rw (← c.plain.ensures) (ne_eqb _ _ c.if-plain-eq-ROUTE.false))))
-
-pub returns-in-Err : goal.returns-in-Err
-returns-in-Err c = field_not _ _ _ _ _ (no_text_known _ _ _ (sym c.put_field-written.ensures.value ∙ c.in-Err.is))
+    field_not _ _ _ _ _ (unwritten _ _ _ (λ q. shown_short _ _ _ _ q (rw (← c.plain.ensures) (ne_eqb _ _ c.if-plain-eq-ROUTE.false))) (sym c.put_field-written.ensures.value ∙ c.in-Err.is))

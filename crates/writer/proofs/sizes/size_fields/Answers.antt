@@ -7,9 +7,8 @@ use lib.ListN.{length}
 use borrow.Author.Tests.{eq-eqb, ne_eqb}
 use Rattle.text.proofs.Logic.{so, not_so}
 use Rattle.table.specs.Table.{is_count}
-use Rattle.messages.specs.Body.{type_in, field_count, values_in, spare, marks_in}
-use Rattle.messages.specs.Allowed.{has_route, all_none, kinds_in}
-use Rattle.writer.specs.Size.{sized_all}
+use Rattle.messages.specs.Body.{type_in, field_count, spare, marks_in}
+use Rattle.messages.specs.Allowed.{has_route, all_none}
 use Rattle.writer.proofs.LineSizes.{count_of, route_of_lem, Has, has_few, has_length, has_asks, has_sized, not_count, not_free, not_none, not_allowed, not_marks, fields_are}
 use Rattle.writer.proofs.sizes.size_fields.Goals as goal
 use Rattle.writer.proofs.sizes.size_fields.Goals.{then-not-has_route+else-free-ne0, else-not-has_route}
@@ -50,20 +49,18 @@ size_all-requires c =
     let has : Has c.args.rule c.args.b c.type_in-kind.result c.field_count-n.result c.kinds_of-kinds.result c.values_in-values.result = record { type = c.type_in-kind.ensures; count = found; kinds = c.kinds_of-kinds.ensures; values = c.values_in-values.ensures; right = so c.is_count.ensures c.if-not-is_count.false-raw } in
     has_asks has _ c.requires
 
-pub returns-in_default : goal.returns-in_default
-returns-in_default c =
+pub returns-in_err-size : goal.returns-in_err-size
+returns-in_err-size c =
     let found : c.field_count-n.result ≡ field_count c.args.b = count_of _ c.type_in-kind.ensures c.marks_in-marks.ensures c.field_count-n.ensures in
     let has : Has c.args.rule c.args.b c.type_in-kind.result c.field_count-n.result c.kinds_of-kinds.result c.values_in-values.result = record { type = c.type_in-kind.ensures; count = found; kinds = c.kinds_of-kinds.ensures; values = c.values_in-values.ensures; right = so c.is_count.ensures c.if-not-is_count.false-raw } in
-    let told : let a = c.args in c.size_all.result ≡ sized_all (kinds_in a.rule a.b) a.free.now (values_in a.b) = c.size_all.ensures ∙ has_sized has _ in
-    not_allowed _ _ _ (sym told ∙ c.in_default.is)
+    c.from_residual.ensures ∙ not_allowed _ _ _ (sym (c.in_err-size.ensures ∙ has_sized has _))
 
 pub returns-then-set-marks : goal.returns-then-set-marks
 returns-then-set-marks c =
     let found : c.field_count-n.result ≡ field_count c.args.b = count_of _ c.type_in-kind.ensures c.marks_in-marks.ensures c.field_count-n.ensures in
     let has : Has c.args.rule c.args.b c.type_in-kind.result c.field_count-n.result c.kinds_of-kinds.result c.values_in-values.result = record { type = c.type_in-kind.ensures; count = found; kinds = c.kinds_of-kinds.ensures; values = c.values_in-values.ensures; right = so c.is_count.ensures c.if-not-is_count.false-raw } in
-    let told : let a = c.args in c.size_all.result ≡ sized_all (kinds_in a.rule a.b) a.free.now (values_in a.b) = c.size_all.ensures ∙ has_sized has _ in
     let kept : c.marks_in-marks.result ≡ marks_in c.args.b = c.marks_in-marks.ensures in
-    not_marks _ _ _ (sym told ∙ c.in-Some.is) (λ e. c.if-set-marks.true (e ∙ sym kept))
+    not_marks _ _ _ (sym (c.in_ok-size.ensures ∙ has_sized has _)) (λ e. c.if-set-marks.true (e ∙ sym kept))
 
 pub returns : goal.returns
 unfolding spare
@@ -74,6 +71,5 @@ returns c =
     let free : let a = c.args in (has_route a.b || eqb (length a.free.now) 0) ≡ true = elim c.if-not-has_route.branch [ then-not-has_route+else-free-ne0 w ↦ rw (eq-eqb _ _ w.if-free-ne0.false, or-true) | else-not-has_route w ↦ rw (so routed w.if-not-has_route.false-raw) ] in
     let spared : c.is_none_from.result ≡ all_none (spare c.args.b) = c.is_none_from.ensures ∙ rw (c.values_in-values.ensures, found) in
     let has : Has c.args.rule c.args.b c.type_in-kind.result c.field_count-n.result c.kinds_of-kinds.result c.values_in-values.result = record { type = c.type_in-kind.ensures; count = found; kinds = c.kinds_of-kinds.ensures; values = c.values_in-values.ensures; right = so c.is_count.ensures c.if-not-is_count.false-raw } in
-    let told : let a = c.args in c.size_all.result ≡ sized_all (kinds_in a.rule a.b) a.free.now (values_in a.b) = c.size_all.ensures ∙ has_sized has _ in
     let kept : c.marks_in-marks.result ≡ marks_in c.args.b = c.marks_in-marks.ensures in
-    fields_are _ _ _ (sym told ∙ c.in-Some.is) (so counted c.if-not-is_count.false-raw) free (so spared c.if-not-is_none_from.false-raw) (c.if-set-marks.false ∙ kept)
+    fields_are _ _ _ (sym (c.in_ok-size.ensures ∙ has_sized has _)) (so counted c.if-not-is_count.false-raw) free (so spared c.if-not-is_none_from.false-raw) (c.if-set-marks.false ∙ kept)
