@@ -45,28 +45,19 @@ module _ {ks r : List ℕ} {ws : List Value} {n k p m : ℕ} (v : Inv ks r ws n 
         }
 
 pub loop-k-init : goal.loop-k-init
-loop-k-init c =
-    record { asks = c.requires; whole = c.well_formed.1.0.1.0.1; place = omega arith; few = omega arith; rest = from_all _ _ _ }
-
-pub bounds-values-k : goal.bounds-values-k
-bounds-values-k c = omega (arith, c.loop-k.invariant.asks.few)
+loop-k-init c = record { asks = c.requires; whole = c.well_formed.1.0.1.0.1; place = omega arith; few = omega arith; rest = from_all _ _ _ }
 
 pub returns-in_default : goal.returns-in_default
 returns-in_default c = stops c.loop-k.invariant c.loop-k-test.true (sym c.size_field.ensures ∙ c.in_default.is)
 
+pub loop-k-preserved : goal.loop-k-preserved
+loop-k-preserved c = again c.loop-k.invariant c.loop-k-test.true _ _ _ (sym c.size_field.ensures ∙ c.in-Some.is)
+
 pub overflow_add-size : goal.overflow_add-size
-overflow_add-size c =
-    let turns : let a = c.args in let s = c.in-Some in Inv a.kinds.now a.route.now a.values (c.loop-k.size + (s.n + 1)) (c.loop-k.k + 1) s.next s.after = again c.loop-k.invariant c.loop-k-test.true _ _ _ (sym c.size_field.ensures ∙ c.in-Some.is) in
-    omega (arith, turns.few, turns.place, turns.asks.few)
+overflow_add-size c = let n = again c.loop-k.invariant c.loop-k-test.true _ _ _ (sym c.size_field.ensures ∙ c.in-Some.is) in omega (arith, n.few, n.place, n.asks.few)
 
 pub overflow_add-size-in-loop-k : goal.overflow_add-size-in-loop-k
-overflow_add-size-in-loop-k c =
-    let turns : let a = c.args in let s = c.in-Some in Inv a.kinds.now a.route.now a.values (c.loop-k.size + (s.n + 1)) (c.loop-k.k + 1) s.next s.after = again c.loop-k.invariant c.loop-k-test.true _ _ _ (sym c.size_field.ensures ∙ c.in-Some.is) in
-    omega (arith, turns.few, turns.place, turns.asks.few)
-
-pub loop-k-preserved : goal.loop-k-preserved
-loop-k-preserved c =
-    again c.loop-k.invariant c.loop-k-test.true _ _ _ (sym c.size_field.ensures ∙ c.in-Some.is)
+overflow_add-size-in-loop-k c = let n = loop-k-preserved c in omega (arith, n.few, n.place, n.asks.few)
 
 pub returns : goal.returns
 returns c = done c.loop-k.invariant c.loop-k-test.false
