@@ -7,18 +7,23 @@ use intake::files::open;
 
 fn print_case(rt: &HostRuntime, name: &[u8]) {
     io::write_all(STANDARD_OUTPUT, name);
-    io::write_all(STANDARD_OUTPUT, &[b'\n']);
+    io::write_all(STANDARD_OUTPUT, b"\n");
     if let Some(file) = open(rt, name) {
         intake::run(&Source::Named(file), name, &Target::Standard(rt.stdout()));
     }
 }
 
 fn main(rt: HostRuntime) {
-    print_case(&rt, b"1-empty");
-    print_case(&rt, b"2-unended");
-    print_case(&rt, b"3-overlong");
-    print_case(&rt, b"4-full");
-    print_case(&rt, b"5-damaged");
-    print_case(&rt, b"6-order");
-    print_case(&rt, b"7-blocks");
+    let names: [&[u8]; 7] = [
+        b"1-empty",
+        b"2-unended",
+        b"3-overlong",
+        b"4-full",
+        b"5-damaged",
+        b"6-order",
+        b"7-blocks",
+    ];
+    for name in names {
+        print_case(&rt, name);
+    }
 }

@@ -1,7 +1,7 @@
 // The calls on a board, any words, and the age of a stamp, any number.
 use crate::cuts::say_begun;
 use crate::lines::say_written;
-use crate::numbers::{say_bytes, say_number, say_two, say_words};
+use crate::numbers::{low_half, say_bytes, say_three, say_two, say_words};
 use cutter::Begun;
 use feeding::FeedAnswer;
 use fields::frame::Stamp;
@@ -10,60 +10,42 @@ use meanings::ages::Aged;
 use planner::{NotTaken, NotStruck};
 use printer::NotPrinted;
 
-fn say_line_answer(answer: Result<(), NotTaken>) {
-    match answer {
+// Number, place, the board.
+pub(crate) fn apply(board: &mut [u64], line: &[u8]) {
+    match planner::apply(board, line) {
         Ok(()) => say_two(0, 0),
         Err(NotTaken::Line(refusal)) => say_two(refusal.number() as u64, refusal.place() as u64),
         Err(NotTaken::NotAllowed) => say_two(13, 0),
         Err(NotTaken::Full) => say_two(12, 0),
     }
+    say_words(board);
 }
 
 // Number, place, the board.
-pub(crate) fn apply(board: &mut [u64], line: &[u8]) {
-    let answer = planner::apply(board, line);
-    say_line_answer(answer);
-    say_words(&board[..]);
-}
-
-fn say_strike_answer(answer: Result<(), NotStruck>) {
-    match answer {
+pub(crate) fn strike(board: &mut [u64], key: &[u8]) {
+    match planner::strike(board, key) {
         Ok(()) => say_two(0, 0),
         Err(NotStruck::NoKey) => say_two(9, 1),
         Err(NotStruck::NotAllowed) => say_two(13, 0),
         Err(NotStruck::NotListed) => say_two(14, 0),
     }
-}
-
-// Number, place, the board.
-pub(crate) fn strike(board: &mut [u64], key: &[u8]) {
-    let answer = planner::strike(board, key);
-    say_strike_answer(answer);
-    say_words(&board[..]);
-}
-
-fn say_printed(printed: Result<usize, NotPrinted>) {
-    match printed {
-        Ok(next) => say_two(0, next as u64),
-        Err(NotPrinted::NoRoom) => say_two(15, 0),
-        Err(NotPrinted::NotAllowed) => say_two(13, 0),
-    }
+    say_words(board);
 }
 
 // Number, the place after the text, the buffer.
 pub(crate) fn print(board: &[u64], out: &mut [u8], at: usize) {
-    let printed = printer::print(board, out, at);
-    say_printed(printed);
-    say_bytes(&out[..]);
+    match printer::print(board, out, at) {
+        Ok(next) => say_two(0, next as u64),
+        Err(NotPrinted::NoRoom) => say_two(15, 0),
+        Err(NotPrinted::NotAllowed) => say_two(13, 0),
+    }
+    say_bytes(out);
 }
 
 // Number, the place after the text, the buffer.
 pub(crate) fn print_counts(lines: u64, taken: u64, out: &mut [u8], at: usize) {
-    let lines = (lines % 4294967296) as u32;
-    let taken = (taken % 4294967296) as u32;
-    let written = printer::print_counts(lines, taken, out, at);
-    say_written(written);
-    say_bytes(&out[..]);
+    say_written(printer::print_counts(low_half(lines), low_half(taken), out, at));
+    say_bytes(out);
 }
 
 fn feed_number(answer: FeedAnswer) -> u64 {
@@ -76,27 +58,19 @@ fn feed_number(answer: FeedAnswer) -> u64 {
 // Number, bytes used, lines, taken, the cutter's state, the board, the buffer.
 pub(crate) fn feed(board: &mut [u64], held: &mut [u8], begun: Begun, most: usize, part: &[u8]) {
     let after = feeding::feed(board, held, begun, most, part);
-    let answer = after.answer;
-    let begun = after.begun;
-    say_two(feed_number(answer), after.used as u64);
+    say_two(feed_number(after.answer), after.used as u64);
     say_two(after.lines as u64, after.taken as u64);
-    say_begun(begun);
-    say_words(&board[..]);
-    say_bytes(&held[..]);
+    say_begun(after.begun);
+    say_words(board);
+    say_bytes(held);
 }
 
 // The number, 1 for ahead and 2 for old, the seconds.
-fn say_age(number: u64, word: u64, seconds: u64) {
-    say_two(number, word);
-    say_number(seconds);
-}
-
 pub(crate) fn age(now: u64, last: u64, stamp: u64) {
-    let aged = ages::age(Stamp(now), last, Stamp(stamp));
-    match aged {
-        Aged::Seconds(n) => say_age(0, 0, n),
-        Aged::Ahead => say_age(0, 1, 0),
-        Aged::Old => say_age(0, 2, 0),
-        Aged::OutOfRange => say_age(19, 0, 0),
+    match ages::age(Stamp(now), last, Stamp(stamp)) {
+        Aged::Seconds(n) => say_three(0, 0, n),
+        Aged::Ahead => say_three(0, 1, 0),
+        Aged::Old => say_three(0, 2, 0),
+        Aged::OutOfRange => say_three(19, 0, 0),
     }
 }

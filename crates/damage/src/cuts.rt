@@ -4,10 +4,10 @@ use cutter::{Begun, CutAnswer, EndAnswer};
 
 // A state: so many bytes of the buffer, or, where the mark is 1, that the line is overlong.
 pub(crate) fn begun(mark: u64, n: u64) -> Begun {
-    if mark == 1 {
-        return Begun::Overlong;
+    match mark {
+        1 => Begun::Overlong,
+        _ => Begun::Held(n as usize),
     }
-    Begun::Held(n as usize)
 }
 
 // The mark, and how many bytes.
@@ -32,14 +32,11 @@ fn say_answer(answer: CutAnswer) {
 // Number, where the line lies, bytes used, the state, the line, the buffer.
 pub(crate) fn cut(held: &mut [u8], begun: Begun, part: &[u8]) {
     let after = cutter::cut(held, begun, part);
-    let answer = after.answer;
-    let begun = after.begun;
-    say_answer(answer);
+    say_answer(after.answer);
     say_number(after.used as u64);
-    say_begun(begun);
-    let line = cutter::line(answer, &held[..], part);
-    say_bytes(line);
-    say_bytes(&held[..]);
+    say_begun(after.begun);
+    say_bytes(cutter::line(after.answer, held, part));
+    say_bytes(held);
 }
 
 fn end_number(answer: EndAnswer) -> u64 {
@@ -53,9 +50,7 @@ fn end_number(answer: EndAnswer) -> u64 {
 // Number, the state, the buffer.
 pub(crate) fn end(held: &[u8], begun: Begun) {
     let after = cutter::end(held, begun);
-    let answer = after.answer;
-    let begun = after.begun;
-    say_number(end_number(answer));
-    say_begun(begun);
+    say_number(end_number(after.answer));
+    say_begun(after.begun);
     say_bytes(held);
 }

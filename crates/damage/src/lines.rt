@@ -1,8 +1,6 @@
 // The writer, on any values: a message made of 48 words. Words 0 to 5 are sequence, stamp, facility, type, whether a space stands at
 // the end, and marks; the body's values begin at 6, and the eight amendments, four words each, at 16. Of a message of the old feed word 0 is not
 // looked at, and word 2 is the byte of its center.
-ghost use Rattle.std.specs.Prelude.{◌+◌, ◌≤◌, length};
-
 use crate::numbers::{say_bytes, say_two};
 use fields::aircraft::Aircraft;
 use fields::flight::{ComputerNumber, Key};
@@ -45,20 +43,16 @@ fn amended(number: u64, a: u64, b: u64, c: u64) -> Amended {
     }
 }
 
-// The four numbers from the place p; it tests for them itself, so that eight calls after each other ask nothing.
-fn slot(w: &[u64], p: usize) -> Amendment {
-    if w.len() < 48 {
-        return amended(0, 0, 0, 0).amendment();
-    }
-    if p > 44 {
-        return amended(0, 0, 0, 0).amendment();
-    }
-    amended(w[p], w[p + 1], w[p + 2], w[p + 3]).amendment()
+// The four numbers from the place p; no amendment where there are fewer.
+fn slot(w: &[u64; 48], p: usize) -> Amendment {
+    let amended = match w.get(p..) {
+        Some([number, a, b, c, ..]) => amended(*number, *a, *b, *c),
+        _ => Amended::Nothing,
+    };
+    amended.amendment()
 }
 
-fn az(w: &[u64]) -> Az
-    requires { 48 ≤ length w.now }
-{
+fn az(w: &[u64; 48]) -> Az {
     Az {
         ident: ident(w[6], w[7]),
         from: Point(w[8]),
@@ -67,9 +61,7 @@ fn az(w: &[u64]) -> Az
     }
 }
 
-fn dz(w: &[u64]) -> Dz
-    requires { 48 ≤ length w.now }
-{
+fn dz(w: &[u64; 48]) -> Dz {
     Dz {
         ident: ident(w[6], w[7]),
         aircraft: aircraft(w[8], w[9], w[10]),
@@ -80,9 +72,7 @@ fn dz(w: &[u64]) -> Dz
     }
 }
 
-fn rz(w: &[u64]) -> Rz
-    requires { 48 ≤ length w.now }
-{
+fn rz(w: &[u64; 48]) -> Rz {
     Rz {
         ident: ident(w[6], w[7]),
         from: Point(w[8]),
@@ -90,9 +80,7 @@ fn rz(w: &[u64]) -> Rz
     }
 }
 
-fn tz(w: &[u64]) -> Tz
-    requires { 48 ≤ length w.now }
-{
+fn tz(w: &[u64; 48]) -> Tz {
     Tz {
         ident: ident(w[6], w[7]),
         speed: GroundSpeed(w[8]),
@@ -101,9 +89,7 @@ fn tz(w: &[u64]) -> Tz
     }
 }
 
-fn plan(w: &[u64]) -> Plan
-    requires { 48 ≤ length w.now }
-{
+fn plan(w: &[u64; 48]) -> Plan {
     Plan {
         ident: ident(w[6], w[7]),
         aircraft: aircraft(w[8], w[9], w[10]),
@@ -114,9 +100,7 @@ fn plan(w: &[u64]) -> Plan
     }
 }
 
-fn af(w: &[u64]) -> Af
-    requires { 48 ≤ length w.now }
-{
+fn af(w: &[u64; 48]) -> Af {
     Af {
         ident: ident(w[6], w[7]),
         from: Point(w[8]),
@@ -133,11 +117,8 @@ fn af(w: &[u64]) -> Af
     }
 }
 
-fn body(w: &[u64]) -> Body
-    requires { 48 ≤ length w.now }
-{
-    let kind = w[3];
-    match kind {
+fn body(w: &[u64; 48]) -> Body {
+    match w[3] {
         0 => Body::Af(af(w)),
         1 => Body::Az(az(w)),
         2 => Body::Dz(dz(w)),
@@ -151,30 +132,6 @@ fn body(w: &[u64]) -> Body
     }
 }
 
-// The only function that holds a message, since these are dear to the checker.
-fn send(
-    w: &[u64],
-    sequence: Sequence,
-    stamp: Stamp,
-    facility: Facility,
-    trailing: bool,
-    free: &[u8],
-    out: &mut [u8],
-    at: usize,
-) -> Result<usize, NotWritten>
-    requires { 48 ≤ length w.now }
-{
-    let body = body(w);
-    let m = Message {
-        sequence,
-        stamp,
-        facility,
-        body,
-        trailing,
-    };
-    writer::write(m, free, out, at)
-}
-
 pub(crate) fn say_written(written: Result<usize, NotWritten>) {
     match written {
         Ok(next) => say_two(0, next as u64),
@@ -183,60 +140,54 @@ pub(crate) fn say_written(written: Result<usize, NotWritten>) {
     }
 }
 
-// Number, the place after the line, the buffer.
-pub(crate) fn write(w: &[u64], free: &[u8], out: &mut [u8], at: usize) {
-    if w.len() < 48 {
+// Number, the place after the line, the buffer: of what is written of the words, where there are as many as a message has.
+fn write_by<F: FnOnce(&[u64; 48], &mut [u8]) -> Result<usize, NotWritten>>(
+    w: &[u64],
+    out: &mut [u8],
+    write: F,
+)
+    requires { F.IsAlwaysCallable write }
+{
+    let Some(w) = w.first_chunk::<48>() else {
         return;
-    }
-    let sequence = Sequence(w[0]);
-    let stamp = Stamp(w[1]);
-    let facility = Facility(w[2]);
-    let written = send(w, sequence, stamp, facility, w[4] == 1, free, out, at);
-    say_written(written);
-    say_bytes(&out[..]);
+    };
+    say_written(write(w, out));
+    say_bytes(out);
+}
+
+pub(crate) fn write(w: &[u64], free: &[u8], out: &mut [u8], at: usize) {
+    write_by(w, out, |w, out| {
+        let m = Message {
+            sequence: Sequence(w[0]),
+            stamp: Stamp(w[1]),
+            facility: Facility(w[2]),
+            body: body(w),
+            trailing: w[4] == 1,
+        };
+        writer::write(m, free, out, at)
+    });
 }
 
 // The word of a center's byte, a capital or a digit; 1, which is no text's word, for any other.
 fn center(n: u64) -> Center {
-    if n > 255 {
+    let Ok(byte) = u8::try_from(n) else {
         return Center(1);
-    }
-    let letter = [n as u8];
-    let Some(t) = words::read(rules::PREFIX, &letter) else {
+    };
+    let Some(t) = words::read(rules::PREFIX, &[byte]) else {
         return Center(1);
     };
     Center(t)
 }
 
-fn send_old(
-    w: &[u64],
-    stamp: OldStamp,
-    center: Center,
-    trailing: bool,
-    free: &[u8],
-    out: &mut [u8],
-    at: usize,
-) -> Result<usize, NotWritten>
-    requires { 48 ≤ length w.now }
-{
-    let body = body(w);
-    let m = OldMessage {
-        stamp,
-        center,
-        body,
-        trailing,
-    };
-    writer::write_old(m, free, out, at)
-}
-
 // The same of a message of the old feed.
 pub(crate) fn write_old(w: &[u64], free: &[u8], out: &mut [u8], at: usize) {
-    if w.len() < 48 {
-        return;
-    }
-    let stamp = OldStamp(w[1]);
-    let center = center(w[2]);
-    let written = send_old(w, stamp, center, w[4] == 1, free, out, at);
-    say_written(written);
-    say_bytes(&out[..]);
+    write_by(w, out, |w, out| {
+        let m = OldMessage {
+            stamp: OldStamp(w[1]),
+            center: center(w[2]),
+            body: body(w),
+            trailing: w[4] == 1,
+        };
+        writer::write_old(m, free, out, at)
+    });
 }

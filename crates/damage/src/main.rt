@@ -29,22 +29,17 @@ struct Asked {
 }
 
 fn from_numbers(n: [u64; 8]) -> Asked {
+    let [call, words, given, first, second, a, b, c] = n;
     Asked {
-        call: n[0],
-        words: n[1] as usize,
-        given: n[2] as usize,
-        first: n[3] as usize,
-        second: n[4] as usize,
-        a: n[5],
-        b: n[6],
-        c: n[7],
+        call,
+        words: words as usize,
+        given: given as usize,
+        first: first as usize,
+        second: second as usize,
+        a,
+        b,
+        c,
     }
-}
-
-// Each word from eight bytes, as many as the room has.
-fn fill(room: &mut [u8], words: &mut [u64]) {
-    io::read_full(STANDARD_INPUT, room);
-    unpack(&room[..], words);
 }
 
 fn read_words(given: usize, words: &mut [u64]) {
@@ -52,45 +47,32 @@ fn read_words(given: usize, words: &mut [u64]) {
     if given > 4096 {
         return;
     }
-    let n = given * 8;
-    fill(&mut room[..n], words);
-}
-
-fn read_bytes(bytes: &mut [u8]) {
+    let bytes = &mut room[..given * 8];
     io::read_full(STANDARD_INPUT, bytes);
+    unpack(bytes, words);
 }
 
-// The call by its number.
+// The call by its number. The numbers come from outside, and an arm says what each is: an enum between would name each call twice more.
 fn call(asked: Asked, words: &mut [u64], first: &mut [u8], second: &mut [u8]) {
-    let name = asked.call;
-    let a = asked.a;
-    let b = asked.b;
-    let c = asked.c;
-    match name {
-        0 => boards::apply(words, &first[..]),
-        1 => boards::strike(words, &first[..]),
-        2 => boards::print(&words[..], first, a as usize),
-        3 => cuts::cut(first, cuts::begun(a, b), &second[..]),
-        4 => cuts::end(&first[..], cuts::begun(a, b)),
-        5 => boards::feed(words, first, cuts::begun(a, b), c as usize, &second[..]),
+    let Asked { call, a, b, c, .. } = asked;
+    match call {
+        0 => boards::apply(words, first),
+        1 => boards::strike(words, first),
+        2 => boards::print(words, first, a as usize),
+        3 => cuts::cut(first, cuts::begun(a, b), second),
+        4 => cuts::end(first, cuts::begun(a, b)),
+        5 => boards::feed(words, first, cuts::begun(a, b), c as usize, second),
         6 => boards::age(a, b, c),
         7 => boards::print_counts(a, b, first, c as usize),
-        8 => lines::write(&words[..], &first[..], second, a as usize),
-        9 => days::open(&first[..]),
-        10 => days::line(&first[..], a as usize),
-        11 => days::keep_line(&second[..], first, words, a as usize, b as usize),
-        12 => days::end_file(first, &words[..], a as usize, b as usize),
+        8 => lines::write(words, first, second, a as usize),
+        9 => days::open(first),
+        10 => days::line(first, a as usize),
+        11 => days::keep_line(second, first, words, a as usize, b as usize),
+        12 => days::end_file(first, words, a as usize, b as usize),
         13 => days::end_many(a as usize, b as usize, c as usize),
-        14 => lines::write_old(&words[..], &first[..], second, a as usize),
+        14 => lines::write_old(words, first, second, a as usize),
         _ => {}
     }
-}
-
-fn read_and_call(asked: Asked, words: &mut [u64], first: &mut [u8], second: &mut [u8]) {
-    read_words(asked.given, words);
-    read_bytes(first);
-    read_bytes(second);
-    call(asked, words, first, second);
 }
 
 // A case that is larger than these rooms is none.
@@ -98,26 +80,25 @@ fn turn(asked: Asked) {
     let mut words = [0u64; 4096];
     let mut first = [0u8; 32768];
     let mut second = [0u8; 32768];
-    let w = asked.words;
-    let f = asked.first;
-    let s = asked.second;
-    if w > 4096 {
+    let Some(words) = words.get_mut(..asked.words) else {
         return;
-    }
-    if f > 32768 {
+    };
+    let Some(first) = first.get_mut(..asked.first) else {
         return;
-    }
-    if s > 32768 {
+    };
+    let Some(second) = second.get_mut(..asked.second) else {
         return;
-    }
-    read_and_call(asked, &mut words[..w], &mut first[..f], &mut second[..s]);
+    };
+    read_words(asked.given, words);
+    io::read_full(STANDARD_INPUT, first);
+    io::read_full(STANDARD_INPUT, second);
+    call(asked, words, first, second);
 }
 
 // Whether there was one more.
 fn read_case() -> bool {
     let mut head = [0u8; 64];
-    let n = io::read_full(STANDARD_INPUT, &mut head);
-    if n < 64 {
+    if io::read_full(STANDARD_INPUT, &mut head) < 64 {
         return false;
     }
     let mut numbers = [0u64; 8];
@@ -127,11 +108,9 @@ fn read_case() -> bool {
 }
 
 fn main() {
-    let mut turns = u64::MAX;
-    while turns > 0 {
+    for _ in 0..u64::MAX {
         if !read_case() {
             return;
         }
-        turns -= 1;
     }
 }

@@ -3,7 +3,8 @@ use mathlib.Core.Path.{◌≡◌, refl, sym, ap, ◌∙◌}
 use mathlib.Core.Bool.{true, ◌&&◌}
 use mathlib.Core.List.{List, [], ◌∷◌, ◌++◌, append_assoc}
 use Prim.Native.Nat.{ℕ, zero, suc, ◌+◌, ◌*◌, ◌/◌, ◌^◌, ◌≤◌, ◌<◌}
-use native.Mathlib.Nat.{add-zero}
+use native.Mathlib.Nat.{add-zero, mul_assoc, pow-zero, pow-suc}
+use native.Mathlib.Numerals.{add-one}
 use native.Mathlib.Omega.{arith}
 use lib.ListN.{length, take, drop, get_or, length-append, take-append-drop}
 use lib.Seq.{take_at, drop_at, split_at, get_or-drop, length-take-le}
@@ -23,6 +24,14 @@ value_take B (suc w) (d ∷ s) = rw (value_take B w s)
 
 pub value_front : (B w : ℕ) (x y : List ℕ) → length x ≡ w → value B w (x ++ y) ≡ value B w x
 value_front B w x y e = sym (value_take B w (x ++ y)) ∙ ap (value B w) (take_at x y w e)
+
+-- one place more
+pub value_next : (B i : ℕ) (s : List ℕ) → value B (i + 1) s ≡ value B i s * B + get_or s i 0
+unfolding value
+value_next B zero [] = omega arith
+value_next B zero (d ∷ s) = rw pow-zero (omega arith)
+value_next B (suc i) [] = rw add-one (omega arith)
+value_next B (suc i) (d ∷ s) = let e : suc i + 1 ≡ suc (i + 1) = omega arith in rw (e, value_next B i s, add-one, pow-suc) (omega (arith, mul_assoc d (B ^ i) B))
 
 -- ---- lists of bytes
 

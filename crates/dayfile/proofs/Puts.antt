@@ -6,11 +6,11 @@ use native.Mathlib.Nat.{pow-succ'}
 use native.Mathlib.Numerals.{add-one}
 use native.Mathlib.Omega.{arith}
 use lib.ListN.{length, take, get_or, set, length-set, length-append}
-use lib.Seq.{length-take-le, take_all, take-suc}
+use lib.Seq.{length-take-le, take-suc}
 use Rattle.text.specs.Place.{places}
 use Rattle.text.specs.Text.{spliced}
 use Rattle.text.proofs.Places.{length-places, places_last}
-use Rattle.text.proofs.Splice.{length-spliced, spliced_next, spliced_none, spliced_last}
+use Rattle.text.proofs.Splice.{spliced_next, spliced_none, spliced_last}
 use Rattle.dayfile.specs.DayFile.{trailer_size, trailer_of, index_of}
 use Rattle.dayfile.specs.declared.Trailer.{Trailer}
 use Rattle.dayfile.specs.declared.Place.{Place}
@@ -28,9 +28,6 @@ pub record Number (n wide at : ℕ) (out₀ out : List ℕ) (r k : ℕ) : Type 0
   pub room : at + wide ≤ length out₀
   pub same : length out ≡ length out₀
   pub rest : spliced out at (places 256 k r) ≡ spliced out₀ at (places 256 wide n)
-
-pub number_begun : (n wide at : ℕ) (out : List ℕ) → n < 256 ^ wide → at + wide ≤ length out → Number n wide at out out n wide
-number_begun n wide at out h room = record { some = omega arith; small = h; room = room; same = refl; rest = refl }
 
 module _ {n wide at : ℕ} {out₀ out : List ℕ} {r k : ℕ} (v : Number n wide at out₀ out r k) where
   pub number_put : k ≤ 0 → out ≡ spliced out₀ at (places 256 wide n)
@@ -55,36 +52,18 @@ module _ {n wide at : ℕ} {out₀ out : List ℕ} {r k : ℕ} (v : Number n wid
             ∙ rw (← (places_last 256 255 (omega arith) (k - 1) r small)) rest;
       }
 
--- ---- `put_index`: the first k offsets are written
+-- ---- `put_index`: the first k offsets are written, and then the next
 
-pub record Index (os : List ℕ) (at : ℕ) (out₀ out : List ℕ) (k : ℕ) : Type 0 where
-  pub some : k ≤ length os
-  pub room : at + 4 * length os ≤ length out₀
-  pub same : length out ≡ length out₀
-  pub put : out ≡ spliced out₀ at (index_of (take k os))
-
-pub index_begun : (os : List ℕ) (at : ℕ) (out : List ℕ) → at + 4 * length os ≤ length out → Index os at out out 0
+pub index_next : (os : List ℕ) (at : ℕ) (out₀ out : List ℕ) (k : ℕ) {out' : List ℕ} → at + 4 * length os ≤ length out₀ → k < length os
+    → out ≡ spliced out₀ at (index_of (take k os)) → out' ≡ spliced out (at + 4 * k) (places 256 4 (get_or os k 0)) → out' ≡ spliced out₀ at (index_of (take (k + 1) os))
 unfolding index_of
-index_begun os at out h = record { some = omega arith; room = h; same = refl; put = sym (spliced_none out at) }
-
-module _ {os : List ℕ} {at : ℕ} {out₀ out : List ℕ} {k : ℕ} (v : Index os at out₀ out k) where
-  pub index_put : length os ≤ k → out ≡ spliced out₀ at (index_of os)
-  index_put h = rw (← (take_all k os h)) v.put
-
-  pub index_next : k < length os → {out' : List ℕ} → out' ≡ spliced out (at + 4 * k) (places 256 4 (get_or os k 0)) → Index os at out₀ out' (k + 1)
-  unfolding index_of
-  index_next more e =
-      let b = places 256 4 (get_or os k 0) in
-      let l : at + 4 * k ≡ at + length (index_of (take k os)) = omega (arith, length_index (take k os), length-take-le k os v.some) in
-      let one : index_of (take (k + 1) os) ≡ index_of (take k os) ++ b =
-      rw (add-one, take-suc os k 0 more) (index_append (take k os) (get_or os k 0 ∷ []) ∙ ap (λ (s : List ℕ). index_of (take k os) ++ s) (append-nil b))
-      in
-      record {
-        some = omega (arith, more);
-        room = v.room;
-        same = ap length e ∙ length-spliced out b (at + 4 * k) (omega (arith, length-places 256 4 (get_or os k 0), v.room, v.same, more)) ∙ v.same;
-        put = rw one (then_put out₀ (index_of (take k os)) b at (at + 4 * k) l (omega (arith, v.room, v.some)) v.put e);
-      }
+index_next os at out₀ out k room more put e =
+    let b = places 256 4 (get_or os k 0) in
+    let l : at + 4 * k ≡ at + length (index_of (take k os)) = omega (arith, length_index (take k os), length-take-le k os) in
+    let one : index_of (take (k + 1) os) ≡ index_of (take k os) ++ b =
+    rw (add-one, take-suc os k 0 more) (index_append (take k os) (get_or os k 0 ∷ []) ∙ ap (λ (s : List ℕ). index_of (take k os) ++ s) (append-nil b))
+    in
+    rw one (then_put out₀ (index_of (take k os)) b at (at + 4 * k) l (omega arith) put e)
 
 -- ---- `put_trailer`: its three numbers, one after the other
 

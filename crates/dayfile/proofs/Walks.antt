@@ -89,6 +89,12 @@ sized s n e some =
       whole = sym (cut_whole line_feed s h);
     }
 
+-- it ends in these bytes
+pub line_inside : (s : List ℕ) (i n : ℕ) → i ≤ length s → n ≡ line_size (take (length s - i) (drop i s)) → (n ≡ 0 → ⊥) → i + n ≤ length s
+line_inside s i n h size some =
+    let next = sized (drop i s) n (rw rest_all at size) some in
+    omega (arith, h, next.size, ap length next.whole, length-drop i s, length-append next.line (line_feed ∷ next.rest))
+
 -- ---- lines walked beside their offsets
 
 pub record Walking (from : ℕ) (s os : List ℕ) (i k : ℕ) : Type 0 where
@@ -105,40 +111,21 @@ unfolding feed_of each_may_keep starts_from
 begin from s os = record { run = []; inside = omega arith; text = refl; each = refl; many = refl; fewer = omega arith; starts = refl }
 
 module _ {from : ℕ} {s os : List ℕ} {i k : ℕ} (v : Walking from s os i k) where
-  stopped : Stops (from + i) (drop i s) (drop k os) → Walks from s os (record { lines = k; used = i })
-  stopped e = record { run = v.run; inside = v.inside; text = v.text; each = v.each; many = v.many; fewer = v.fewer; starts = v.starts; stops = e }
-
-  -- the offsets are all used
-  pub no_more : length os ≤ k → Walks from s os (record { lines = k; used = i })
-  no_more h = stopped (inl (omega (arith, length-drop k os)))
-
-  -- the next is another
-  pub other_start : (get_or os k 0 ≡ from + i → ⊥) → Walks from s os (record { lines = k; used = i })
-  other_start h = stopped (inr (inl (λ e. h (rw (get_or-drop, add-zero) at e))))
-
-  module _ (n : ℕ) (size : n ≡ line_size (take (length s - i) (drop i s))) where
-    -- no line begins there
-    pub no_next : n ≡ 0 → Walks from s os (record { lines = k; used = i })
-    no_next none = stopped (inr (inr (sym (rw rest_all at size) ∙ none)))
-
-    module _ (some : n ≡ 0 → ⊥) where
-      next : Sized (drop i s) n
-      next = sized (drop i s) n (rw rest_all at size) some
-
-      -- one line more
-      pub turn : k < length os → get_or os k 0 ≡ from + i → Walking from s os (i + n) (k + 1)
-      unfolding starts_from each_may_keep feed_of
-      turn more at =
-          let w : length (lines_text v.run) ≡ i = ap length (sym v.text) ∙ length-take-le i s v.inside in
-          record {
-            run = v.run ++ next.line ∷ [];
-            inside = omega (arith, v.inside, next.size, ap length next.whole, length-drop i s, length-append next.line (line_feed ∷ next.rest));
-            text = take-add i n s ∙ rw (v.text, lines_append, sized_text_lem next);
-            each = rw (each_append, v.each, next.kept);
-            many = rw (length-append) (omega (arith, v.many));
-            fewer = omega arith;
-            starts = rw (add-one, take-suc os k 0, v.starts, starts_append, w, at);
-          }
+  -- one line more
+  pub turn : (n : ℕ) → n ≡ line_size (take (length s - i) (drop i s)) → (n ≡ 0 → ⊥) → k < length os → get_or os k 0 ≡ from + i → Walking from s os (i + n) (k + 1)
+  unfolding starts_from each_may_keep feed_of
+  turn n size some more at =
+      let next = sized (drop i s) n (rw rest_all at size) some in
+      let w : length (lines_text v.run) ≡ i = ap length (sym v.text) ∙ length-take-le i s v.inside in
+      record {
+        run = v.run ++ next.line ∷ [];
+        inside = line_inside s i n v.inside size some;
+        text = take-add i n s ∙ rw (v.text, lines_append, sized_text_lem next);
+        each = rw (each_append, v.each, next.kept);
+        many = rw (length-append) (omega (arith, v.many));
+        fewer = omega arith;
+        starts = rw (add-one, take-suc os k 0, v.starts, starts_append, w, at);
+      }
 
 -- ---- the numbers of an index
 
@@ -153,28 +140,13 @@ number_at (a ∷ (b ∷ (c ∷ (d ∷ s)))) (suc k) h =
     let e : 4 * suc k ≡ suc (suc (suc (suc (4 * k)))) = omega arith in
     rw e (number_at s k (omega arith))
 
-pub k_past : (s : List ℕ) (k : ℕ) → length s / 4 ≤ k → length (offsets_in s) ≤ k
-k_past s k h = omega (arith, length-offsets s)
-
 -- four bytes of an index, as a walk takes them
-module _ (s : List ℕ) (k : ℕ) (h : k < length s / 4) where
-  abbrev four : List ℕ
-  four = take (4 * k + 4 - 4 * k) (drop (4 * k) s)
-
-  is_four : four ≡ take 4 (drop (4 * k) s)
-  is_four = let e : 4 * k + 4 - 4 * k ≡ 4 = omega arith in rw e
-
-  four_long : length four ≡ 4
-  four_long = rw is_four (length-take-le 4 (drop (4 * k) s) (omega (arith, length-drop (4 * k) s)))
-
-  pub four_few : length four ≤ 4
-  four_few = omega (arith, four_long)
-
-  pub four_number : (n : ℕ) → n ≡ value 256 (length four) four → n ≡ get_or (offsets_in s) k 0
-  four_number n e = e ∙ rw (four_long, is_four) (sym (number_at s k h))
-
-  pub k_inside : k < length (offsets_in s)
-  k_inside = omega (arith, length-offsets s)
+pub four_number : (s : List ℕ) (k n : ℕ) → k < length (offsets_in s) → (let four = take (4 * k + 4 - 4 * k) (drop (4 * k) s) in n ≡ value 256 (length four) four) → n ≡ get_or (offsets_in s) k 0
+four_number s k n h e =
+    let more : k < length s / 4 = omega (arith, length-offsets s) in
+    let w : 4 * k + 4 - 4 * k ≡ 4 = omega arith in
+    let four_long : length (take 4 (drop (4 * k) s)) ≡ 4 = length-take-le 4 (drop (4 * k) s) (omega (arith, length-drop (4 * k) s)) in
+    (rw (w, four_long) at e) ∙ sym (number_at s k more)
 
 -- ---- what a walk tells: it used everything exactly if the bytes are these lines, each beginning at its offset
 

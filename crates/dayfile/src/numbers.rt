@@ -11,10 +11,8 @@ pub(crate) fn read_number(s: &[u8]) -> usize
     ensures upper_bound { result < 256 ^ length s.now }
 {
     let mut n: usize = 0;
-    let mut i = 0;
-    while i < s.len() {
-        n = n * 256 + s[i] as usize;
-        i += 1;
+    for &b in s {
+        n = n * 256 + b as usize;
     }
     n
 }
@@ -26,11 +24,9 @@ pub(crate) fn put_number(n: usize, wide: usize, out: &mut [u8], at: usize)
     ensures { out.new ≡ spliced out.old at (places 256 wide n) }
 {
     let mut r = n;
-    let mut k = wide;
-    while k > 0 {
-        k -= 1;
+    for k in (0..wide).rev() {
         out[at + k] = (r % 256) as u8;
-        r = r / 256;
+        r /= 256;
     }
 }
 
@@ -39,9 +35,7 @@ pub fn put_index(offsets: &[u32], out: &mut [u8], at: usize)
     requires { at + 4 * length offsets.now ≤ length out.old }
     ensures { out.new ≡ spliced out.old at (index_of offsets.now) }
 {
-    let mut k = 0;
-    while k < offsets.len() {
-        put_number(offsets[k] as usize, 4, out, at + 4 * k);
-        k += 1;
+    for (k, &offset) in offsets.iter().enumerate() {
+        put_number(offset as usize, 4, out, at + 4 * k);
     }
 }

@@ -1,7 +1,7 @@
 // Lines walked beside their offsets: of a whole file, of a window of one, or of what is being kept.
-ghost use Rattle.std.specs.Prelude.{◌≡◌, ◌+◌, ◌*◌, ◌≤◌, ◌<◌, ◌^◌, min, length};
+ghost use Rattle.std.specs.Prelude.{◌≡◌, ◌+◌, ◌*◌, ◌≤◌, ◌<◌, ◌^◌, ℕ, List, min, length};
 ghost use Rattle.dayfile.specs.Opening.{offsets_in};
-ghost use Rattle.dayfile.specs.Walk.{line_size, Walks};
+ghost use Rattle.dayfile.specs.Walk.{line_size, Tells, Walks};
 ghost use Rattle.dayfile.specs.Windows.{Wide, Sweeps};
 
 use crate::Contents;
@@ -20,7 +20,7 @@ pub struct Walked {
 pub fn least(a: usize, b: usize) -> usize
     ensures { result ≡ min a b }
 {
-    if a < b { a } else { b }
+    a.min(b)
 }
 
 // How many bytes the line at the start of s has, its line feed with it; 0 where no line of at most 2,048 bytes ends there. No byte further on is looked at.
@@ -35,47 +35,44 @@ pub(crate) fn line_size(s: &[u8]) -> usize
     n + 1
 }
 
-// The lines at the start of s, the first at the place `from` of the file, beside an index of four bytes each.
+// The lines at the start of s, the first at the place `from` of the file, beside `many` offsets: `offset_at` gives the one at an index.
+fn walk_beside<F: Fn(usize) -> usize>(from: usize, s: &[u8], many: usize, offset_at: F) -> Walked
+    requires room { from + length s.now < 2 ^ 63 }
+    requires may_ask { (k : ℕ) → k < many → F.pre offset_at k }
+    ensures { (offsets : List ℕ) → length offsets ≡ many → Tells (F.post offset_at) offsets → Walks from s.now offsets result }
+{
+    let mut used: usize = 0;
+    for lines in 0..many {
+        if offset_at(lines) != from + used {
+            return Walked { lines, used };
+        }
+        let n = line_size(&s[used..]);
+        if n == 0 {
+            return Walked { lines, used };
+        }
+        used += n;
+    }
+    Walked { lines: many, used }
+}
+
+// The same beside an index of four bytes each.
 pub fn walk(from: usize, s: &[u8], index: &[u8]) -> Walked
     requires { from + length s.now < 2 ^ 63 }
     ensures { Walks from s.now (offsets_in index.now) result }
 {
-    let mut i: usize = 0;
-    let mut k: usize = 0;
-    while k < index.len() / 4 {
-        let j = 4 * k;
-        let e = j + 4;
-        if read_number(&index[j..e]) != from + i {
-            break;
-        }
-        let n = line_size(&s[i..]);
-        if n == 0 {
-            break;
-        }
-        i += n;
-        k += 1;
-    }
-    Walked { lines: k, used: i }
+    walk_beside(
+        from,
+        s,
+        index.len() / 4,
+        |k| read_number(&index[4 * k..4 * k + 4]),
+    )
 }
 
 // The same beside a run of offsets.
 pub(crate) fn walk_run(s: &[u8], offsets: &[u32]) -> Walked
     ensures { Walks 0 s.now offsets.now result }
 {
-    let mut i: usize = 0;
-    let mut k: usize = 0;
-    while k < offsets.len() {
-        if offsets[k] as usize != i {
-            break;
-        }
-        let n = line_size(&s[i..]);
-        if n == 0 {
-            break;
-        }
-        i += n;
-        k += 1;
-    }
-    Walked { lines: k, used: i }
+    walk_beside(0, s, offsets.len(), |k| offsets[k] as usize)
 }
 
 // How far a file has been judged by its windows: the place after so many lines.

@@ -22,24 +22,8 @@ const KEEP_HELP: [u8; 613] =
 const LINES_HELP: [u8; 239] =
     *b"desk lines: the lines of a day file\n\n  desk lines FILE       writes them to standard output\n\nSo 'desk lines FILE | flights' is the board of that day. A file that is no day file is\nrefused with its answer, 20 to 23, and nothing is written.\n";
 
-fn print_help() {
-    let text = HELP;
-    io::write_all(STANDARD_OUTPUT, &text);
-}
-
-fn print_check_help() {
-    let text = CHECK_HELP;
-    io::write_all(STANDARD_OUTPUT, &text);
-}
-
-fn print_keep_help() {
-    let text = KEEP_HELP;
-    io::write_all(STANDARD_OUTPUT, &text);
-}
-
-fn print_lines_help() {
-    let text = LINES_HELP;
-    io::write_all(STANDARD_OUTPUT, &text);
+fn print_help(text: &[u8]) {
+    io::write_all(STANDARD_OUTPUT, text);
 }
 
 // The checks of the feed in the file that is named; of standard input where that is a hyphen.
@@ -57,7 +41,7 @@ fn check_named(rt: &HostRuntime, name: &[u8], asked: Asked) {
 // The first word after 'check' that asks for nothing more: help, or the feed, which is the last word.
 fn check_word(rt: &HostRuntime, word: &[u8], last: bool, asked: Asked) {
     if is_help(word) {
-        return print_check_help();
+        return print_help(&CHECK_HELP);
     }
     if is_option(word) && !same(word, b"-") {
         return say(
@@ -76,10 +60,10 @@ fn check_word(rt: &HostRuntime, word: &[u8], last: bool, asked: Asked) {
 
 // The word at a place after 'check': what is asked for with it, or nothing where it was the last to be looked at.
 fn take_word(rt: &HostRuntime, asked: Asked, place: usize, last: bool) -> Option<Asked> {
+    // no heap: the word lies at the start of a fixed room
     let mut word = io::buffer();
     let n = word_at(rt, place, b"a word after check", &mut word)?;
-    let read = option(asked, &word[..n]);
-    match read {
+    match option(asked, &word[..n]) {
         Some(more) => Some(more),
         None => {
             check_word(rt, &word[..n], last, asked);
@@ -94,12 +78,12 @@ fn check(rt: &HostRuntime) {
         rule: Rule::New,
         refused: false,
     };
+    // tried with take_while: the proof that place + 1 fits did not close
     for place in 2..usize::MAX {
         if !is_there(rt, place) {
             break;
         }
-        let read = take_word(rt, asked, place, !is_there(rt, place + 1));
-        let Some(more) = read else {
+        let Some(more) = take_word(rt, asked, place, !is_there(rt, place + 1)) else {
             return;
         };
         asked = more;
@@ -107,60 +91,59 @@ fn check(rt: &HostRuntime) {
     check_named(rt, b"-", asked);
 }
 
-// The word after 'keep'.
-fn keep_word(rt: &HostRuntime, name: &[u8]) {
-    if is_help(name) {
-        return print_keep_help();
-    }
-    if is_option(name) {
-        return say(name, b"no such option; 'desk keep --help' says how");
-    }
-    keeper::store::run(rt, &Source::Standard(rt.stdin()), name);
-}
-
-// The word after 'lines'.
-fn lines_word(rt: &HostRuntime, name: &[u8]) {
-    if is_help(name) {
-        return print_lines_help();
-    }
-    if is_option(name) {
-        return say(name, b"no such option; 'desk lines --help' says how");
-    }
-    keeper::lists::run(rt, name, &Target::Standard(rt.stdout()));
-}
-
-// A word that takes the name of one file.
-fn file_job(rt: &HostRuntime, word: &[u8], keeps: bool) {
+// A word that takes the name of one file: its help, what it says of an option, and its work on the file.
+fn one_file<F: FnOnce(&[u8])>(rt: &HostRuntime, word: &[u8], help: &[u8], no_option: &[u8], work: F)
+    requires { F.IsAlwaysCallable work }
+{
     if !is_there(rt, 2) || is_there(rt, 3) {
         return say(
             word,
             b"it takes the name of one file; with --help it says more",
         );
     }
-    let mut name = io::buffer();
-    let Some(n) = word_at(rt, 2, b"the name of the file", &mut name) else {
+    // no heap: the name lies at the start of a fixed room
+    let mut room = io::buffer();
+    let Some(n) = word_at(rt, 2, b"the name of the file", &mut room) else {
         return;
     };
-    if keeps {
-        return keep_word(rt, &name[..n]);
+    let name = &room[..n];
+    if is_help(name) {
+        return print_help(help);
     }
-    lines_word(rt, &name[..n]);
+    if is_option(name) {
+        return say(name, no_option);
+    }
+    work(name);
+}
+
+fn keep(rt: &HostRuntime) {
+    one_file(
+        rt,
+        b"desk keep",
+        &KEEP_HELP,
+        b"no such option; 'desk keep --help' says how",
+        |name| keeper::store::run(rt, &Source::Standard(rt.stdin()), name),
+    );
+}
+
+fn lines(rt: &HostRuntime) {
+    one_file(
+        rt,
+        b"desk lines",
+        &LINES_HELP,
+        b"no such option; 'desk lines --help' says how",
+        |name| keeper::lists::run(rt, name, &Target::Standard(rt.stdout())),
+    );
 }
 
 fn job(rt: &HostRuntime, word: &[u8]) {
-    if is_help(word) {
-        return print_help();
+    match word {
+        b"check" => check(rt),
+        b"keep" => keep(rt),
+        b"lines" => lines(rt),
+        _ if is_help(word) => print_help(&HELP),
+        _ => say(word, b"no such word; 'desk --help' names what there is"),
     }
-    if same(word, b"check") {
-        return check(rt);
-    }
-    if same(word, b"keep") {
-        return file_job(rt, b"desk keep", true);
-    }
-    if same(word, b"lines") {
-        return file_job(rt, b"desk lines", false);
-    }
-    say(word, b"no such word; 'desk --help' names what there is");
 }
 
 fn main(rt: HostRuntime) {
@@ -170,6 +153,7 @@ fn main(rt: HostRuntime) {
             b"a word is missing; 'desk --help' names what there is",
         );
     }
+    // no heap: the word lies at the start of a fixed room
     let mut word = io::buffer();
     if let Some(n) = word_at(&rt, 1, b"the word", &mut word) {
         job(&rt, &word[..n]);

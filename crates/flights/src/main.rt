@@ -12,8 +12,7 @@ const HELP: [u8; 739] =
     *b"flights: prints the flight board of a feed\n\n  flights           reads standard input; so does 'flights -'\n  flights FILE      reads the file\n\nNothing is printed before the feed ends. The first line says how many FLIGHTS are\nlisted. Each has a line, in the order of its key: key, departure, destination and\nclock of the latest departure or arrival, then stamp, speed, level and position of\nthe latest track; a hyphen for each part of what there is none of. The last line\nsays how many LINES were read, and how many of them were TAKEN; 'desk check' says\nwhy a line was not read.\n\nWhat went wrong is said on standard error: a file that cannot be read, a last line\nwithout a line feed, which is no line. There is no exit status that tells it.\n";
 
 fn print_help() {
-    let text = HELP;
-    io::write_all(STANDARD_OUTPUT, &text);
+    io::write_all(STANDARD_OUTPUT, &HELP);
 }
 
 fn print_standard_input(rt: &HostRuntime) {
@@ -55,6 +54,7 @@ fn main(rt: HostRuntime) {
     if is_there(&rt, 2) {
         return say(b"flights", b"it reads one feed; 'flights --help' says how");
     }
+    // no heap: the word lies at the start of a fixed room
     let mut word = io::buffer();
     if let Some(n) = word_at(&rt, 1, b"the name of the file", &mut word) {
         take(&rt, &word[..n]);

@@ -4,14 +4,14 @@
 #![tactic(auto)]
 
 use check::same;
-use line::{free, read, read_old};
+use line::{Refusal, free, read, read_old};
 use messages::values::values_in;
-use messages::{Body, Message, OldMessage, marks_in, type_in};
+use messages::{Body, marks_in, type_in};
 use rules::{LONGEST_LINE, Rule};
 use std::rt::Env;
 use table::kinds::{AMENDMENT, Value};
 use table::{field_count, kinds_of};
-use text::writing;
+use text::{NotWritten, writing};
 use writer::{write, write_old};
 
 // The descriptors that every program has.
@@ -31,21 +31,18 @@ fn answer(number: u64, place: usize, after: &[u8]) {
     say(after);
 }
 
-fn refuse(number: u64, place: usize) {
-    answer(number, place, b"\n");
+fn refuse(refusal: Refusal) {
+    answer(refusal.number() as u64, refusal.place(), b"\n");
 }
 
 // A part of a value after a space or a comma: its text, or a hyphen where there is none.
 fn say_part(before: u8, part: u64) {
-    let mut room = [0u8; 13];
-    room[0] = before;
     if part == 0 {
-        room[1] = b'-';
-        say(&room[..2]);
-        return;
+        return say(&[before, b'-']);
     }
-    let written = writing::put(part, &mut room, 1);
-    let Ok(n) = written else {
+    // no heap: the text lies at the start of a fixed room
+    let mut room = [before; 13];
+    let Ok(n) = writing::put(part, &mut room, 1) else {
         return;
     };
     say(&room[..n]);
@@ -72,34 +69,25 @@ fn say_value(kind: u8, v: Value) {
 
 // The values of the first `count` fields.
 fn say_values(kinds: [u8; 19], values: [Value; 19], count: usize) {
-    let mut k: usize = 0;
-    while k < 19 {
-        if k >= count {
-            return;
-        }
-        say_value(kinds[k], values[k]);
-        k += 1;
+    for (&kind, &value) in kinds.iter().zip(values.iter()).take(count) {
+        say_value(kind, value);
     }
 }
 
-fn writes_same(m: Message, line: &[u8]) -> bool {
-    let rest = free(Rule::New, line);
+// Whether writing what was read, with the text after the fields, gives the bytes of the line.
+fn writes_back<F: FnOnce(&[u8], &mut [u8]) -> Result<usize, NotWritten>>(
+    rule: Rule,
+    line: &[u8],
+    write: F,
+) -> bool
+    requires { F.IsAlwaysCallable write }
+{
+    // no heap: the line lies at the start of a fixed room
     let mut room = [0u8; LONGEST_LINE];
-    let written = write(m, rest, &mut room, 0);
-    let Ok(n) = written else {
+    let Ok(n) = write(free(rule, line), &mut room) else {
         return false;
     };
-    same(&room[..n], line)
-}
-
-fn writes_old_same(m: OldMessage, line: &[u8]) -> bool {
-    let rest = free(Rule::Old, line);
-    let mut room = [0u8; LONGEST_LINE];
-    let written = write_old(m, rest, &mut room, 0);
-    let Ok(n) = written else {
-        return false;
-    };
-    same(&room[..n], line)
+    room.get(..n).is_some_and(|written| same(written, line))
 }
 
 fn show(rule: Rule, body: Body, as_it_was: bool) {
@@ -123,51 +111,37 @@ fn show(rule: Rule, body: Body, as_it_was: bool) {
     say(b"\n");
 }
 
-fn show_new(line: &[u8]) {
-    let read = read(line);
-    match read {
-        Ok(m) => {
-            let body = m.body;
-            show(Rule::New, body, writes_same(m, line));
-        }
-        Err(refusal) => refuse(refusal.number() as u64, refusal.place()),
+fn show_line(rule: Rule, line: &[u8]) {
+    match rule {
+        Rule::New => match read(line) {
+            Ok(m) => {
+                let same = writes_back(rule, line, |free, room| write(m, free, room, 0));
+                show(rule, m.body, same);
+            }
+            Err(refusal) => refuse(refusal),
+        },
+        Rule::Old => match read_old(line) {
+            Ok(m) => {
+                let same = writes_back(rule, line, |free, room| write_old(m, free, room, 0));
+                show(rule, m.body, same);
+            }
+            Err(refusal) => refuse(refusal),
+        },
     }
-}
-
-fn show_old(line: &[u8]) {
-    let read = read_old(line);
-    match read {
-        Ok(m) => {
-            let body = m.body;
-            show(Rule::Old, body, writes_old_same(m, line));
-        }
-        Err(refusal) => refuse(refusal.number() as u64, refusal.place()),
-    }
-}
-
-fn show_line(old: bool, line: &[u8]) {
-    if old {
-        return show_old(line);
-    }
-    show_new(line);
 }
 
 // Each line that a line feed ends.
-fn show_all(old: bool, feed: &[u8]) {
-    let mut at: usize = 0;
-    while at < feed.len() {
-        let n = shapes::find(10, &feed[at..]);
-        if n >= feed.len() - at {
-            return;
+fn show_all(rule: Rule, feed: &[u8]) {
+    for piece in feed.split_inclusive(|byte| *byte == b'\n') {
+        if let [line @ .., b'\n'] = piece {
+            show_line(rule, line);
         }
-        let end = at + n;
-        show_line(old, &feed[at..end]);
-        at = end + 1;
     }
 }
 
 // Whether the word --old was given.
 fn is_old<R: Env>(rt: &R) -> bool {
+    // no heap: the word lies at the start of a fixed room
     let mut word = io::buffer();
     match rt.arg(1, &mut word) {
         Ok(n) => same(&word[..n], b"--old"),
@@ -176,7 +150,9 @@ fn is_old<R: Env>(rt: &R) -> bool {
 }
 
 fn main(rt: HostRuntime) {
+    // no heap: the feed lies at the start of a fixed room
     let mut feed = [0u8; 131072];
     let n = io::read_full(STANDARD_INPUT, &mut feed);
-    show_all(is_old(&rt), &feed[..n]);
+    let rule = if is_old(&rt) { Rule::Old } else { Rule::New };
+    show_all(rule, &feed[..n]);
 }

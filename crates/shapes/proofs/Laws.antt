@@ -10,7 +10,7 @@ use native.Mathlib.Omega.{arith}
 use lib.Dec.{eqb, leb}
 use lib.ListN.{length, take, drop, get_or, length-drop}
 use lib.Seq.{take_all, take-take, drop-cons, drop-drop}
-use borrow.Author.Tests.{lt-ltb, le-ltb, eq-eqb, ne_eqb, eqb-true, leb-true}
+use borrow.Author.Tests.{lt-ltb, le-ltb, eq-eqb, eqb-true, leb-true}
 use Rattle.text.specs.Class.{all}
 use Rattle.text.proofs.Logic.{and_left, and_right, true_false, not_holds}
 use Rattle.shapes.specs.Picture.{is_of, fits, run, part, starts_at}
@@ -47,10 +47,6 @@ up_to_none b = refl
 pub up_to_here : (b x : ℕ) (s : List ℕ) → x ≡ b → up_to b (x ∷ s) ≡ 0
 unfolding up_to
 up_to_here b x s e = simp (eq-eqb x b e)
-
-pub up_to_next : (b x : ℕ) (s : List ℕ) → (x ≡ b → ⊥) → up_to b (x ∷ s) ≡ suc (up_to b s)
-unfolding up_to
-up_to_next b x s e = simp (ne_eqb x b e)
 
 pub up_to_le : (b : ℕ) (s : List ℕ) → up_to b s ≤ length s
 unfolding up_to

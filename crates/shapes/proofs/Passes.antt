@@ -1,12 +1,12 @@
 -- The laws of counting a byte. Assumes nothing.
-use mathlib.Core.Path.{◌≡◌, refl, sym, ap, ◌∙◌}
+use mathlib.Core.Path.{◌≡◌, refl}
 use mathlib.Core.Bool.{Bool, true, false, cond}
 use mathlib.Core.List.{List, [], ◌∷◌, ◌++◌}
 use Prim.Native.Nat.{ℕ, suc, ◌+◌, ◌≤◌}
 use native.Mathlib.Omega.{arith}
 use mir.Val.{bool_byte}
 use lib.Dec.{eqb}
-use lib.ListN.{length, take, drop, take-append-drop}
+use lib.ListN.{length, drop}
 use Rattle.shapes.specs.Many.{how_many}
 
 module _ (b : ℕ) where
@@ -28,14 +28,10 @@ module _ (b : ℕ) where
       go true q r = rw q (omega arith)
       go false q r = rw q (omega arith)
 
-  many_append : (s t : List ℕ) → how_many b (s ++ t) ≡ how_many b s + how_many b t
+  pub many_append : (s t : List ℕ) → how_many b (s ++ t) ≡ how_many b s + how_many b t
   unfolding how_many
   many_append [] t = omega arith
   many_append (x ∷ s) t = omega (arith, many_append s t, many_more x s, many_more x (s ++ t))
-
-  -- those of the first n bytes, and those of what is left
-  pub many_parts : (n : ℕ) (s : List ℕ) → how_many b s ≡ how_many b (take n s) + how_many b (drop n s)
-  many_parts n s = ap (how_many b) (sym (take-append-drop n s)) ∙ many_append (take n s) (drop n s)
 
 -- a count: n of the bytes before i are b
 pub record Counting (b : ℕ) (s : List ℕ) (n i : ℕ) : Type 0 where

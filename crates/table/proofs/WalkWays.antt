@@ -10,7 +10,7 @@ use native.Mathlib.Numerals.{add-one}
 use native.Mathlib.Omega.{arith}
 use denote.Enum.Declared.{tag_of}
 use lib.Dec.{eqb, leb}
-use lib.ListN.{length, drop, get_or, replicate}
+use lib.ListN.{length, take, drop, get_or, set, replicate}
 use lib.Seq.{sets, sets-eq, drop-cons}
 use borrow.Author.Tests.{eq-eqb, ne_eqb, le-leb}
 use Rattle.table.specs.Spacing.{Fields, fields_of, fields_in, count_of, end_of}
@@ -39,14 +39,19 @@ module _ {body : List ℕ} {at k : ℕ} (v : At body at k) (h : k < length (fiel
   pub fields : drop k (fields_on body) ≡ get_or (fields_on body) k [] ∷ drop (k + 1) (fields_on body)
   fields = rw (add-one, drop-cons (fields_on body) k [])
 
-  pub goes : (e : ℕ) → e ≡ end_of body (at + 1) → Turn body at e (get_or (fields_on body) k []) (drop (k + 1) (fields_on body)) v.trailing
-  goes e is = turn body at e (get_or (fields_on body) k []) (drop (k + 1) (fields_on body)) v.trailing (rw fields at v.left) is
+  pub goes : Turn body at (end_of body (at + 1)) (get_or (fields_on body) k []) (drop (k + 1) (fields_on body)) v.trailing
+  goes = turn body at (end_of body (at + 1)) (get_or (fields_on body) k []) (drop (k + 1) (fields_on body)) v.trailing (rw fields at v.left) refl
 
   pub inside : at < length body
-  inside = (goes (end_of body (at + 1)) refl).inside
+  inside = goes.inside
 
-  pub at_next : (e : ℕ) → e ≡ end_of body (at + 1) → At body e (k + 1)
-  at_next e is = record { trailing = v.trailing; left = (goes e is).left }
+  -- f is what stands there
+  module _ {f : List ℕ} (is : f ≡ take (end_of body (at + 1) - (at + 1)) (drop (at + 1) body)) where
+    pub field_left : drop k (fields_on body) ≡ f ∷ drop (k + 1) (fields_on body)
+    field_left = rw (← goes.field, ← is) at fields
+
+    pub at_next : {e : ℕ} → e ≡ end_of body (at + 1) → At body e (k + 1)
+    at_next to = record { trailing = v.trailing; left = rw to (goes.left) }
 
 -- ---- one field
 
@@ -61,9 +66,9 @@ values_done p m fs = refl
 module _ (k : ℕ) (ks : List ℕ) (p m : ℕ) (f : List ℕ) (fs : List (List ℕ)) where
   -- it is read: the walk goes on
   pub answer_read : {v : Value} → read_in k p m f ≡ Ok v → (i : ℕ) (t : Bool)
-      → answer_from i t (k ∷ ks) p m (f ∷ fs) ≡ answer_from (suc i) t ks (trace_of k f) (marks_of k m f) fs
+      → answer_from i t (k ∷ ks) p m (f ∷ fs) ≡ answer_from (i + 1) t ks (trace_of k f) (marks_of k m f) fs
   unfolding answer_from
-  answer_read e i t = rw e
+  answer_read e i t = rw (e, add-one)
 
   pub values_read : {v : Value} → read_in k p m f ≡ Ok v → values_from (k ∷ ks) p m (f ∷ fs) ≡ v ∷ values_from ks (trace_of k f) (marks_of k m f) fs
   unfolding values_from
@@ -103,6 +108,10 @@ drop-replicate : {A : Type 0} (n i : ℕ) (a : A) → drop i (replicate n a) ≡
 drop-replicate n zero a = rw sub-zero
 drop-replicate zero (suc i) a = rw zero-sub
 drop-replicate (suc n) (suc i) a = rw suc-sub-suc (drop-replicate n i a)
+
+-- one value put, and then the others
+pub sets_next : (l : List Value) (k : ℕ) (v : Value) (vs : List Value) → sets l k (v ∷ vs) ≡ sets (set l k v) (k + 1) vs
+sets_next l k v vs = rw add-one
 
 -- nineteen empty places, of which the first take the values
 pub sets_padded : (vs : List Value) → length vs ≤ 19 → sets (replicate 19 none) 0 vs ≡ padded vs

@@ -1,19 +1,21 @@
 // The body of a message with fields: each field after one space, none empty, at the end at most one space more.
-ghost use Rattle.std.specs.Prelude.{◌≡◌};
+ghost use Rattle.std.specs.Prelude.{◌≡◌, ◌+◌, ◌-◌, ◌<◌, ◌≤◌, length, take, drop};
+ghost use Rattle.shapes.specs.Picture.{starts_at};
 ghost use Rattle.table.specs.Spacing.{count_of, end_of};
 
 use shapes::find;
 use shapes::sweeps::{has_twice, how_many};
 
-// The index of the first space from j on, or the body's length; j where that is past the end.
-pub(crate) fn field_end(body: &[u8], j: usize) -> usize
-    ensures { result ≡ end_of body.now j }
+// The field after the space at an index: what stands before the next space, or before the body's end.
+pub(crate) fn field_after<'a>(body: &'a [u8], at: usize) -> &'a [u8]
+    requires { at < length body.now }
+    ensures value { result.now ≡ take (end_of body.now (at + 1) - (at + 1)) (drop (at + 1) body.now) }
+    ensures size { at + 1 + length result.now ≡ end_of body.now (at + 1) }
+    ensures inside { at + 1 + length result.now ≤ length body.now }
+    ensures ref_ptr_value { result.ref_ptr ≡ starts_at body.entry.ref_ptr (at + 1) }
 {
-    if j > body.len() {
-        return j;
-    }
-    let m = find(b' ', &body[j..]);
-    j + m
+    let rest = &body[at + 1..];
+    &rest[..find(b' ', rest)]
 }
 
 pub(crate) fn count(body: &[u8]) -> Option<(usize, bool)>

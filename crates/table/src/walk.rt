@@ -52,14 +52,11 @@ pub(crate) fn read(kinds: &[u8], body: &[u8], trailing: bool) -> TableRead
 {
     let mut values = [Value { a: 0, b: 0, c: 0 }; 19];
     let mut at: usize = 0;
-    let mut k: usize = 0;
     let mut trace: u8 = 0;
     let mut marks: u8 = 0;
-    while k < kinds.len() {
-        let j = at + 1;
-        let e = spacing::field_end(body, j);
-        let kind = kinds[k];
-        let value = match field::read_field(kind, trace, marks, &body[j..e]) {
+    for (k, &kind) in kinds.iter().enumerate() {
+        let field = spacing::field_after(body, at);
+        let value = match field::read_field(kind, trace, marks, field) {
             Ok(value) => value,
             Err(read) => {
                 return TableRead {
@@ -69,10 +66,9 @@ pub(crate) fn read(kinds: &[u8], body: &[u8], trailing: bool) -> TableRead
             }
         };
         values[k] = value;
-        marks = kinds::marks_after(kind, marks, &body[j..e]);
-        trace = kinds::trace(kind, &body[j..e]);
-        at = e;
-        k += 1;
+        marks = kinds::marks_after(kind, marks, field);
+        trace = kinds::trace(kind, field);
+        at += 1 + field.len();
     }
     TableRead {
         answer: Ok((trailing, marks)),
@@ -89,21 +85,14 @@ pub(crate) fn route<'a>(kinds: &[u8], body: &'a [u8]) -> &'a [u8]
         return &body[..0];
     };
     let mut at: usize = 0;
-    let mut k: usize = 0;
     let mut trace: u8 = 0;
-    while k < n {
-        if k >= kinds.len() {
-            return &body[..0];
-        }
-        let kind = kinds[k];
-        let j = at + 1;
-        let e = spacing::field_end(body, j);
+    for &kind in &kinds[..n.min(kinds.len())] {
+        let field = spacing::field_after(body, at);
         if kinds::plain(kind, trace) == ROUTE {
-            return &body[j..e];
+            return field;
         }
-        trace = kinds::trace(kind, &body[j..e]);
-        at = e;
-        k += 1;
+        trace = kinds::trace(kind, field);
+        at += 1 + field.len();
     }
     &body[..0]
 }

@@ -73,7 +73,7 @@ decimal_short n = rw decimal_long (width_most 19 n)
 -- ---- no other digits
 
 -- how many digits n has, from the powers of 10 that it lies between
-width_is : (n m : ℕ) → n < 10 ^ 20 → 10 ^ m ≤ n → n < 10 ^ suc m → width_of n ≡ suc m
+pub width_is : (n m : ℕ) → n < 10 ^ 20 → 10 ^ m ≤ n → n < 10 ^ suc m → width_of n ≡ suc m
 width_is n m h lo hi = go (leb (width_of n) m) refl (leb (suc (suc m)) (width_of n)) refl
   where
     go : (t : Bool) → leb (width_of n) m ≡ t → (u : Bool) → leb (suc (suc m)) (width_of n) ≡ u → width_of n ≡ suc m

@@ -67,3 +67,10 @@ lend_on l us m e =
     let after = us ++ drop (0 + length us) (drop m l) in
     rw (e, take_all (length l - m) (drop m l) (le_of_eq (length-drop m l)), drop_of_length-le (drop m l) (le_of_eq (length-drop m l)), append-nil after, zero-add, drop-drop (length us) m l)
     (sym (append_assoc (take m l) us (drop (m + length us) l)))
+
+-- the bytes vs copied over the part of l that starts at i
+pub put_mid-spliced : (l vs ys : List ℕ) (i : ℕ) → ys ≡ vs → put_mid i (i + length vs - i) l ys ≡ spliced l i vs
+unfolding spliced
+put_mid-spliced l vs ys i e =
+    let k : i + length vs - i ≡ length vs = omega arith in
+    rw (e, k, drop-drop (length vs) i l) (sym (append_assoc (take i l) vs (drop (i + length vs) l)))

@@ -10,13 +10,10 @@ use crate::writing::has_room;
 pub fn size(n: u64) -> usize
     ensures { result ≡ length (decimal n) }
 {
-    let mut r = n;
-    let mut k: usize = 1;
-    while r >= 10 {
-        r = r / 10;
-        k += 1;
+    match n.checked_ilog10() {
+        Some(k) => k as usize + 1,
+        None => 1,
     }
-    k
 }
 
 // Writes the digits of n from place `at`, the last one first; without room it writes nothing.
@@ -29,9 +26,7 @@ pub fn put(n: u64, out: &mut [u8], at: usize) -> Result<usize, NotWritten>
         return Err(NotWritten::NoRoom);
     }
     let mut r = n;
-    let mut k = w;
-    while k > 0 {
-        k -= 1;
+    for k in (0..w).rev() {
         out[at + k] = 48 + (r % 10) as u8;
         r = r / 10;
     }

@@ -53,15 +53,13 @@ pub(crate) fn pack(s: &[u8]) -> Option<u64>
     }
     let mut n: u64 = 0;
     let mut w: u64 = TOP;
-    let mut i = 0;
-    while i < s.len() {
-        let c = code(s[i]);
+    for b in s {
+        let c = code(*b);
         if c == 0 {
             return None;
         }
         w = w / 38;
         n += c * w;
-        i += 1;
     }
     Some(n)
 }
@@ -87,11 +85,9 @@ pub fn pack_known(s: &[u8]) -> u64
 {
     let mut n: u64 = 0;
     let mut w: u64 = TOP;
-    let mut i = 0;
-    while i < s.len() {
+    for b in s {
         w = w / 38;
-        n += text_code(s[i]) * w;
-        i += 1;
+        n += text_code(*b) * w;
     }
     n
 }
@@ -107,9 +103,8 @@ pub fn number(s: &[u8], base: u64) -> Option<u64>
         return None;
     }
     let mut n: u64 = 0;
-    let mut i = 0;
-    while i < s.len() {
-        let c = code(s[i]);
+    for b in s {
+        let c = code(*b);
         if c == 0 {
             return None;
         }
@@ -117,7 +112,6 @@ pub fn number(s: &[u8], base: u64) -> Option<u64>
             return None;
         }
         n = n * base + (c - 1);
-        i += 1;
     }
     Some(n)
 }

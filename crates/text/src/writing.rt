@@ -29,6 +29,7 @@ pub fn size(t: u64) -> Option<usize>
     let mut r = t;
     let mut w: u64 = TOP;
     let mut k: usize = 0;
+    // What is left ends the loop and not a count: a `for` over the twelve places would only add a way out of its middle.
     while r > 0 {
         w = w / 38;
         if r < w {
@@ -60,6 +61,7 @@ fn write(t: u64, out: &mut [u8], at: usize) -> usize
     let mut r = t;
     let mut w: u64 = TOP;
     let mut j: usize = 0;
+    // As in `size`, what is left ends the loop and not a count, so no `for` is plainer.
     while r > 0 {
         w = w / 38;
         out[at + j] = byte(r / w);
@@ -95,12 +97,9 @@ pub fn put_bytes(s: &[u8], out: &mut [u8], at: usize) -> Result<usize, NotWritte
     if !has_room(s.len(), out.len(), at) {
         return Err(NotWritten::NoRoom);
     }
-    let mut i = 0;
-    while i < s.len() {
-        out[at + i] = s[i];
-        i += 1;
-    }
-    Ok(at + i)
+    let end = at + s.len();
+    out[at..end].copy_from_slice(s);
+    Ok(end)
 }
 
 // The number of the text of a, a slash and the text of b, where these are texts and 12 bytes hold them.

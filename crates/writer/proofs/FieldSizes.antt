@@ -2,7 +2,7 @@
 -- nothing.
 use Rattle.std.specs.Prelude.{Err, None, Option, Some}
 use mathlib.Core.Path.{◌≡◌, refl, sym, ap, ◌∙◌}
-use mathlib.Core.Bool.{Bool, true, false, cond, ◌&&◌}
+use mathlib.Core.Bool.{Bool, true, false, cond, ◌&&◌, and_assoc}
 use mathlib.Core.List.{List, [], ◌∷◌, ◌++◌}
 use Prim.Native.Nat.{ℕ, suc, ◌+◌, ◌≤◌, ◌<◌}
 use native.Mathlib.Nat.{zero-add, add-zero}
@@ -61,13 +61,13 @@ unfolding shown shown_kind
 route_shown k p r v e = rw (route_plain k p e, e)
 
 module _ (k p m : ℕ) (r : List ℕ) (v : Value) (e : plain k p ≡ ROUTE) where
-  pub route_not : (is_route r && eqb v.a 0 && is_one v) ≡ false → None ≡ sized_field k p m r v
+  pub route_not : (is_route r && (eqb v.a 0 && is_one v)) ≡ false → None ≡ sized_field k p m r v
   unfolding is_value is_kind_value
-  route_not h = field_not k p m r v (rw (route_plain k p e, e, h))
+  route_not h = field_not k p m r v (rw (route_plain k p e, e) (and_assoc (is_route r) (eqb v.a 0) (is_one v) ∙ h))
 
-  pub route_is : (is_route r && eqb v.a 0 && is_one v) ≡ true → sized_text k p m r ≡ sized_field k p m r v
+  pub route_is : (is_route r && (eqb v.a 0 && is_one v)) ≡ true → sized_text k p m r ≡ sized_field k p m r v
   unfolding is_value is_kind_value
-  route_is h = field_is k p m r v (rw (route_plain k p e, e, h)) r (route_shown k p r v e)
+  route_is h = field_is k p m r v (rw (route_plain k p e, e) (and_assoc (is_route r) (eqb v.a 0) (is_one v) ∙ h)) r (route_shown k p r v e)
 
 -- two triples under Some are equal only part by part
 triple_in : ℕ × ℕ × ℕ → Option (ℕ × ℕ × ℕ) → ℕ × ℕ × ℕ

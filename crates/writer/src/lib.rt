@@ -60,15 +60,13 @@ fn put_all(kinds: &[u8], values: [Value; 19], route: &[u8], out: &mut [u8]) -> u
     ensures out_after { out.new ≡ spliced out.old 0 (fields_text kinds.now route.now (take (length kinds.now) values)) }
 {
     let mut at: usize = 0;
-    let mut k: usize = 0;
     let mut trace: u8 = 0;
-    while k < kinds.len() {
+    for (k, &kind) in kinds.iter().enumerate() {
         out[at] = b' ';
         let j = at + 1;
-        let put = put_one(kinds[k], trace, values[k], route, &mut out[j..]);
+        let put = put_one(kind, trace, values[k], route, &mut out[j..]);
         trace = put.trace;
         at = j + put.end;
-        k += 1;
     }
     at
 }

@@ -1,9 +1,9 @@
 // How long a message's line will be, or that no line has these values (answer 16).
-ghost use Rattle.std.specs.Prelude.{◌≡◌, ◌≤◌, length, take, drop, ◌&&◌};
+ghost use Rattle.std.specs.Prelude.{◌≡◌, ◌≤◌, length, take, drop, eqb, ◌&&◌};
 ghost use Rattle.rules.specs.Frame.{longest_line};
 ghost use Rattle.rules.specs.declared.Rule.TheVariants.{New, Old};
 ghost use Rattle.fields.specs.Head.{sequence_in, stamp_in, facility_in};
-ghost use Rattle.table.specs.Field.{ROUTE, plain as plainly};
+ghost use Rattle.table.specs.Field.{ROUTE, is_one, plain as plainly};
 ghost use Rattle.messages.specs.Allowed.{all_none};
 ghost use Rattle.writer.specs.Size.{AllAsks, sized_text, sized_field, sized_all, sized_fields, sized_body, sized_line};
 
@@ -29,21 +29,19 @@ fn size_text(kind: u8, trace: u8, marks: u8, s: &[u8]) -> Option<(usize, u8, u8)
     Some((s.len(), next, after))
 }
 
+// Whether a value keeps nothing.
+fn is_none(v: Value) -> bool
+    ensures { result ≡ (eqb v.a 0 && is_one v) }
+{
+    v.a == 0 && v.b == 0 && v.c == 0
+}
+
 // A route keeps nothing in its value, and may be longer than any other field.
 fn size_route(kind: u8, trace: u8, marks: u8, v: Value, route: &[u8]) -> Option<(usize, u8, u8)>
     requires { plainly kind trace ≡ ROUTE }
     ensures { result ≡ sized_field kind trace marks route.now v }
 {
-    if !rules::is_route(route) {
-        return None;
-    }
-    if v.a != 0 {
-        return None;
-    }
-    if v.b != 0 {
-        return None;
-    }
-    if v.c != 0 {
+    if !rules::is_route(route) || !is_none(v) {
         return None;
     }
     size_text(kind, trace, marks, route)
@@ -69,15 +67,13 @@ fn size_all(kinds: &[u8], values: [Value; 19], route: &[u8]) -> Option<(usize, u
     ensures { result ≡ sized_all kinds.now route.now (take (length kinds.now) values) }
 {
     let mut size: usize = 0;
-    let mut k: usize = 0;
     let mut trace: u8 = 0;
     let mut marks: u8 = 0;
-    while k < kinds.len() {
-        let (n, next, after) = size_field(kinds[k], trace, marks, values[k], route)?;
+    for (k, &kind) in kinds.iter().enumerate() {
+        let (n, next, after) = size_field(kind, trace, marks, values[k], route)?;
         size += n + 1;
         trace = next;
         marks = after;
-        k += 1;
     }
     Some((size, marks))
 }
@@ -86,19 +82,10 @@ fn size_all(kinds: &[u8], values: [Value; 19], route: &[u8]) -> Option<(usize, u
 fn is_none_from(values: [Value; 19], n: usize) -> bool
     ensures { result ≡ all_none (drop n values) }
 {
-    let mut k = n;
-    while k < 19 {
-        let v = values[k];
-        if v.a != 0 {
+    for k in n..19 {
+        if !is_none(values[k]) {
             return false;
         }
-        if v.b != 0 {
-            return false;
-        }
-        if v.c != 0 {
-            return false;
-        }
-        k += 1;
     }
     true
 }

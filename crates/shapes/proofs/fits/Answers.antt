@@ -1,54 +1,18 @@
--- `shapes::fits` meets its contract: what is left of the picture fits what is left of the bytes as the whole fits the whole.
--- Assumes nothing.
-use mathlib.Core.Path.{◌≡◌, refl, sym, ◌∙◌}
-use mathlib.Core.Bool.{true, false}
-use mathlib.Core.List.{List, ◌∷◌}
-use Prim.Native.Nat.{ℕ, ◌+◌, ◌≤◌, ◌<◌}
-use native.Mathlib.Omega.{arith}
-use lib.ListN.{length, get_or, drop, drop_of_length-le}
-use Rattle.text.proofs.Logic.{so, not_so}
-use Rattle.shapes.specs.Picture.{is_of, fits as fitting}
-use Rattle.shapes.proofs.Laws.{next_byte, fits_apart}
-use Rattle.shapes.proofs.fits.Invariants.{Inv}
+-- `shapes::fits` meets its contract: of one length, each byte what its letter stands for. Assumes nothing.
+use Rattle.std.proofs.Common.{◌∙◌, sym, rules}
+use borrow.Author.Tests.{tests, ne_eqb}
+use Rattle.std.proofs.lemmas.Iterator.{YieldsList-from_slice, YieldsList-from_zip}
+use Rattle.std.proofs.lemmas.Iterator.Search.{all_from_yields_List}
+use Rattle.shapes.specs.Picture.{is_of}
+use Rattle.shapes.proofs.Chains.{pairs_fit}
+use Rattle.shapes.proofs.Laws.{fits_apart}
 use Rattle.shapes.proofs.fits.Goals as goal
 
-module _ {p s : List ℕ} {i : ℕ} (v : Inv p s i) where
-  done : length s ≤ i → true ≡ fitting p s
-  unfolding fitting
-  done h = let k : length p ≤ i = omega (arith, v.same) in rw (drop_of_length-le p k, drop_of_length-le s h) at v.rest
-
-  module _ (more : i < length s) where
-    more_p : i < length p
-    more_p = omega (arith, v.same)
-
-    turn : fitting (drop i p) (drop i s) ≡ fitting (get_or p i 0 ∷ drop (i + 1) p) (get_or s i 0 ∷ drop (i + 1) s)
-    turn = rw (next_byte p i more_p, next_byte s i more)
-
-    again : is_of (get_or p i 0) (get_or s i 0) ≡ true → Inv p s (i + 1)
-    unfolding fitting
-    again e = record { same = v.same; at = omega arith; rest = (rw e at (sym turn)) ∙ v.rest }
-
-    bad : is_of (get_or p i 0) (get_or s i 0) ≡ false → false ≡ fitting p s
-    unfolding fitting
-    bad e = (rw e at (sym turn)) ∙ v.rest
-
 pub returns-then-picture-s : goal.returns-then-picture-s
-returns-then-picture-s c = sym (fits_apart _ _ c.if-picture-s.true)
+returns-then-picture-s c =
+    let a = c.args in
+    all_from_yields_List (λ x. is_of x.0 x.1) c.all.new.self _ _ c.all.ensures.ran (YieldsList-from_zip (YieldsList-from_slice a.picture.now cc) (YieldsList-from_slice a.s.now (search rules))) (λ x b q k. search (rules, tests))
+    ∙ pairs_fit a.picture.now a.s.now c.if-picture-s.true
 
-pub loop-i-init : goal.loop-i-init
-loop-i-init c = record { same = c.if-picture-s.false; at = omega arith; rest = refl }
-
-pub bounds-picture-i : goal.bounds-picture-i
-bounds-picture-i c = omega (arith, c.loop-i.invariant.same)
-
-pub is_of-requires : goal.is_of-requires
-is_of-requires c = tt
-
-pub returns-then-not-is_of : goal.returns-then-not-is_of
-returns-then-not-is_of c = bad c.loop-i.invariant c.loop-i-test.true (not_so c.is_of.ensures c.if-not-is_of.true-raw)
-
-pub loop-i-preserved : goal.loop-i-preserved
-loop-i-preserved c = again c.loop-i.invariant c.loop-i-test.true (so c.is_of.ensures c.if-not-is_of.false-raw)
-
-pub returns : goal.returns
-returns c = done c.loop-i.invariant c.loop-i-test.false
+pub returns-else-picture-s : goal.returns-else-picture-s
+returns-else-picture-s c = ne_eqb _ _ c.if-picture-s.false ∙ sym (fits_apart _ _ c.if-picture-s.false)

@@ -1,57 +1,25 @@
--- `shapes::run` meets its contract: the bytes that are left are of the class as all of them are. Assumes nothing.
-use mathlib.Core.Path.{◌≡◌, refl}
-use mathlib.Core.Bool.{true, false}
-use mathlib.Core.List.{List, ◌∷◌}
-use Prim.Native.Nat.{ℕ, ◌+◌, ◌≤◌, ◌<◌}
-use native.Mathlib.Omega.{arith}
-use lib.ListN.{length, get_or, drop, drop_of_length-le}
-use borrow.Author.Tests.{le-leb, lt-leb}
-use Rattle.text.proofs.Logic.{so, not_so}
-use Rattle.text.specs.Class.{all}
+-- `shapes::run` meets its contract: within the limits, each byte of the class. Assumes nothing.
+use Rattle.std.proofs.Common.{◌≡◌, ◌∙◌, false, ◌⊎◌, inl, inr, length, List, ℕ, ◌≤◌, ◌<◌, rules}
+use borrow.Author.Tests.{tests, le-leb, lt-leb}
+use Rattle.std.proofs.lemmas.Iterator.{YieldsList-from_slice}
+use Rattle.std.proofs.lemmas.Iterator.Search.{all_from_yields_List}
 use Rattle.shapes.specs.Picture.{is_of, run as running}
-use Rattle.shapes.proofs.Laws.{next_byte}
-use Rattle.shapes.proofs.run.Invariants.{Inv}
+use Rattle.shapes.proofs.Chains.{each_is}
 use Rattle.shapes.proofs.run.Goals as goal
 
-module _ {k least most : ℕ} {s : List ℕ} {i : ℕ} (v : Inv k least most s i) where
-  done : length s ≤ i → true ≡ running k least most s
-  unfolding running all
-  done h = rw (le-leb least (length s) v.long, le-leb (length s) most v.short) (rw (drop_of_length-le s h) at v.rest)
-
-  module _ (more : i < length s) where
-    turn : all (is_of k) (get_or s i 0 ∷ drop (i + 1) s) ≡ all (is_of k) s
-    turn = rw (← (next_byte s i more)) v.rest
-
-    again : is_of k (get_or s i 0) ≡ true → Inv k least most s (i + 1)
-    unfolding all
-    again e = record { long = v.long; short = v.short; at = omega arith; rest = rw e at turn }
-
-    bad : is_of k (get_or s i 0) ≡ false → false ≡ running k least most s
-    unfolding running all
-    bad e = rw (le-leb least (length s) v.long, le-leb (length s) most v.short) (rw e at turn)
-
-pub returns-then-s-least : goal.returns-then-s-least
+outside : (k least most : ℕ) (s : List ℕ) → (least ≤ length s × most < length s) ⊎ (length s < least) → running k least most s ≡ false
 unfolding running
-returns-then-s-least c = rw (lt-leb _ _ c.if-s-least.true)
+outside k least most s (inl p) = rw (le-leb least (length s) p.0, lt-leb (length s) most p.1)
+outside k least most s (inr h) = rw (lt-leb least (length s) h)
 
 pub returns-then-s-most : goal.returns-then-s-most
 unfolding running
-returns-then-s-most c = rw (le-leb _ _ c.if-s-least.false, lt-leb _ _ c.if-s-most.true)
+returns-then-s-most c =
+    let a = c.args in
+    let room = c.if-s-most.true in
+    all_from_yields_List (is_of a.k) _ _ _ c.all.ensures.ran (YieldsList-from_slice a.s.now cc) (λ x b q k. search (rules, tests))
+    ∙ each_is (is_of a.k) a.s.now
+    ∙ rw (le-leb _ _ room.0, le-leb _ _ room.1)
 
-pub loop-i-init : goal.loop-i-init
-unfolding running
-loop-i-init c = record { long = c.if-s-least.false; short = c.if-s-most.false; at = omega arith; rest = refl }
-
-pub is_of-requires : goal.is_of-requires
-unfolding running
-is_of-requires c = tt
-
-pub returns-then-not-is_of : goal.returns-then-not-is_of
-returns-then-not-is_of c = bad c.loop-i.invariant c.loop-i-test.true (not_so c.is_of.ensures c.if-not-is_of.true-raw)
-
-pub loop-i-preserved : goal.loop-i-preserved
-loop-i-preserved c = again c.loop-i.invariant c.loop-i-test.true (so c.is_of.ensures c.if-not-is_of.false-raw)
-
-pub returns : goal.returns
-unfolding running
-returns c = done c.loop-i.invariant c.loop-i-test.false
+pub returns-else-s-most : goal.returns-else-s-most
+returns-else-s-most c = let a = c.args in rw (outside a.k a.least a.most a.s.now c.if-s-most.either) (search rules)

@@ -77,9 +77,9 @@ pub returns-then-s-gt12 : goal.returns-then-s-gt12
 unfolding read_number is_numeral
 returns-then-s-gt12 c = simp (le-leb _ _ c.if-base-gt36.false, lt-leb _ _ c.if-s-gt12.true)
 
-pub loop-i-init : goal.loop-i-init
+pub loop-b-init : goal.loop-b-init
 unfolding read_number is_numeral
-loop-i-init c = begin _ _ c.if-s-gt12.false c.if-base-gt36.false
+loop-b-init c = begin _ _ c.if-s-gt12.false c.if-base-gt36.false
 
 pub code-c-requires : goal.code-c-requires
 unfolding read_number is_numeral
@@ -88,26 +88,26 @@ code-c-requires c = tt
 pub returns-then-c-eq0 : goal.returns-then-c-eq0
 returns-then-c-eq0 c =
     let k = c.code-c in
-    bad c.loop-i.invariant k.result c.loop-i-test.true k.ensures (rw c.if-c-eq0.true)
+    bad c.loop-b.invariant k.result c.loop-b-test.true k.ensures (rw c.if-c-eq0.true)
 
 pub returns-then-c-base : goal.returns-then-c-base
 returns-then-c-base c =
     let k = c.code-c in
-    bad c.loop-i.invariant k.result c.loop-i-test.true k.ensures (rw (lt-leb _ _ c.if-c-base.true, and-false))
+    bad c.loop-b.invariant k.result c.loop-b-test.true k.ensures (rw (lt-leb _ _ c.if-c-base.true, and-false))
 
 pub overflow_mul-n : goal.overflow_mul-n
 unfolding read_number is_numeral
-overflow_mul-n c = omega (arith, (let k = c.code-c in fits c.loop-i.invariant k.result c.loop-i-test.true k.ensures (omega arith) c.if-c-base.false))
+overflow_mul-n c = omega (arith, (let k = c.code-c in fits c.loop-b.invariant k.result c.loop-b-test.true k.ensures (omega arith) c.if-c-base.false))
 
 pub overflow_add-n : goal.overflow_add-n
 unfolding read_number is_numeral
-overflow_add-n c = omega (arith, (let k = c.code-c in fits c.loop-i.invariant k.result c.loop-i-test.true k.ensures (omega arith) c.if-c-base.false))
+overflow_add-n c = omega (arith, (let k = c.code-c in fits c.loop-b.invariant k.result c.loop-b-test.true k.ensures (omega arith) c.if-c-base.false))
 
-pub loop-i-preserved : goal.loop-i-preserved
-loop-i-preserved c =
+pub loop-b-preserved : goal.loop-b-preserved
+loop-b-preserved c =
     let k = c.code-c in
-    again c.loop-i.invariant k.result c.loop-i-test.true k.ensures (omega arith) c.if-c-base.false
+    again c.loop-b.invariant k.result c.loop-b-test.true k.ensures (omega arith) c.if-c-base.false
 
 pub returns : goal.returns
 unfolding read_number is_numeral
-returns c = done c.loop-i.invariant c.loop-i-test.false
+returns c = done c.loop-b.invariant c.loop-b-test.false

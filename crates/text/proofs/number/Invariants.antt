@@ -17,8 +17,5 @@ pub record Inv (s : List ℕ) (B n i : ℕ) : Type 0 where
   pub sum : n * B ^ (length s - i) + value B (length s - i) (map digit_of (drop i s)) ≡ number_of B s
   pub rest : all (is_digit_to B) (drop i s) ≡ all (is_digit_to B) s
 
-abbrev pub invariant-loop-i : goal.invariant-loop-i
-invariant-loop-i l = Inv l.s l.base l.n l.i
-
-abbrev pub decreases-loop-i : goal.decreases-loop-i
-decreases-loop-i l = length l.s - l.i
+abbrev pub invariant-loop-b : goal.invariant-loop-b
+invariant-loop-b l = Inv l.s l.base l.n l.b-index

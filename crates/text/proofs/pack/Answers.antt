@@ -30,9 +30,9 @@ pub returns-then-s-gt12 : goal.returns-then-s-gt12
 unfolding pack_of is_text
 returns-then-s-gt12 c = simp (lt-leb _ _ c.if-s-gt12.true)
 
-pub loop-i-init : goal.loop-i-init
+pub loop-b-init : goal.loop-b-init
 unfolding pack_of is_text
-loop-i-init c = begin _ c.if-s-gt12.false
+loop-b-init c = begin _ c.if-s-gt12.false
 
 pub code-c-requires : goal.code-c-requires
 unfolding pack_of is_text
@@ -41,21 +41,21 @@ code-c-requires c = tt
 pub returns-then-c-eq0 : goal.returns-then-c-eq0
 returns-then-c-eq0 c =
     let k = c.code-c in
-    bad c.loop-i.invariant k.result c.loop-i-test.true k.ensures c.if-c-eq0.true
+    bad c.loop-b.invariant k.result c.loop-b-test.true k.ensures c.if-c-eq0.true
 
 pub overflow_mul-n : goal.overflow_mul-n
 unfolding pack_of is_text
-overflow_mul-n c = omega (arith, (let k = c.code-c in fits c.loop-i.invariant k.result c.loop-i-test.true k.ensures))
+overflow_mul-n c = omega (arith, (let k = c.code-c in fits c.loop-b.invariant k.result c.loop-b-test.true k.ensures))
 
 pub overflow_add-n : goal.overflow_add-n
 unfolding pack_of is_text
-overflow_add-n c = omega (arith, (let k = c.code-c in fits c.loop-i.invariant k.result c.loop-i-test.true k.ensures))
+overflow_add-n c = omega (arith, (let k = c.code-c in fits c.loop-b.invariant k.result c.loop-b-test.true k.ensures))
 
-pub loop-i-preserved : goal.loop-i-preserved
-loop-i-preserved c =
+pub loop-b-preserved : goal.loop-b-preserved
+loop-b-preserved c =
     let k = c.code-c in
-    again c.loop-i.invariant k.result c.loop-i-test.true k.ensures (omega (arith, c.if-c-eq0.false))
+    again c.loop-b.invariant k.result c.loop-b-test.true k.ensures (omega (arith, c.if-c-eq0.false))
 
 pub returns : goal.returns
 unfolding pack_of is_text
-returns c = done c.loop-i.invariant c.loop-i-test.false
+returns c = done c.loop-b.invariant c.loop-b-test.false

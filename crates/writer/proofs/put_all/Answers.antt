@@ -83,43 +83,31 @@ module _ {ks r : List ℕ} {vs : List Value} {out₀ out : List ℕ} {at k p : �
             text = rw (o, e, l) (g ∙ t);
           }
 
+    within : at + 1 ≤ length out
+    within = omega (arith, fits (get_or vs k none) refl)
+
 pub loop-k-init : goal.loop-k-init
 loop-k-init c = start _ _ _ _ c.requires
 
 pub bounds-out-at : goal.bounds-out-at
-bounds-out-at c =
-    let roomy : let a = c.args in c.loop-k.at + 1 + length (shown (get_or a.kinds.now c.loop-k.k 0) c.loop-k.trace a.route.now (get_or a.values c.loop-k.k none)) ≤ length c.loop-k.out = fits c.loop-k.invariant c.loop-k-test.true _ (get_or-take _ _ _ _ c.loop-k-test.true) in
-    omega (arith, roomy)
-
-pub overflow_add-j : goal.overflow_add-j
-overflow_add-j c =
-    let roomy : let a = c.args in c.loop-k.at + 1 + length (shown (get_or a.kinds.now c.loop-k.k 0) c.loop-k.trace a.route.now (get_or a.values c.loop-k.k none)) ≤ length c.loop-k.out = fits c.loop-k.invariant c.loop-k-test.true _ (get_or-take _ _ _ _ c.loop-k-test.true) in
-    omega (arith, roomy)
+bounds-out-at c = omega (arith, within c.loop-k.invariant c.loop-k-test.true)
 
 pub slice_bounds-put_one-count : goal.slice_bounds-put_one-count
-slice_bounds-put_one-count c =
-    let roomy : let a = c.args in c.loop-k.at + 1 + length (shown (get_or a.kinds.now c.loop-k.k 0) c.loop-k.trace a.route.now (get_or a.values c.loop-k.k none)) ≤ length c.loop-k.out = fits c.loop-k.invariant c.loop-k-test.true _ (get_or-take _ _ _ _ c.loop-k-test.true) in
-    simp length-set (omega (arith, roomy))
+slice_bounds-put_one-count c = simp length-set (within c.loop-k.invariant c.loop-k-test.true)
 
 pub slice_bounds-put_one-start : goal.slice_bounds-put_one-start
-slice_bounds-put_one-start c =
-    let roomy : let a = c.args in c.loop-k.at + 1 + length (shown (get_or a.kinds.now c.loop-k.k 0) c.loop-k.trace a.route.now (get_or a.values c.loop-k.k none)) ≤ length c.loop-k.out = fits c.loop-k.invariant c.loop-k-test.true _ (get_or-take _ _ _ _ c.loop-k-test.true) in
-    simp length-set (omega (arith, roomy))
+slice_bounds-put_one-start c = simp length-set (within c.loop-k.invariant c.loop-k-test.true)
 
 pub put_one-put-requires : goal.put_one-put-requires
 put_one-put-requires c = asks c.loop-k.invariant c.loop-k-test.true _ (get_or-take _ _ _ _ c.loop-k-test.true)
 
-pub overflow_add-at : goal.overflow_add-at
-overflow_add-at c =
-    let roomy : let a = c.args in c.loop-k.at + 1 + length (shown (get_or a.kinds.now c.loop-k.k 0) c.loop-k.trace a.route.now (get_or a.values c.loop-k.k none)) ≤ length c.loop-k.out = fits c.loop-k.invariant c.loop-k-test.true _ (get_or-take _ _ _ _ c.loop-k-test.true) in
-    omega (arith, c.put_one-put.ensures.end_value, roomy)
-
 pub loop-k-preserved : goal.loop-k-preserved
 loop-k-preserved c =
-    again c.loop-k.invariant c.loop-k-test.true _ (get_or-take _ _ _ _ c.loop-k-test.true) _ _ _ c.put_one-put.ensures.end_value c.put_one-put.ensures.trace_value c.put_one-put.ensures.out_after
+    let put = c.put_one-put.ensures in
+    again c.loop-k.invariant c.loop-k-test.true _ (get_or-take _ _ _ _ c.loop-k-test.true) _ _ _ put.end_value put.trace_value put.out_after
 
-pub shape_of-out : goal.shape_of-out
-shape_of-out c = c.loop-k.invariant.same
+pub overflow_add-at : goal.overflow_add-at
+overflow_add-at c = let n = loop-k-preserved c in omega (arith, n.size, n.room)
 
 pub returns : goal.returns
 returns c =

@@ -3,7 +3,7 @@
 use mathlib.Core.Path.{◌≡◌}
 use mathlib.Core.Bool.{true, false}
 use mathlib.Core.List.{List}
-use Prim.Native.Nat.{ℕ, ◌+◌, ◌-◌, ◌≤◌}
+use Prim.Native.Nat.{ℕ, ◌+◌, ◌≤◌}
 use lib.ListN.{length, take, drop}
 use Rattle.text.specs.Text.{spliced}
 use Rattle.table.specs.Spacing.{body_of}
@@ -27,6 +27,3 @@ pub record Inv (ks r : List ℕ) (vs : List Value) (out₀ out : List ℕ) (at k
 
 abbrev pub invariant-loop-k : goal.invariant-loop-k
 invariant-loop-k l = Inv l.kinds l.route (take (length l.kinds) l.values) l.initial.out l.out l.at l.k l.trace
-
-abbrev pub decreases-loop-k : goal.decreases-loop-k
-decreases-loop-k l = length l.kinds - l.k

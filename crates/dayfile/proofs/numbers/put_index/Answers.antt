@@ -1,22 +1,13 @@
--- `numbers::put_index` meets its contract. Assumes nothing.
-use native.Mathlib.Omega.{arith}
-use Rattle.dayfile.proofs.Puts.{index_begun, index_put, index_next}
+-- `numbers::put_index` meets its contract: the offsets so far are written. Assumes nothing.
+use mathlib.Core.Path.{sym}
+use Rattle.text.proofs.Splice.{spliced_none}
+use Rattle.dayfile.specs.DayFile.{index_of}
+use Rattle.dayfile.proofs.Puts.{index_next}
 use Rattle.dayfile.proofs.numbers.put_index.Goals as goal
 
 pub loop-k-init : goal.loop-k-init
-loop-k-init c = index_begun _ _ _ c.requires
-
-pub overflow_cast-offsets : goal.overflow_cast-offsets
-overflow_cast-offsets c = omega (arith, c.shared_slice_known-in-loop-k-1.given c.loop-k.k)
-
-pub put_number-requires : goal.put_number-requires
-put_number-requires c = record { n_bound = omega (arith, c.shared_slice_known-in-loop-k-1.given c.loop-k.k); wide_in_bounds = omega arith }
+unfolding index_of
+loop-k-init c = sym (spliced_none _ _)
 
 pub loop-k-preserved : goal.loop-k-preserved
-loop-k-preserved c = index_next c.loop-k.invariant c.loop-k-test.true c.put_number.ensures
-
-pub shape_of-out : goal.shape_of-out
-shape_of-out c = c.loop-k.invariant.same
-
-pub returns : goal.returns
-returns c = index_put c.loop-k.invariant c.loop-k-test.false
+loop-k-preserved c = index_next _ _ _ _ _ c.requires c.loop-k-test.true c.loop-k.invariant c.put_number.ensures

@@ -1,11 +1,9 @@
--- `numbers::put_index` meets its contract. Assumes nothing.
-use Prim.Native.Nat.{◌-◌}
-use lib.ListN.{length}
-use Rattle.dayfile.proofs.Puts.{Index}
+-- `numbers::put_index` meets its contract: the offsets so far are written. Assumes nothing.
+use mathlib.Core.Path.{◌≡◌}
+use lib.ListN.{take}
+use Rattle.text.specs.Text.{spliced}
+use Rattle.dayfile.specs.DayFile.{index_of}
 use Rattle.dayfile.proofs.numbers.put_index.Given as goal
 
 abbrev pub invariant-loop-k : goal.invariant-loop-k
-invariant-loop-k l = Index l.offsets l.at l.initial.out l.out l.k
-
-abbrev pub decreases-loop-k : goal.decreases-loop-k
-decreases-loop-k l = length l.offsets - l.k
+invariant-loop-k l = l.out ≡ spliced l.initial.out l.at (index_of (take l.k l.offsets))

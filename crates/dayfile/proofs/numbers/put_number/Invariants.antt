@@ -4,6 +4,3 @@ use Rattle.dayfile.proofs.numbers.put_number.Given as goal
 
 abbrev pub invariant-loop-k : goal.invariant-loop-k
 invariant-loop-k l = Number l.n l.wide l.at l.initial.out l.out l.r l.k
-
-abbrev pub decreases-loop-k : goal.decreases-loop-k
-decreases-loop-k l = l.k

@@ -1,32 +1,13 @@
--- `shapes::sweeps::each_within` meets its contract: the bytes that were seen and those that are left are within the limits as all of them
--- are. Assumes nothing.
-use mathlib.Core.Path.{◌≡◌, refl}
-use mathlib.Core.Bool.{Bool, ◌&&◌, and-true, and_assoc}
-use mathlib.Core.List.{List}
-use Prim.Native.Nat.{ℕ, ◌+◌, ◌≤◌, ◌<◌}
-use native.Mathlib.Omega.{arith}
-use lib.Dec.{leb}
-use lib.ListN.{length, get_or, drop_of_length-le}
-use Rattle.text.specs.Class.{all}
-use Rattle.text.specs.Place.{all_in}
-use Rattle.shapes.proofs.Laws.{next_byte}
-use Rattle.shapes.proofs.sweeps.each_within.Invariants.{Inv}
+-- `shapes::sweeps::each_within` meets its contract: a pass to the end is a pass over each byte. Assumes nothing.
+use Rattle.std.proofs.Common.{◌∙◌, true, ◌&&◌, leb, rules}
+use borrow.Author.Tests.{tests}
+use Rattle.std.proofs.lemmas.Iterator.{YieldsList-from_slice}
+use Rattle.std.proofs.lemmas.Iterator.Consumers.{fold_from_yields_List}
+use Rattle.shapes.proofs.Chains.{each_and_within}
 use Rattle.shapes.proofs.sweeps.each_within.Goals as goal
 
-module _ {lo hi : ℕ} {s : List ℕ} {seen : Bool} {i : ℕ} (v : Inv lo hi s seen i) where
-  done : length s ≤ i → seen ≡ all_in lo hi s
-  unfolding all_in all
-  done h = rw (drop_of_length-le s h, and-true) at v.rest
-
-  again : i < length s → Inv lo hi s (seen && leb lo (get_or s i 0) && leb (get_or s i 0) hi) (i + 1)
-  unfolding all_in all
-  again h = record { at = omega arith; rest = simp and_assoc (simp (next_byte s i h, and_assoc) at v.rest) }
-
-pub loop-i-init : goal.loop-i-init
-loop-i-init c = record { at = omega arith; rest = refl }
-
-pub loop-i-preserved : goal.loop-i-preserved
-loop-i-preserved c = again c.loop-i.invariant c.loop-i-test.true
-
 pub returns : goal.returns
-returns c = done c.loop-i.invariant c.loop-i-test.false
+returns c =
+    let a = c.args in
+    fold_from_yields_List _ (λ t b. t && leb a.lo b && leb b a.hi) _ _ c.fold.ensures.ran (YieldsList-from_slice a.s.now cc) (λ t x b q k. search (rules, tests))
+    ∙ each_and_within a.lo a.hi true a.s.now

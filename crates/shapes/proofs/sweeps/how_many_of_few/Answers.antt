@@ -20,14 +20,14 @@ module _ {b : ℕ} {s : List ℕ} {n i : ℕ} (v : Counting b s n i) where
   again h =
       record { at = omega arith; rest = omega (arith, v.rest, ap (how_many b) (next_byte s i h), many_more b (get_or s i 0) (drop (i + 1) s)) }
 
-pub loop-i-init : goal.loop-i-init
-loop-i-init c = record { at = omega arith; rest = omega arith }
+pub loop-x-init : goal.loop-x-init
+loop-x-init c = record { at = omega arith; rest = omega arith }
 
 pub overflow_add-n : goal.overflow_add-n
-overflow_add-n c = omega (arith, (again c.loop-i.invariant c.loop-i-test.true).rest, many_le c.args.b c.args.s.now, c.requires)
+overflow_add-n c = omega (arith, (again c.loop-x.invariant c.loop-x-test.true).rest, many_le c.args.b c.args.s.now, c.requires)
 
-pub loop-i-preserved : goal.loop-i-preserved
-loop-i-preserved c = again c.loop-i.invariant c.loop-i-test.true
+pub loop-x-preserved : goal.loop-x-preserved
+loop-x-preserved c = again c.loop-x.invariant c.loop-x-test.true
 
 pub returns : goal.returns
-returns c = done c.loop-i.invariant c.loop-i-test.false
+returns c = done c.loop-x.invariant c.loop-x-test.false

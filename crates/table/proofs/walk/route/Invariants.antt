@@ -1,7 +1,7 @@
 -- `table::walk::route` meets its contract: the route of what is left is the route of the whole. Assumes nothing.
 use mathlib.Core.Path.{◌≡◌}
 use mathlib.Core.List.{List}
-use Prim.Native.Nat.{ℕ, ◌-◌}
+use Prim.Native.Nat.{ℕ}
 use lib.ListN.{length, drop}
 use Rattle.table.specs.Read.{route_in, route_of, route_from, route_at}
 use Rattle.table.proofs.WalkWays.{fields_on, At}
@@ -13,8 +13,5 @@ pub record Inv (ks body : List ℕ) (n at k p : ℕ) : Type 0 where
   pub told : route_in (drop k ks) p (drop k (fields_on body)) ≡ route_of ks body
   pub stands : route_from at (drop k ks) p (drop k (fields_on body)) ≡ route_at ks body
 
-abbrev pub invariant-loop-k : goal.invariant-loop-k
-invariant-loop-k l = Inv l.kinds l.body l.n l.at l.k l.trace
-
-abbrev pub decreases-loop-k : goal.decreases-loop-k
-decreases-loop-k l = l.n - l.k
+abbrev pub invariant-loop-kind : goal.invariant-loop-kind
+invariant-loop-kind l = Inv l.kinds l.body l.n l.at l.kind-index l.trace

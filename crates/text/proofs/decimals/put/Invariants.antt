@@ -19,6 +19,3 @@ pub record Inv (n at w : ℕ) (out₀ out : List ℕ) (r k : ℕ) : Type 0 where
 
 abbrev pub invariant-loop-k : goal.invariant-loop-k
 invariant-loop-k l = Inv l.n l.at l.w l.initial.out l.out l.r l.k
-
-abbrev pub decreases-loop-k : goal.decreases-loop-k
-decreases-loop-k l = l.k

@@ -45,28 +45,19 @@ module _ {ks r : List ℕ} {ws : List Value} {n k p m : ℕ} (v : Inv ks r ws n 
         }
 
 pub loop-k-init : goal.loop-k-init
-loop-k-init c =
-    record { asks = c.requires; whole = c.well_formed.1.0.1.0.1; place = omega arith; few = omega arith; rest = from_all _ _ _ }
-
-pub bounds-values-k : goal.bounds-values-k
-bounds-values-k c = omega (arith, c.loop-k.invariant.asks.few)
+loop-k-init c = record { asks = c.requires; whole = c.well_formed.1.0.1.0.1; place = omega arith; few = omega arith; rest = from_all _ _ _ }
 
 pub returns-in_err-n : goal.returns-in_err-n
 returns-in_err-n c = c.from_residual.ensures ∙ stops c.loop-k.invariant c.loop-k-test.true (sym c.in_err-n.ensures)
 
+pub loop-k-preserved : goal.loop-k-preserved
+loop-k-preserved c = again c.loop-k.invariant c.loop-k-test.true _ _ _ (sym c.in_ok-n.ensures)
+
 pub overflow_add-size : goal.overflow_add-size
-overflow_add-size c =
-    let turns = again c.loop-k.invariant c.loop-k-test.true _ _ _ (sym c.in_ok-n.ensures) in
-    omega (arith, turns.few, turns.place, turns.asks.few)
+overflow_add-size c = let n = again c.loop-k.invariant c.loop-k-test.true _ _ _ (sym c.in_ok-n.ensures) in omega (arith, n.few, n.place, n.asks.few)
 
 pub overflow_add-size-in-loop-k : goal.overflow_add-size-in-loop-k
-overflow_add-size-in-loop-k c =
-    let turns = again c.loop-k.invariant c.loop-k-test.true _ _ _ (sym c.in_ok-n.ensures) in
-    omega (arith, turns.few, turns.place, turns.asks.few)
-
-pub loop-k-preserved : goal.loop-k-preserved
-loop-k-preserved c =
-    again c.loop-k.invariant c.loop-k-test.true _ _ _ (sym c.in_ok-n.ensures)
+overflow_add-size-in-loop-k c = let n = loop-k-preserved c in omega (arith, n.few, n.place, n.asks.few)
 
 pub returns : goal.returns
 returns c = done c.loop-k.invariant c.loop-k-test.false

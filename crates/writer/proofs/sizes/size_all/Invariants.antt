@@ -2,7 +2,7 @@
 -- nothing.
 use mathlib.Core.Path.{◌≡◌}
 use mathlib.Core.List.{List}
-use Prim.Native.Nat.{ℕ, ◌-◌, ◌*◌, ◌≤◌}
+use Prim.Native.Nat.{ℕ, ◌*◌, ◌≤◌}
 use lib.ListN.{length, take, drop}
 use Rattle.table.specs.declared.kinds.Value.{Value}
 use Rattle.writer.specs.Size.{AllAsks, sized_all}
@@ -18,6 +18,3 @@ pub record Inv (ks r : List ℕ) (ws : List Value) (n k p m : ℕ) : Type 0 wher
 
 abbrev pub invariant-loop-k : goal.invariant-loop-k
 invariant-loop-k l = Inv l.kinds l.route l.values l.size l.k l.trace l.marks
-
-abbrev pub decreases-loop-k : goal.decreases-loop-k
-decreases-loop-k l = length l.kinds - l.k
