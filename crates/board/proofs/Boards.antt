@@ -1,9 +1,9 @@
 -- What the stores of a write or a strike make of the words of a board. Assumes nothing.
 use mathlib.Core.Path.{◌≡◌, refl, sym, ap, ◌∙◌}
-use mathlib.Core.List.{List, [], ◌∷◌, ◌++◌, append_assoc, append-nil}
+use mathlib.Core.List.{List, [], ◌∷◌, ◌++◌, append_assoc}
 use Prim.Native.Nat.{ℕ, suc, ◌+◌, ◌*◌, ◌-◌, ◌≤◌, ◌<◌}
 use native.Mathlib.Omega.{arith}
-use lib.ListN.{length, get_or, take, drop, set, replicate, length-append, length-take, length-drop, take-append-drop, replicate-append-replicate, drop_of_length-le}
+use lib.ListN.{length, get_or, take, drop, set, replicate, length-append, length-take, length-drop, take-append-drop, replicate-append-replicate}
 use lib.Seq.{take_at, drop_at, take-append-le, take-take, length-take-le, drop-drop, set_split, drop-cons}
 use Rattle.text.specs.Text.{spliced}
 use Rattle.board.specs.Row.{row_words, row_of}
@@ -165,11 +165,3 @@ remove_board rs i h cap =
     ∙ ap (λ (x : List ℕ). set x 0 m)
     (zeroed_slid a (row_words old) (flat tl) z (1 + W * i) (W * (n - (i + 1))) W (1 + W * m) (head_length_lem rs n i (omega arith)) hb (length-row old) (omega arith))
     ∙ sym to
-
--- every word becomes 0
-pub zeroed_all : (l : List ℕ) → zeroed l 0 (length l) ≡ replicate (length l) 0
-unfolding zeroed
-zeroed_all l = let e : 0 + length l ≡ length l = omega arith in
-    ap (λ (k : ℕ). replicate (length l) 0 ++ drop k l) e
-    ∙ ap (λ (z : List ℕ). replicate (length l) 0 ++ z) (drop_of_length-le l {i = length l} (omega arith))
-    ∙ append-nil (replicate (length l) 0)

@@ -3,12 +3,12 @@
 use mathlib.Core.Path.{◌≡◌, sym, ap, ◌∙◌}
 use mathlib.Core.Bool.{Bool, true, false, cond, ◌&&◌}
 use mathlib.Core.List.{List}
-use Prim.Native.Nat.{ℕ, suc, ◌+◌, ◌*◌, ◌-◌, ◌≤◌, ◌<◌}
+use Prim.Native.Nat.{ℕ, ◌+◌, ◌*◌, ◌-◌, ◌≤◌, ◌<◌}
 use native.Mathlib.Numerals.{add-one}
 use native.Mathlib.Omega.{arith}
 use borrow.Author.Tests.{lt-ltb, le-ltb, eq-eqb, ne_eqb}
-use lib.ListN.{length, get_or, drop, drop_of_length-le}
-use lib.Seq.{drop-cons, drop-drop}
+use lib.ListN.{get_or, drop, drop_of_length-le}
+use lib.Seq.{drop-drop}
 use lib.Dec.{ltb, eqb}
 use Rattle.board.specs.Row.{row_of, is_row_words}
 use Rattle.board.specs.Rows.{key_of, above, rises, Place, At, Gap, further, find_in}
@@ -16,7 +16,7 @@ use Rattle.board.specs.declared.rows.Row.{Row}
 use Rattle.board.proofs.Order.{rising_test}
 use Rattle.board.specs.Halving.{shift}
 use Rattle.board.proofs.Places.{find_after}
-use Rattle.board.specs.Board.{W, read_rows, rows_of, rows_hold, all_zero}
+use Rattle.board.specs.Board.{W, read_rows, rows_of, rows_hold}
 use Rattle.board.proofs.Words.{row_next, get_or_read, key_at_lem, length-read, hold_next}
 
 -- ---- where a key stands
@@ -86,24 +86,6 @@ module _ (l : List ℕ) (n : ℕ) where
 
   pub rise_end : (i last : ℕ) → n ≤ i → above last (drop i (read_rows n (drop 1 l))) ≡ true
   rise_end i last h = ap (above last) (drop_of_length-le (read_rows n (drop 1 l)) {i = i} (rw length-read h))
-
--- ---- words that are 0
-
-pub zero_more : (l : List ℕ) (i : ℕ) → i < length l → get_or l i 0 ≡ 0 → all_zero (drop i l) ≡ all_zero (drop (i + 1) l)
-unfolding all_zero
-zero_more l i h q =
-    ap all_zero (drop-cons l i 0 h)
-    ∙ ap (λ (b : Bool). b && all_zero (drop (suc i) l)) (eq-eqb (get_or l i 0) 0 q)
-    ∙ ap (λ (k : ℕ). all_zero (drop k l)) (sym (add-one i))
-
-pub zero_not : (l : List ℕ) (i : ℕ) → i < length l → (get_or l i 0 ≡ 0 → ⊥) → all_zero (drop i l) ≡ false
-unfolding all_zero
-zero_not l i h q =
-    ap all_zero (drop-cons l i 0 h) ∙ ap (λ (b : Bool). b && all_zero (drop (suc i) l)) (ne_eqb (get_or l i 0) 0 q)
-
-pub zero_end : (l : List ℕ) (i : ℕ) → length l ≤ i → all_zero (drop i l) ≡ true
-unfolding all_zero
-zero_end l i h = ap all_zero (drop_of_length-le l h)
 
 -- ---- rows that the board allows
 

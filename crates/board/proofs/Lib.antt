@@ -16,6 +16,5 @@ pub mod Order
 pub mod Cells
 pub mod RowWords
 pub mod Kept
-pub mod Moves
 pub mod Unique
 pub mod Examples

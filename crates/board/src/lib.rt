@@ -14,7 +14,6 @@ ghost use Rattle.board.specs.Rows.{rises};
 ghost use Rattle.board.specs.Board.{W, read_rows, rows_hold, all_zero, is_allowed};
 
 use crate::rows::is_row;
-use crate::slides::clear;
 
 // Where a key stands, or the place where it would go.
 #[derive(Clone, Copy)]
@@ -36,12 +35,10 @@ fn rows_hold(board: &[u64], n: usize) -> bool
     requires { 1 + W * n ≤ length board.now }
     ensures { result ≡ rows_hold n (drop 1 board.now) }
 {
-    let mut i: usize = 0;
-    while i < n {
+    for i in 0..n {
         if !is_row(board, 1 + 11 * i) {
             return false;
         }
-        i += 1;
     }
     true
 }
@@ -51,18 +48,10 @@ fn keys_rise(board: &[u64], n: usize) -> bool
     requires { 1 + W * n ≤ length board.now }
     ensures { result ≡ rises (read_rows n (drop 1 board.now)) }
 {
-    if n == 0 {
-        return true;
-    }
-    let mut last = board[1];
-    let mut i: usize = 1;
-    while i < n {
-        let k = board[1 + 11 * i];
-        if k <= last {
+    for i in 1..n {
+        if board[1 + 11 * i] <= board[1 + 11 * (i - 1)] {
             return false;
         }
-        last = k;
-        i += 1;
     }
     true
 }
@@ -72,20 +61,14 @@ fn all_zero(board: &[u64], p: usize) -> bool
     requires { p ≤ length board.now }
     ensures { result ≡ all_zero (drop p board.now) }
 {
-    let mut i = p;
-    while i < board.len() {
-        if board[i] != 0 {
-            return false;
-        }
-        i += 1;
-    }
-    true
+    board[p..].iter().all(|word| *word == 0)
 }
 
 // Whether the words, any words, are a board that the rules allow.
 pub fn is_allowed(board: &[u64]) -> bool
     ensures { result ≡ is_allowed board.now }
 {
+    // one `&&` of the five: tried, the proof did not close with what the check finds
     if board.len() != 2817 {
         return false;
     }
@@ -106,6 +89,5 @@ pub fn is_allowed(board: &[u64]) -> bool
 pub fn empty(board: &mut [u64])
     ensures { board.new ≡ replicate (length board.old) 0 }
 {
-    let n = board.len();
-    clear(board, 0, n);
+    board.fill(0);
 }

@@ -35,32 +35,21 @@ pub struct Row {
 fn are_zero(a: u64, b: u64, c: u64) -> bool
     ensures { result ≡ (eqb a 0 && eqb b 0 && eqb c 0) }
 {
-    if a != 0 {
-        return false;
-    }
-    if b != 0 {
-        return false;
-    }
-    c == 0
+    a == 0 && b == 0 && c == 0
 }
 
 // Four words of an arrival entry such as a line could give, or of none.
+#[tactic(auto, unfolding(crate::specs::Row::is_arrival_words))]
 fn is_arrival(departure: u64, destination: u64, clock: u64, stamp: u64) -> bool
     ensures { result ≡ is_arrival_words departure destination clock stamp }
 {
     if departure == 0 {
         return are_zero(destination, clock, stamp);
     }
-    if !Point(departure).holds() {
-        return false;
-    }
-    if !Point(destination).holds() {
-        return false;
-    }
-    if !ArrivalClock(clock).holds() {
-        return false;
-    }
-    Stamp(stamp).holds()
+    Point(departure).holds()
+        && Point(destination).holds()
+        && ArrivalClock(clock).holds()
+        && Stamp(stamp).holds()
 }
 
 fn is_arrival_at(words: &[u64], p: usize) -> bool
@@ -71,22 +60,17 @@ fn is_arrival_at(words: &[u64], p: usize) -> bool
 }
 
 // Four words of a track such as a line could give, or of none.
+#[tactic(auto, unfolding(crate::specs::Row::is_track_words))]
 fn is_track(speed: u64, level: u64, position: u64, stamp: u64) -> bool
     ensures { result ≡ is_track_words speed level position stamp }
 {
     if speed == 0 {
         return are_zero(level, position, stamp);
     }
-    if !GroundSpeed(speed).holds() {
-        return false;
-    }
-    if !TrackLevel(level).holds() {
-        return false;
-    }
-    if !Position(position).holds() {
-        return false;
-    }
-    Stamp(stamp).holds()
+    GroundSpeed(speed).holds()
+        && TrackLevel(level).holds()
+        && Position(position).holds()
+        && Stamp(stamp).holds()
 }
 
 fn is_track_at(words: &[u64], p: usize) -> bool
@@ -100,10 +84,7 @@ fn is_track_at(words: &[u64], p: usize) -> bool
 fn has_entry(departure: u64, speed: u64) -> bool
     ensures { result ≡ not (eqb departure 0 && eqb speed 0) }
 {
-    if departure != 0 {
-        return true;
-    }
-    speed != 0
+    departure != 0 || speed != 0
 }
 
 // Whether the row from p on has an entry, and zeros in the two words kept for later.
@@ -111,13 +92,7 @@ fn is_whole(words: &[u64], p: usize) -> bool
     requires { p + 11 ≤ length words.now }
     ensures { result ≡ (not (eqb (get_or words.now (p + 1) 0) 0 && eqb (get_or words.now (p + 5) 0) 0) && eqb (get_or words.now (p + 9) 0) 0 && eqb (get_or words.now (p + 10) 0) 0) }
 {
-    if !has_entry(words[p + 1], words[p + 5]) {
-        return false;
-    }
-    if words[p + 9] != 0 {
-        return false;
-    }
-    words[p + 10] == 0
+    has_entry(words[p + 1], words[p + 5]) && words[p + 9] == 0 && words[p + 10] == 0
 }
 
 // Whether the words from p on are those of a row that the board allows.
@@ -125,6 +100,7 @@ pub(crate) fn is_row(words: &[u64], p: usize) -> bool
     requires { p + 11 ≤ length words.now }
     ensures { result ≡ is_row_words (drop p words.now) }
 {
+    // one `&&` of the four: tried, the proof did not close with what the check finds
     if !Key(words[p]).holds() {
         return false;
     }

@@ -7,11 +7,7 @@ pub(crate) fn slide_right(s: &mut [u64], p: usize, e: usize, w: usize)
     requires { (p ≤ e) × (e + w ≤ length s.old) }
     ensures { s.new ≡ slid_right s.old p e w }
 {
-    let mut j = e;
-    while p < j {
-        j -= 1;
-        s[j + w] = s[j];
-    }
+    s.copy_within(p..e, p + w);
 }
 
 // The n words from p + w move w to the left.
@@ -19,11 +15,7 @@ pub(crate) fn slide_left(s: &mut [u64], p: usize, n: usize, w: usize)
     requires { p + w + n ≤ length s.old }
     ensures { s.new ≡ slid_left s.old p n w }
 {
-    let mut j: usize = 0;
-    while j < n {
-        s[p + j] = s[p + w + j];
-        j += 1;
-    }
+    s.copy_within(p + w..p + w + n, p);
 }
 
 // The n words from p become 0.
@@ -31,9 +23,5 @@ pub(crate) fn clear(s: &mut [u64], p: usize, n: usize)
     requires { p + n ≤ length s.old }
     ensures { s.new ≡ zeroed s.old p n }
 {
-    let mut j: usize = 0;
-    while j < n {
-        s[p + j] = 0;
-        j += 1;
-    }
+    s[p..p + n].fill(0);
 }

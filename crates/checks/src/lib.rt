@@ -76,13 +76,11 @@ fn type_word(kind: MessageType) -> u64
 fn of_body(body: Body) -> Verdict
     ensures { result ≡ body_verdict body }
 {
-    let kind = type_word(type_in(body));
-    let key = key_in(body);
     Verdict {
         answer: 0,
         place: 0,
-        kind,
-        key,
+        kind: type_word(type_in(body)),
+        key: key_in(body),
     }
 }
 
@@ -102,12 +100,8 @@ fn of_refusal(refusal: Refusal) -> Verdict
 fn judge_new(line: &[u8]) -> Verdict
     ensures { result ≡ verdict_by (read_by New line.now) }
 {
-    let read = line::read(line);
-    match read {
-        Ok(m) => {
-            let body = m.body;
-            of_body(body)
-        }
+    match line::read(line) {
+        Ok(m) => of_body(m.body),
         Err(refusal) => of_refusal(refusal),
     }
 }
@@ -116,12 +110,8 @@ fn judge_new(line: &[u8]) -> Verdict
 fn judge_old(line: &[u8]) -> Verdict
     ensures { result ≡ verdict_by (read_by Old line.now) }
 {
-    let read = line::read_old(line);
-    match read {
-        Ok(m) => {
-            let body = m.body;
-            of_body(body)
-        }
+    match line::read_old(line) {
+        Ok(m) => of_body(m.body),
         Err(refusal) => of_refusal(refusal),
     }
 }
@@ -174,10 +164,7 @@ fn say(only: bool, n: u64, verdict: Verdict, out: &mut [u8], at: usize) -> usize
     ensures value { result ≡ at + length (verdict_said only n verdict) }
     ensures out_after { out.new ≡ spliced out.old at (verdict_said only n verdict) }
 {
-    if !only {
-        return put(n, verdict, out, at);
-    }
-    if verdict.answer == 0 {
+    if only && verdict.answer == 0 {
         return at;
     }
     put(n, verdict, out, at)
@@ -188,18 +175,11 @@ fn count(sums: Sums, verdict: Verdict) -> Sums
     requires { (sums.lines + 1 < 2 ^ 64) × (sums.read ≤ sums.lines) }
     ensures { result ≡ counted sums verdict }
 {
-    let begun = sums.begun;
-    if verdict.answer == 0 {
-        return Sums {
-            begun,
-            lines: sums.lines + 1,
-            read: sums.read + 1,
-        };
-    }
+    let reads = if verdict.answer == 0 { 1 } else { 0 };
     Sums {
-        begun,
+        begun: sums.begun,
         lines: sums.lines + 1,
-        read: sums.read,
+        read: sums.read + reads,
     }
 }
 
@@ -208,17 +188,13 @@ fn step(held: &mut [u8], asked: Asked, sums: Sums, rest: &[u8], out: &mut [u8], 
     requires { StepReady held.old sums rest.now out.old at }
     ensures { Steps asked held.old sums rest.now out.old at held.new result out.new }
 {
-    let begun = sums.begun;
-    let done = cut(held, begun, rest);
-    let answer = done.answer;
-    let begun = done.begun;
+    let done = cut(held, sums.begun, rest);
     let sums = Sums {
-        begun,
+        begun: done.begun,
         lines: sums.lines,
         read: sums.read,
     };
-    let rule = asked.rule;
-    let judged = judge(rule, answer, &held[..], rest);
+    let judged = judge(asked.rule, done.answer, &held[..], rest);
     match judged {
         Some(verdict) => {
             let next = say(asked.refused, (sums.lines + 1) as u64, verdict, out, at);
@@ -246,12 +222,12 @@ pub fn check(held: &mut [u8], asked: Asked, sums: Sums, part: &[u8], out: &mut [
     ensures continues { Continues asked held.old sums part.now held.new result.sums (take result.size out.new) }
 {
     let mut now = sums;
-    let mut used: usize = 0;
-    let mut at: usize = 0;
-    while used < part.len() {
-        let turn = step(held, asked, now, &part[used..], out, at);
+    let mut rest = part;
+    let mut at = 0;
+    while !rest.is_empty() {
+        let turn = step(held, asked, now, rest, out, at);
         now = turn.sums;
-        used += turn.used;
+        rest = &rest[turn.used..];
         at = turn.next;
     }
     Said {
@@ -267,10 +243,8 @@ pub fn end(held: &[u8], sums: Sums, out: &mut [u8]) -> usize
     ensures out_after { out.new ≡ spliced out.old 0 (torn_in (suc sums.lines) (state_in held.now sums.begun)) }
     ensures ends_feed { EndsFeed held.now sums (take result out.new) }
 {
-    let begun = sums.begun;
-    let end = cutter::end(held, begun);
-    let answer = end.answer;
-    match answer {
+    let end = cutter::end(held, sums.begun);
+    match end.answer {
         EndAnswer::InsideLine => put(
             (sums.lines + 1) as u64,
             Verdict {

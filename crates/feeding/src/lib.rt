@@ -81,15 +81,12 @@ fn step(board: &mut [u64], held: &mut [u8], begun: Begun, rest: &[u8]) -> AfterF
     ensures held_after { held.new ≡ held_after board.old held.old begun 1 rest.now }
 {
     let done = cut(held, begun, rest);
-    let answer = done.answer;
-    let begun = done.begun;
-    let lines = ended(answer);
-    let taken = enter(board, answer, &held[..], rest);
+    let taken = enter(board, done.answer, &held[..], rest);
     AfterFeed {
         answer: FeedAnswer::Fed,
         used: done.used,
-        begun,
-        lines,
+        begun: done.begun,
+        lines: ended(done.answer),
         taken,
     }
 }
@@ -115,18 +112,13 @@ pub fn feed_allowed(
         lines: 0,
         taken: 0,
     };
-    while fed.used < part.len() {
-        if fed.lines == most {
-            return fed;
-        }
-        let at = fed.used;
-        let begun = fed.begun;
-        let turn = step(board, held, begun, &part[at..]);
-        let begun = turn.begun;
+    // a while, since each turn goes on by as many bytes as its line has
+    while fed.used < part.len() && fed.lines < most {
+        let turn = step(board, held, fed.begun, &part[fed.used..]);
         fed = AfterFeed {
             answer: FeedAnswer::Fed,
-            used: at + turn.used,
-            begun,
+            used: fed.used + turn.used,
+            begun: turn.begun,
             lines: fed.lines + turn.lines,
             taken: fed.taken + turn.taken,
         };

@@ -1,8 +1,8 @@
 -- The text of an allowed board, row by row: what is left from a row on, and how long it can be. Assumes nothing.
-use mathlib.Core.Path.{◌≡◌, refl, sym, ap, ◌∙◌}
+use mathlib.Core.Path.{◌≡◌, sym, ap, ◌∙◌}
 use mathlib.Core.Bool.{true}
 use mathlib.Core.List.{List, [], ◌∷◌, ◌++◌}
-use Prim.Native.Nat.{ℕ, zero, suc, ◌+◌, ◌*◌, ◌-◌, ◌≤◌, ◌<◌}
+use Prim.Native.Nat.{ℕ, zero, suc, ◌+◌, ◌*◌, ◌≤◌, ◌<◌}
 use native.Mathlib.Nat.{le_of_suc-le-suc, not-suc-le-zero}
 use native.Mathlib.Omega.{arith}
 use lib.ListN.{length, get_or, drop, length-drop, length-append, drop_of_length-le}
@@ -43,14 +43,14 @@ rows_width (r ∷ rs) e =
     omega (arith, length-append (row_text r) (rows_text rs), row_width r (and_left (is_row r) (all_rows rs) e), rows_width rs (and_right (is_row r) (all_rows rs) e))
 
 -- the rows from row i on, as text
-abbrev left_of : List ℕ → ℕ → List ℕ
+abbrev pub left_of : List ℕ → ℕ → List ℕ
 left_of l i = rows_text (drop i (rows_of l))
 
-left_next : (l : List ℕ) (i : ℕ) → i < get_or l 0 0 → left_of l i ≡ row_text (row_of (drop (1 + W * i) l)) ++ left_of l (i + 1)
+pub left_next : (l : List ℕ) (i : ℕ) → i < get_or l 0 0 → left_of l i ≡ row_text (row_of (drop (1 + W * i) l)) ++ left_of l (i + 1)
 unfolding rows_of rows_text
 left_next l i h = rw (row_next l (get_or l 0 0) i h, drop-drop (W * i) 1 l)
 
-left_end : (l : List ℕ) (i : ℕ) → get_or l 0 0 ≤ i → left_of l i ≡ []
+pub left_end : (l : List ℕ) (i : ℕ) → get_or l 0 0 ≤ i → left_of l i ≡ []
 unfolding rows_text
 left_end l i h = rw (drop_of_length-le (rows_of l) {i = i} (rw length-rows h))
 
@@ -83,43 +83,16 @@ module _ (l : List ℕ) (e : is_allowed l ≡ true) where
   pub text_short : length (text_in l) ≤ 20000
   text_short = omega (arith, text_size, rows_short, decimal_short (get_or l 0 0))
 
--- ---- a walk over the rows: it stands at row i, from word p on, and as many rows as `left` are left
+  -- row i: its words, its line, and what is left after it
+  module _ (i : ℕ) (h : i < get_or l 0 0) where
+    abbrev pub line : List ℕ
+    line = row_text (row_of (drop (1 + W * i) l))
 
-pub record Walk (l : List ℕ) (p left : ℕ) : Type 0 where
-  pub good : is_allowed l ≡ true
-  pub i : ℕ
-  pub there : p ≡ 1 + W * i
-  pub count : i + left ≡ get_or l 0 0
+    pub row_whole : 1 + W * i + 11 ≤ length l
+    row_whole = omega (arith, flights_few, board_long)
 
-abbrev pub walk_start : (l : List ℕ) → is_allowed l ≡ true → Walk l 1 (get_or l 0 0)
-walk_start l e = record { good = e; i = 0; there = refl; count = omega arith }
+    pub row_good : is_row_words (drop (1 + W * i) l) ≡ true
+    row_good = row_held i h
 
-module _ {l : List ℕ} {p left : ℕ} (w : Walk l p left) where
-  -- the text of the rows that are left, and of the row from p on
-  abbrev pub unprinted : List ℕ
-  unprinted = left_of l w.i
-
-  abbrev pub line : List ℕ
-  line = row_text (row_of (drop p l))
-
-  pub walk_end : left ≤ 0 → unprinted ≡ []
-  walk_end h = left_end l w.i (omega (arith, w.count))
-
-  module _ (more : 0 < left) where
-    abbrev pub walk_next : Walk l (p + 11) (left - 1)
-    walk_next = record { good = w.good; i = w.i + 1; there = omega (arith, w.there); count = omega (arith, w.count) }
-
-    pub walk_inside : p + 11 ≤ 2817
-    walk_inside = omega (arith, w.there, w.count, flights_few l w.good)
-
-    pub row_whole : p + 11 ≤ length l
-    row_whole = omega (arith, walk_inside, board_long l w.good)
-
-    pub row_good : is_row_words (drop p l) ≡ true
-    row_good = rw w.there (row_held l w.good w.i (omega (arith, w.count)))
-
-    pub walk_text : unprinted ≡ line ++ left_of l (w.i + 1)
-    walk_text = rw w.there (left_next l w.i (omega (arith, w.count)))
-
-    pub walk_size : length unprinted ≡ length line + length (left_of l (w.i + 1))
-    walk_size = ap length walk_text ∙ length-append line (left_of l (w.i + 1))
+    pub left_size : length (left_of l i) ≡ length line + length (left_of l (i + 1))
+    left_size = ap length (left_next l i h) ∙ length-append line (left_of l (i + 1))

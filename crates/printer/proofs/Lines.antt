@@ -111,6 +111,28 @@ module _ (ws : List ℕ) (k : ℕ) where
       let z : at + length part + 1 ≡ at + length (part ++ space ∷ []) = omega (arith, length-append part (space ∷ [])) in
       rw (z, slip_next h) (spliced_next out (part ++ space ∷ []) rest at (omega arith) ∙ ap (spliced out at) (append_assoc part (space ∷ []) rest))
 
+-- how long the parts are with a byte after each: as long as their line, if there is one
+pub left_size : List ℕ → ℕ
+left_size [] = 0
+left_size (w ∷ ws) = length (part_text w) + 1 + left_size ws
+
+line_left : (w : ℕ) (ws : List ℕ) → left_size (w ∷ ws) ≡ length (slip_text (w ∷ ws))
+unfolding left_size slip_text line_text
+line_left w [] = simp length-append (omega arith)
+line_left w (v ∷ ws) = simp length-append (omega (arith, line_left v ws))
+
+pub left_whole : (ws : List ℕ) → SlipWords ws → 0 + left_size ws ≡ length (slip_text ws)
+left_whole [] e = absurd (omega (arith, e.count))
+left_whole (w ∷ ws) e = omega (arith, line_left w ws)
+
+pub left_next : (ws : List ℕ) (k : ℕ) → k < length ws → left_size (drop k ws) ≡ length (part_text (get_or ws k 0)) + 1 + left_size (drop (k + 1) ws)
+unfolding left_size
+left_next ws k h = ap left_size (next_byte ws k h)
+
+pub left_end : (ws : List ℕ) (k : ℕ) → length ws ≤ k → left_size (drop k ws) ≡ 0
+unfolding left_size
+left_end ws k h = ap left_size (drop_of_length-le ws {i = k} h)
+
 pub part_packed : (ws : List ℕ) (k : ℕ) → all is_packed ws ≡ true → k < length ws → is_packed (get_or ws k 0) ≡ true
 unfolding all
 part_packed [] k e h = absurd (omega arith)

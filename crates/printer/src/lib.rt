@@ -44,13 +44,9 @@ fn board_size(board: &[u64]) -> usize
     ensures { result ≡ length (text_in board.now) }
 {
     let flights = board[0];
-    let mut rows = flights as usize;
-    let mut total: usize = 9 + decimals::size(flights);
-    let mut p: usize = 1;
-    while rows > 0 {
-        total += slips::size(board, p);
-        p += 11;
-        rows -= 1;
+    let mut total = 9 + decimals::size(flights);
+    for i in 0..flights as usize {
+        total += slips::size(board, 1 + 11 * i);
     }
     total
 }
@@ -60,14 +56,11 @@ fn put_rows(board: &[u64], out: &mut [u8], at: usize)
     requires { RowsAsk board.now out.old at }
     ensures { out.new ≡ spliced out.old at (rows_text (rows_of board.now)) }
 {
-    let mut left = board[0] as usize;
-    let mut p: usize = 1;
-    let mut j = at;
-    while left > 0 {
-        let size = slips::put(board, p, &mut out[j..]);
-        j += size;
-        p += 11;
-        left -= 1;
+    let rows = board[0] as usize;
+    let mut next = at;
+    for i in 0..rows {
+        let size = slips::put(board, 1 + 11 * i, &mut out[next..]);
+        next += size;
     }
 }
 

@@ -72,13 +72,11 @@ fn line_size(words: &[u64]) -> usize
     requires { SlipWords words.now }
     ensures { result ≡ length (slip_text words.now) }
 {
-    let mut n: usize = 0;
-    let mut k: usize = 0;
-    while k < 7 {
-        n += part_size(words[k]) + 1;
-        k += 1;
+    let mut n = 0;
+    for word in words {
+        n += part_size(*word) + 1;
     }
-    n + part_size(words[7]) + 1
+    n
 }
 
 // The line of eight words: a space after each but the last, and a line feed after that one.
@@ -87,11 +85,9 @@ fn put_line(words: &[u64], out: &mut [u8]) -> usize
     ensures value { result ≡ length (slip_text words.now) }
     ensures out_after { out.new ≡ spliced out.old 0 (slip_text words.now) }
 {
-    let mut at: usize = 0;
-    let mut k: usize = 0;
-    while k < 7 {
-        at = put_part(words[k], b' ', out, at);
-        k += 1;
+    let mut at = 0;
+    for word in &words[..7] {
+        at = put_part(*word, b' ', out, at);
     }
     put_part(words[7], b'\n', out, at)
 }

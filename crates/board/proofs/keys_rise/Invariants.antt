@@ -1,13 +1,10 @@
 -- `keys_rise` meets its contract. Assumes nothing.
-use Prim.Native.Nat.{◌≤◌, ◌-◌}
 use mathlib.Core.Path.{◌≡◌}
-use lib.ListN.{drop}
+use Prim.Native.Nat.{◌+◌, ◌*◌, ◌-◌, ◌≤◌}
+use lib.ListN.{get_or, drop}
 use Rattle.board.specs.Rows.{above, rises}
-use Rattle.board.specs.Board.{read_rows}
+use Rattle.board.specs.Board.{W, read_rows}
 use Rattle.board.proofs.keys_rise.Given as goal
 
 abbrev pub invariant-loop-i : goal.invariant-loop-i
-invariant-loop-i l = (l.i ≤ l.n) × (rises (read_rows l.n (drop 1 l.board)) ≡ above l.last (drop l.i (read_rows l.n (drop 1 l.board))))
-
-abbrev pub decreases-loop-i : goal.decreases-loop-i
-decreases-loop-i l = l.n - l.i
+invariant-loop-i l = l.i ≤ l.n → rises (read_rows l.n (drop 1 l.board)) ≡ above (get_or l.board (1 + W * (l.i - 1)) 0) (drop l.i (read_rows l.n (drop 1 l.board)))

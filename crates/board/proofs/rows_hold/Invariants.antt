@@ -1,5 +1,4 @@
 -- `rows_hold` meets its contract. Assumes nothing.
-use Prim.Native.Nat.{◌≤◌, ◌-◌}
 use mathlib.Core.Path.{◌≡◌}
 use lib.ListN.{drop}
 use Rattle.board.specs.Board.{rows_hold}
@@ -7,7 +6,4 @@ use Rattle.board.proofs.Finds.{hold_from}
 use Rattle.board.proofs.rows_hold.Given as goal
 
 abbrev pub invariant-loop-i : goal.invariant-loop-i
-invariant-loop-i l = (l.i ≤ l.n) × (rows_hold l.n (drop 1 l.board) ≡ hold_from l.board l.n l.i)
-
-abbrev pub decreases-loop-i : goal.decreases-loop-i
-decreases-loop-i l = l.n - l.i
+invariant-loop-i l = rows_hold l.n (drop 1 l.board) ≡ hold_from l.board l.n l.i

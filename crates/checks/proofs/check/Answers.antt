@@ -1,10 +1,13 @@
 -- `checks::check` meets its contract: what was said so far is what is said of the bytes used so far. Assumes nothing.
-use mathlib.Core.Path.{◌≡◌, sym, ◌∙◌, subst}
+use mathlib.Core.Path.{◌≡◌, refl, sym, ap, ◌∙◌, subst}
 use mathlib.Core.List.{List, ◌++◌}
+use mathlib.Core.Bool.{true, false}
+use borrow.Author.Tests.{eqb-true, eqb-false}
+use lib.Dec.{eqb}
 use Prim.Native.Nat.{ℕ, ◌+◌, ◌*◌, ◌-◌, ◌≤◌, ◌<◌}
 use native.Mathlib.Omega.{arith}
 use lib.ListN.{length, take, drop, length-drop}
-use lib.Seq.{length-take-le, take_all, take-add}
+use lib.Seq.{drop-drop, length-take-le, take_all, take-add}
 use Rattle.shapes.proofs.Laws.{rest_all}
 use Rattle.cutter.specs.State.{state_in}
 use Rattle.cutter.proofs.States.{allowed_size}
@@ -17,10 +20,23 @@ use Rattle.checks.proofs.Feeds.{continues}
 use Rattle.checks.proofs.check.Invariants.{Inv}
 use Rattle.checks.proofs.check.Goals as goal
 
-start : (asked : Asked) (held : List ℕ) (s : Sums) (part out : List ℕ) → Ready held s part (length out) → Inv asked held s part out held out s 0 0
-start asked held s part out r = record { ready = r; inside = omega arith; adds = adds_none asked held s out 0 r.allowed }
+-- whether bytes are left, as `is_empty` tells it
+some : (n : ℕ) → false ≡ eqb n 0 → 0 < n
+some n e = omega (arith, eqb-false n 0 (sym e))
 
-module _ {asked : Asked} {held₀ : List ℕ} {s₀ : Sums} {part out₀ held out : List ℕ} {s : Sums} {used at : ℕ} (v : Inv asked held₀ s₀ part out₀ held out s used at) where
+no_more : (n : ℕ) → true ≡ eqb n 0 → n ≤ 0
+no_more n e = omega (arith, eqb-true n 0 (sym e))
+
+start : (asked : Asked) (held : List ℕ) (s : Sums) (part out : List ℕ) → Ready held s part (length out) → Inv asked held s part out held out s part 0
+start asked held s part out r = record { ready = r; used = 0; inside = omega arith; left = refl; adds = adds_none asked held s out 0 r.allowed }
+
+module _ {asked : Asked} {held₀ : List ℕ} {s₀ : Sums} {part out₀ held out : List ℕ} {s : Sums} {rest : List ℕ} {at : ℕ} (v : Inv asked held₀ s₀ part out₀ held out s rest at) where
+  abbrev used : ℕ
+  used = v.used
+
+  wide : length rest ≡ length part - used
+  wide = ap length v.left ∙ length-drop used part
+
   size : length (take used part) ≡ used
   size = length-take-le used part v.inside
 
@@ -40,69 +56,59 @@ module _ {asked : Asked} {held₀ : List ℕ} {s₀ : Sums} {part out₀ held ou
   same_held : length held ≡ length held₀
   same_held = allowed_size held s.begun v.adds.allowed ∙ sym (allowed_size held₀ s₀.begun v.ready.allowed)
 
-  abbrev rest : List ℕ
-  rest = take (length part - used) (drop used part)
-
-  module _ (more : used < length part) where
+  module _ (more : 0 < length rest) where
     step_ready : StepReady held s rest out at
     step_ready =
         record {
-          more = rw (rest_all part used) (omega (arith, length-drop used part));
+          more = more;
           allowed = v.adds.allowed;
-          few = omega (arith, few, v.ready.few);
+          few = omega (arith, few, v.ready.few, wide, v.inside);
           less = omega (arith, v.adds.read, v.adds.lines, v.ready.less, reads_few asked.rule (lines_in held₀ s₀ (take used part)));
-          roomy = omega (arith, short, v.ready.roomy, same_out);
+          roomy = omega (arith, short, v.ready.roomy, same_out, wide, v.inside);
         }
 
     module _ {held' : List ℕ} {r : Turn} {out' : List ℕ} (t : Steps asked held s rest out at held' r out') where
       within : used + r.used ≤ length part
-      within = let z : r.used ≤ length (drop used part) = rw (rest_all part used) at t.within in omega (arith, length-drop used part)
+      within = omega (arith, t.within, wide, v.inside)
 
-      again : Inv asked held₀ s₀ part out₀ held' out' r.sums (used + r.used) r.next
+      again : Inv asked held₀ s₀ part out₀ held' out' r.sums (take (length rest - r.used) (drop r.used rest)) r.next
       again =
-          let z : take used part ++ take r.used rest ≡ take (used + r.used) part = rw (rest_all part used) (sym (take-add used r.used part)) in
+          let z : take used part ++ take r.used rest ≡ take (used + r.used) part =
+          ap (λ (l : List ℕ). take used part ++ take r.used l) v.left ∙ sym (take-add used r.used part) in
           record {
             ready = v.ready;
+            used = used + r.used;
             inside = within;
+            left = rest_all rest r.used ∙ ap (drop r.used) v.left ∙ drop-drop r.used used part;
             adds = subst (λ (l : List ℕ). Adds asked held₀ s₀ l out₀ 0 held' r.sums out' r.next) z (adds_then v.adds fits t.adds);
           }
 
-  module _ (over : length part ≤ used) where
+  module _ (none : length rest ≤ 0) where
+    over : length part ≤ used
+    over = omega (arith, wide)
+
     all : Adds asked held₀ s₀ part out₀ 0 held s out at
     all = subst (λ (l : List ℕ). Adds asked held₀ s₀ l out₀ 0 held s out at) (take_all used part over) v.adds
 
     done : Adds asked held₀ s₀ part out₀ 0 held s out at × ((at ≤ length out) × Continues asked held₀ s₀ part held s (take at out))
     done = (all, (omega (arith, short, v.inside, v.ready.roomy, same_out), continues all))
 
-pub loop-used-init : goal.loop-used-init
-loop-used-init c = start c.args.asked _ c.args.sums _ _ c.requires
-
-pub slice_bounds-step-count : goal.slice_bounds-step-count
-slice_bounds-step-count c = c.loop-used.invariant.inside
-
-pub slice_bounds-step-start : goal.slice_bounds-step-start
-slice_bounds-step-start c = omega (arith, c.loop-used.invariant.inside)
+pub loop-rest-init : goal.loop-rest-init
+loop-rest-init c = start c.args.asked _ c.args.sums _ _ c.requires
 
 pub step-turn-requires : goal.step-turn-requires
-step-turn-requires c = step_ready c.loop-used.invariant c.loop-used-test.true
+step-turn-requires c = step_ready c.loop-rest.invariant (some _ c.loop-rest-test.ensures)
 
-pub overflow_add-used : goal.overflow_add-used
-overflow_add-used c = omega (arith, within c.loop-used.invariant c.loop-used-test.true c.step-turn.ensures)
-
-pub loop-used-smaller : goal.loop-used-smaller
-loop-used-smaller c =
-    omega (arith, within c.loop-used.invariant c.loop-used-test.true c.step-turn.ensures, c.step-turn.ensures.some)
-
-pub loop-used-preserved : goal.loop-used-preserved
-loop-used-preserved c = again c.loop-used.invariant c.loop-used-test.true c.step-turn.ensures
+pub loop-rest-preserved : goal.loop-rest-preserved
+loop-rest-preserved c = again c.loop-rest.invariant (some _ c.loop-rest-test.ensures) c.step-turn.ensures
 
 pub shape_of-held : goal.shape_of-held
-shape_of-held c = same_held c.loop-used.invariant
+shape_of-held c = same_held c.loop-rest.invariant
 
 pub shape_of-out : goal.shape_of-out
-shape_of-out c = same_out c.loop-used.invariant
+shape_of-out c = same_out c.loop-rest.invariant
 
 pub returns : goal.returns
 returns c =
-    let both = done c.loop-used.invariant c.loop-used-test.false in
+    let both = done c.loop-rest.invariant (no_more _ c.loop-rest-test.ensures) in
     record { adds = both.0; size_in_bounds = both.1.0; continues = both.1.1 }

@@ -100,18 +100,6 @@ module _ {board₀ held₀ : List ℕ} {begun₀ : Begun} {most : ℕ} {part boa
 pub loop-fed-init : goal.loop-fed-init
 loop-fed-init c = start _ _ _ _ _ c.requires.board_value c.requires.begun_value
 
-pub shape_of-board-then-fed-most : goal.shape_of-board-then-fed-most
-shape_of-board-then-fed-most c = c.loop-fed.invariant.board_size
-
-pub shape_of-held-then-fed-most : goal.shape_of-held-then-fed-most
-shape_of-held-then-fed-most c = c.loop-fed.invariant.held_size
-
-pub returns-then-fed-most : goal.returns-then-fed-most
-returns-then-fed-most c =
-    let v = c.loop-fed.invariant in
-    let both = done v (read_most v (omega (arith, c.if-fed-most.true))) in
-    record { value = both.0; board_after = both.1.0; held_after = both.1.1 }
-
 pub slice_bounds-step-count : goal.slice_bounds-step-count
 slice_bounds-step-count c = c.loop-fed.invariant.at
 
@@ -125,41 +113,36 @@ step-turn-requires c =
 
 pub overflow_add-fed : goal.overflow_add-fed
 overflow_add-fed c =
-    let fewer_lines : c.loop-fed.fed.lines < c.args.most = omega (arith, c.loop-fed.invariant.few, c.if-fed-most.false) in
-    let n = again c.loop-fed.invariant c.loop-fed-test.true fewer_lines _ _ _ (c.step-turn.ensures.value, (c.step-turn.ensures.board_after, c.step-turn.ensures.held_after)) in
+    let n = again c.loop-fed.invariant c.loop-fed-test.true c.if-fed-most.true _ _ _ (c.step-turn.ensures.value, (c.step-turn.ensures.board_after, c.step-turn.ensures.held_after)) in
     omega (arith, n.at, c.well_formed.1.1.1.1.0.0)
 
 pub overflow_add-fed-in-loop-fed : goal.overflow_add-fed-in-loop-fed
 overflow_add-fed-in-loop-fed c =
-    let fewer_lines : c.loop-fed.fed.lines < c.args.most = omega (arith, c.loop-fed.invariant.few, c.if-fed-most.false) in
-    let n = again c.loop-fed.invariant c.loop-fed-test.true fewer_lines _ _ _ (c.step-turn.ensures.value, (c.step-turn.ensures.board_after, c.step-turn.ensures.held_after)) in
+    let n = again c.loop-fed.invariant c.loop-fed-test.true c.if-fed-most.true _ _ _ (c.step-turn.ensures.value, (c.step-turn.ensures.board_after, c.step-turn.ensures.held_after)) in
     omega (arith, n.at, n.counted, c.well_formed.1.1.1.1.0.0)
 
 pub overflow_add-fed-in-loop-fed-2 : goal.overflow_add-fed-in-loop-fed-2
 overflow_add-fed-in-loop-fed-2 c =
-    let fewer_lines : c.loop-fed.fed.lines < c.args.most = omega (arith, c.loop-fed.invariant.few, c.if-fed-most.false) in
-    let n = again c.loop-fed.invariant c.loop-fed-test.true fewer_lines _ _ _ (c.step-turn.ensures.value, (c.step-turn.ensures.board_after, c.step-turn.ensures.held_after)) in
+    let n = again c.loop-fed.invariant c.loop-fed-test.true c.if-fed-most.true _ _ _ (c.step-turn.ensures.value, (c.step-turn.ensures.board_after, c.step-turn.ensures.held_after)) in
     omega (arith, n.at, n.counted, n.less, c.well_formed.1.1.1.1.0.0)
 
 pub loop-fed-smaller : goal.loop-fed-smaller
 loop-fed-smaller c =
-    let fewer_lines : c.loop-fed.fed.lines < c.args.most = omega (arith, c.loop-fed.invariant.few, c.if-fed-most.false) in
-    let g = goes_on c.loop-fed.invariant c.loop-fed-test.true fewer_lines _ _ _ (c.step-turn.ensures.value, (c.step-turn.ensures.board_after, c.step-turn.ensures.held_after)) in
+    let g = goes_on c.loop-fed.invariant c.loop-fed-test.true c.if-fed-most.true _ _ _ (c.step-turn.ensures.value, (c.step-turn.ensures.board_after, c.step-turn.ensures.held_after)) in
     omega (arith, g.0, g.1)
 
 pub loop-fed-preserved : goal.loop-fed-preserved
 loop-fed-preserved c =
-    let fewer_lines : c.loop-fed.fed.lines < c.args.most = omega (arith, c.loop-fed.invariant.few, c.if-fed-most.false) in
-    again c.loop-fed.invariant c.loop-fed-test.true fewer_lines _ _ _ (c.step-turn.ensures.value, (c.step-turn.ensures.board_after, c.step-turn.ensures.held_after))
+    again c.loop-fed.invariant c.loop-fed-test.true c.if-fed-most.true _ _ _ (c.step-turn.ensures.value, (c.step-turn.ensures.board_after, c.step-turn.ensures.held_after))
 
-pub shape_of-board : goal.shape_of-board
-shape_of-board c = c.loop-fed.invariant.board_size
+pub returns-else-fed-most : goal.returns-else-fed-most
+returns-else-fed-most c =
+    let v = c.loop-fed.invariant in
+    let both = done v (read_most v c.if-fed-most.false) in
+    record { value = both.0; board_after = both.1.0; held_after = both.1.1 }
 
-pub shape_of-held : goal.shape_of-held
-shape_of-held c = c.loop-fed.invariant.held_size
-
-pub returns : goal.returns
-returns c =
+pub returns-after-loop-fed : goal.returns-after-loop-fed
+returns-after-loop-fed c =
     let v = c.loop-fed.invariant in
     let both = done v (read_all v c.loop-fed-test.false) in
     record { value = both.0; board_after = both.1.0; held_after = both.1.1 }

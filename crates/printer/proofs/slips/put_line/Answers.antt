@@ -5,7 +5,8 @@ use mathlib.Core.Bool.{true}
 use mathlib.Core.List.{List, [], ◌∷◌, ◌++◌}
 use Prim.Native.Nat.{ℕ, ◌+◌, ◌≤◌, ◌<◌}
 use native.Mathlib.Omega.{arith}
-use lib.ListN.{length, get_or, drop, length-append}
+use lib.ListN.{length, get_or, take, drop, length-append, length-take}
+use lib.Seq.{get_or-take}
 use Rattle.text.specs.Text.{is_packed, spliced}
 use Rattle.text.proofs.Splice.{length-spliced}
 use Rattle.rules.specs.Frame.{line_feed}
@@ -14,6 +15,13 @@ use Rattle.printer.specs.Parts.{part_text, slip_text, SlipWords}
 use Rattle.printer.proofs.Lines.{slip_last, next_size, last_size, next_wrote, part_packed}
 use Rattle.printer.proofs.slips.put_line.Invariants.{Inv}
 use Rattle.printer.proofs.slips.put_line.Goals as goal
+
+-- whether a word is one of the first seven
+early : (ws : List ℕ) (k : ℕ) → length ws ≡ 8 → k < length (take 7 ws) → k < 7
+early ws k e h = omega (arith, length-take 7 ws)
+
+late : (ws : List ℕ) (k : ℕ) → length ws ≡ 8 → length (take 7 ws) ≤ k → 7 ≤ k
+late ws k e h = omega (arith, length-take 7 ws)
 
 start : (ws out : List ℕ) → SlipWords ws → length (slip_text ws) ≤ length out → Inv ws out out 0 0
 start ws out e h = record { eight = e; few = omega arith; room = h; same = refl; size = omega arith; text = refl }
@@ -64,30 +72,32 @@ module _ {ws out₀ out : List ℕ} {at k : ℕ} (v : Inv ws out₀ out at k) wh
         let e : spliced out at (slip_text (drop 7 ws)) ≡ spliced out₀ 0 (slip_text ws) = rw at_last at v.text in
         is ∙ ap (spliced out at) (sym (slip_last ws 7 (omega (arith, v.eight.count)))) ∙ e
 
-pub loop-k-init : goal.loop-k-init
-loop-k-init c = start _ _ c.requires.0 c.requires.1
-
-pub bounds-words-k : goal.bounds-words-k
-bounds-words-k c = omega (arith, c.loop-k.invariant.eight.count)
+pub loop-word-init : goal.loop-word-init
+loop-word-init c = start _ _ c.requires.0 c.requires.1
 
 pub put_part-at-requires : goal.put_part-at-requires
-put_part-at-requires c = (packed c.loop-k.invariant, roomy c.loop-k.invariant c.loop-k-test.true)
+put_part-at-requires c =
+    let ws = c.args.words.now in
+    let v = c.loop-word.invariant in
+    let more = early ws c.loop-word.word-index c.requires.0.count c.loop-word-test.true in
+    rw (get_or-take 7 ws c.loop-word.word-index 0 more) (packed v, roomy v more)
 
-pub loop-k-preserved : goal.loop-k-preserved
-loop-k-preserved c = again c.loop-k.invariant c.loop-k-test.true c.put_part-at.ensures.value c.put_part-at.ensures.out_after
+pub loop-word-preserved : goal.loop-word-preserved
+loop-word-preserved c =
+    let ws = c.args.words.now in
+    let more = early ws c.loop-word.word-index c.requires.0.count c.loop-word-test.true in
+    let e = rw (get_or-take 7 ws c.loop-word.word-index 0 more) at c.put_part-at.ensures in
+    again c.loop-word.invariant more e.value e.out_after
 
 pub bounds-words-7 : goal.bounds-words-7
-bounds-words-7 c = omega (arith, c.loop-k.invariant.eight.count)
+bounds-words-7 c = omega (arith, c.requires.0.count)
 
 pub put_part-requires : goal.put_part-requires
-put_part-requires c = (packed_last c.loop-k.invariant c.loop-k-test.false, roomy_last c.loop-k.invariant c.loop-k-test.false)
-
-pub shape_of-out : goal.shape_of-out
-shape_of-out c = c.put_part.auto.out ∙ c.loop-k.invariant.same
+put_part-requires c =
+    let over = late c.args.words.now c.loop-word.word-index c.requires.0.count c.loop-word-test.false in
+    (packed_last c.loop-word.invariant over, roomy_last c.loop-word.invariant over)
 
 pub returns : goal.returns
 returns c =
-    record {
-      value = c.put_part.ensures.value ∙ done c.loop-k.invariant c.loop-k-test.false;
-      out_after = wrote c.loop-k.invariant c.loop-k-test.false c.put_part.ensures.out_after;
-    }
+    let over = late c.args.words.now c.loop-word.word-index c.requires.0.count c.loop-word-test.false in
+    record { value = c.put_part.ensures.value ∙ done c.loop-word.invariant over; out_after = wrote c.loop-word.invariant over c.put_part.ensures.out_after }

@@ -2,7 +2,7 @@
 -- Assumes nothing.
 use mathlib.Core.Path.{◌≡◌}
 use mathlib.Core.List.{List}
-use Prim.Native.Nat.{ℕ, ◌+◌, ◌-◌, ◌≤◌}
+use Prim.Native.Nat.{ℕ, ◌+◌, ◌≤◌}
 use lib.ListN.{length, drop}
 use Rattle.text.specs.Text.{spliced}
 use Rattle.printer.specs.Parts.{slip_text, SlipWords}
@@ -16,8 +16,5 @@ pub record Inv (ws out₀ out : List ℕ) (at k : ℕ) : Type 0 where
   pub size : at + length (slip_text (drop k ws)) ≡ length (slip_text ws)
   pub text : spliced out at (slip_text (drop k ws)) ≡ spliced out₀ 0 (slip_text ws)
 
-abbrev pub invariant-loop-k : goal.invariant-loop-k
-invariant-loop-k l = Inv l.words l.initial.out l.out l.at l.k
-
-abbrev pub decreases-loop-k : goal.decreases-loop-k
-decreases-loop-k l = 7 - l.k
+abbrev pub invariant-loop-word : goal.invariant-loop-word
+invariant-loop-word l = Inv l.words l.initial.out l.out l.at l.word-index
