@@ -51,7 +51,12 @@ pub fn put_trailer(trailer: Trailer, place: Place, out: &mut [u8], from: usize)
 }
 
 // Ends a file with this trailer.
-fn end_as(trailer: Trailer, out: &mut [u8], offsets: &[u32], place: Place) -> Result<usize, NotEnded>
+fn end_as(
+    trailer: Trailer,
+    out: &mut [u8],
+    offsets: &[u32],
+    place: Place,
+) -> Result<usize, NotEnded>
     requires { Sound trailer }
     ensures value { result ≡ ended_of trailer out.old offsets.now place }
     ensures out_after { out.new ≡ out_ended result trailer out.old offsets.now place }

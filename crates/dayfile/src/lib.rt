@@ -242,7 +242,12 @@ pub fn keep_from(
 }
 
 // Keeps a line from the given place on, and its offset in the run; where it refuses it writes nothing.
-pub fn keep_line(line: &[u8], out: &mut [u8], offsets: &mut [u32], place: Place) -> Result<Place, NotKept>
+pub fn keep_line(
+    line: &[u8],
+    out: &mut [u8],
+    offsets: &mut [u32],
+    place: Place,
+) -> Result<Place, NotKept>
     ensures value { result ≡ kept_of 65535 0 line.now out.old offsets.old place }
     ensures out_after { out.new ≡ out_after result 0 line.now out.old place }
     ensures offsets_after { offsets.new ≡ run_after result offsets.old place }
