@@ -7,7 +7,7 @@ use feeding::FeedAnswer;
 use fields::frame::Stamp;
 use meanings::ages;
 use meanings::ages::Aged;
-use planner::{NotTaken, NotStruck};
+use planner::{NotStruck, NotTaken};
 use printer::NotPrinted;
 
 // Number, place, the board.

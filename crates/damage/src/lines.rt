@@ -141,7 +141,11 @@ pub(crate) fn say_written(written: Result<usize, NotWritten>) {
 }
 
 // Number, the place after the line, the buffer: of what is written of the words, where there are as many as a message has.
-fn write_by<F: FnOnce(&[u64; 48], &mut [u8]) -> Result<usize, NotWritten>>(w: &[u64], out: &mut [u8], write: F)
+fn write_by<F: FnOnce(&[u64; 48], &mut [u8]) -> Result<usize, NotWritten>>(
+    w: &[u64],
+    out: &mut [u8],
+    write: F,
+)
     requires { F.IsAlwaysCallable write }
 {
     let Some(w) = w.first_chunk::<48>() else {

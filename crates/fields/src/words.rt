@@ -40,4 +40,3 @@ pub fn put(kind: u8, t: u64, out: &mut [u8], at: usize) -> Result<usize, NotWrit
         Err(NotWritten::NoText)
     }
 }
-

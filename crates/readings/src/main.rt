@@ -75,7 +75,11 @@ fn say_values(kinds: [u8; 19], values: [Value; 19], count: usize) {
 }
 
 // Whether writing what was read, with the text after the fields, gives the bytes of the line.
-fn writes_back<F: FnOnce(&[u8], &mut [u8]) -> Result<usize, NotWritten>>(rule: Rule, line: &[u8], write: F) -> bool
+fn writes_back<F: FnOnce(&[u8], &mut [u8]) -> Result<usize, NotWritten>>(
+    rule: Rule,
+    line: &[u8],
+    write: F,
+) -> bool
     requires { F.IsAlwaysCallable write }
 {
     // no heap: the line lies at the start of a fixed room

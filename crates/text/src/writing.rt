@@ -3,7 +3,7 @@ ghost use Rattle.std.specs.Prelude.{◌≡◌, true, ◌+◌, ◌≤◌, leb, le
 ghost use Rattle.text.specs.Code.{byte_of};
 ghost use Rattle.text.specs.Text.{size_of, join_of, is_packed, text_of, spliced, written_next, written_bytes};
 
-use crate::{TOP, NotWritten, pack};
+use crate::{NotWritten, TOP, pack};
 
 // The byte of a code.
 fn byte(d: u64) -> u8
