@@ -3,7 +3,7 @@ use crate::cuts::say_begun;
 use crate::lines::say_written;
 use crate::numbers::{low_half, say_bytes, say_three, say_two, say_words};
 use cutter::Begun;
-use feeding::FeedAnswer;
+use feeding::NotFed;
 use fields::frame::Stamp;
 use meanings::ages;
 use meanings::ages::Aged;
@@ -48,10 +48,10 @@ pub(crate) fn print_counts(lines: u64, taken: u64, out: &mut [u8], at: usize) {
     say_bytes(out);
 }
 
-fn feed_number(answer: FeedAnswer) -> u64 {
+fn feed_number(answer: Result<(), NotFed>) -> u64 {
     match answer {
-        FeedAnswer::Fed => 0,
-        FeedAnswer::NotAllowed => 13,
+        Ok(()) => 0,
+        Err(NotFed) => 13,
     }
 }
 

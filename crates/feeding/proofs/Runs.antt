@@ -1,5 +1,6 @@
 -- DEMAND 3 ABOUT ALL CALLS: whatever `apply`, `strike` and `feed` were called with, in whatever order, from an empty board. A call of `feed` does to the board what
 -- `apply` does with each of its lines, so that `apply` and `strike` alone could have led there. Assumes nothing.
+use Rattle.std.specs.Prelude.{Err, Ok, Result}
 use mathlib.Core.Path.{◌≡◌, refl, sym, ap, ◌∙◌}
 use mathlib.Core.Bool.{Bool, true, false, ◌&&◌}
 use mathlib.Core.List.{List, [], ◌∷◌}
@@ -21,10 +22,9 @@ use Rattle.cutter.specs.State.{is_allowed}
 use Rattle.cutter.specs.declared.Begun.{Begun}
 use Rattle.feeding.specs.Tally.{event_of, rows_by, taken_by}
 use Rattle.feeding.specs.Fed.{lines_fed, read_in, fed_with, fed_of, board_fed, held_after, feed_number}
-use Rattle.feeding.specs.declared.FeedAnswer.{FeedAnswer}
-use Rattle.feeding.specs.declared.FeedAnswer.TheVariants.{Fed, NotAllowed}
 use Rattle.feeding.specs.Run.{history_from, Run, fresh, applied, struck, refused, fed}
 use Rattle.feeding.proofs.Theorems.{feed_refused}
+use Rattle.feeding.specs.declared.NotFed.{NotFed}
 
 -- every line that a feed has is some line for `apply`: an overlong one is to the board as one of no bytes, which has no reading either
 record Told (x : Line) : Type 0 where
@@ -89,8 +89,8 @@ all_calls h l p = planned.calls h l (as_applied p)
 pub any_feed : {h : History} {l : List ℕ} → Run h l → (held : List ℕ) (begun : Begun) (most : ℕ) (part : List ℕ) → (h' : History) × Run h' (board_fed l held begun most part)
 any_feed {h} {l} p held begun most part = go (fed_of l held begun most part).answer refl
   where
-    go : (a : FeedAnswer) → (fed_of l held begun most part).answer ≡ a → (h' : History) × Run h' (board_fed l held begun most part)
-    go Fed q =
+    go : (a : Result (Unit {0}) NotFed) → (fed_of l held begun most part).answer ≡ a → (h' : History) × Run h' (board_fed l held begun most part)
+    go (Ok tt) q =
         (history_from h (lines_fed held begun (read_in most part)), fed {r = fed_of l held begun most part} held (held_after l held begun most part) begun most part p (record { result = refl; words = refl; buffer = refl }) (ap feed_number q))
-    go NotAllowed q =
+    go (Err _) q =
         (h, refused {r = fed_of l held begun most part} held (held_after l held begun most part) begun most part p (record { result = refl; words = refl; buffer = refl }) (ap feed_number q))

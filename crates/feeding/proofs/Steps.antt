@@ -1,4 +1,5 @@
 -- One call of `cut`, and the line that it told of entered: that is what is read of what is left where one line may be. Assumes nothing.
+use Rattle.std.specs.Prelude.{Ok}
 use mathlib.Core.Path.{◌≡◌, refl, sym, ap, ◌∙◌}
 use mathlib.Core.Bool.{Bool, true, false}
 use mathlib.Core.List.{List, [], ◌∷◌, ◌++◌}
@@ -25,7 +26,6 @@ use Rattle.cutter.specs.declared.CutAnswer.{CutAnswer}
 use Rattle.cutter.specs.declared.CutAnswer.TheVariants as cut
 use Rattle.feeding.specs.Tally.{line_feeds, read_of}
 use Rattle.feeding.specs.Fed.{held_fed, begun_fed, lines_fed, read_in, fed_with, fed_of, board_fed, held_after}
-use Rattle.feeding.specs.declared.FeedAnswer.TheVariants.{Fed}
 use Rattle.feeding.proofs.Tallies.{read_free, read_cut, lines_told}
 use Rattle.feeding.proofs.Ways.{On}
 use Rattle.feeding.proofs.Turns.{more_none, held_none, closed_allowed, next_held, next_begun, next_lines, fed_ready, board_ready, held_ready}
@@ -94,7 +94,7 @@ same_count cut.NotAllowed l = refl
 module _ (board held : List ℕ) (begun : Begun) (rest : List ℕ) (b : is_board board ≡ true) (a : is_allowed held begun ≡ true) where
   pub stepped : (done : AfterCut) (held' : List ℕ) → (done ≡ cut_of held begun rest) × ((held' ≡ held_cut held begun rest) × CutIs held begun rest done held')
       → (k : ℕ) → k ≡ length (told_by done.answer []) → (n : ℕ) (board' : List ℕ) → On board done.answer held' rest n board'
-      → (record { answer = Fed; used = done.used; begun = done.begun; lines = k; taken = n } ≡ fed_of board held begun 1 rest)
+      → (record { answer = Ok tt; used = done.used; begun = done.begun; lines = k; taken = n } ≡ fed_of board held begun 1 rest)
       × ((board' ≡ board_fed board held begun 1 rest) × (held' ≡ held_after board held begun 1 rest))
   unfolding fed_with
   stepped done held' d k e n board' o =

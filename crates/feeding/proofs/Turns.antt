@@ -1,5 +1,6 @@
 -- One line more: what is read of a part is its first line, and then what is read from the board and the state that this line leaves.
 -- Assumes nothing.
+use Rattle.std.specs.Prelude.{Ok}
 use mathlib.Core.Path.{◌≡◌, refl, sym, ap, ◌∙◌}
 use mathlib.Core.Bool.{Bool, true, false, not}
 use mathlib.Core.List.{List, [], ◌∷◌, ◌++◌, append-nil}
@@ -37,7 +38,6 @@ use Rattle.cutter.proofs.Runs.{cut_still}
 use Rattle.feeding.specs.Tally.{event_of, one, rows_by, taken_by, line_feeds, read_of}
 use Rattle.feeding.specs.Fed.{held_fed, begun_fed, lines_fed, read_in, fed_with, fed_of, board_fed, held_after}
 use Rattle.feeding.specs.declared.AfterFeed.{AfterFeed}
-use Rattle.feeding.specs.declared.FeedAnswer.TheVariants.{Fed}
 use Rattle.feeding.proofs.Tallies.{read_none, read_zero, read_le, read_some, read_free, read_cut, drop_cut, feeds_cut, feeds_read, feeds_most, lines_told, taken_le}
 
 -- ---- no bytes change nothing
@@ -128,7 +128,7 @@ module _ (board held : List ℕ) (begun : Begun) (b : is_board board ≡ true) (
 
   -- where nothing is read, nothing changes
   module _ (z : read_of n part ≡ 0) where
-    pub nothing_fed : fed_of board held begun n part ≡ record { answer = Fed; used = 0; begun = begun; lines = 0; taken = 0 }
+    pub nothing_fed : fed_of board held begun n part ≡ record { answer = Ok tt; used = 0; begun = begun; lines = 0; taken = 0 }
     unfolding fed_with pieces begun_fed told line_feeds taken_by
     nothing_fed = fed_ready ∙ rw (z, more_none held begun a)
 
@@ -146,21 +146,21 @@ module _ (board held : List ℕ) (begun : Begun) (b : is_board board ≡ true) (
 abbrev pub summed : AfterFeed → AfterFeed → AfterFeed
 summed a b = record { answer = b.answer; used = a.used + b.used; begun = b.begun; lines = a.lines + b.lines; taken = a.taken + b.taken }
 
-pub plus_none : (r : AfterFeed) → r.answer ≡ Fed → summed r (record { answer = Fed; used = 0; begun = r.begun; lines = 0; taken = 0 }) ≡ r
+pub plus_none : (r : AfterFeed) → r.answer ≡ Ok tt → summed r (record { answer = Ok tt; used = 0; begun = r.begun; lines = 0; taken = 0 }) ≡ r
 plus_none r e =
     let u : r.used + 0 ≡ r.used = omega arith in
     let l : r.lines + 0 ≡ r.lines = omega arith in
     let k : r.taken + 0 ≡ r.taken = omega arith in
     rw (u, l, k, ← e)
 
-pub none_plus : (begun : Begun) (r : AfterFeed) → summed (record { answer = Fed; used = 0; begun = begun; lines = 0; taken = 0 }) r ≡ r
+pub none_plus : (begun : Begun) (r : AfterFeed) → summed (record { answer = Ok tt; used = 0; begun = begun; lines = 0; taken = 0 }) r ≡ r
 none_plus begun r =
     let u : 0 + r.used ≡ r.used = omega arith in
     let l : 0 + r.lines ≡ r.lines = omega arith in
     let k : 0 + r.taken ≡ r.taken = omega arith in
     rw (u, l, k)
 
-pub plus_plus : (x y z : AfterFeed) → summed (record { answer = Fed; used = x.used + y.used; begun = y.begun; lines = x.lines + y.lines; taken = x.taken + y.taken }) z ≡ summed x (summed y z)
+pub plus_plus : (x y z : AfterFeed) → summed (record { answer = Ok tt; used = x.used + y.used; begun = y.begun; lines = x.lines + y.lines; taken = x.taken + y.taken }) z ≡ summed x (summed y z)
 plus_plus x y z =
     let u : x.used + y.used + z.used ≡ x.used + (y.used + z.used) = omega arith in
     let l : x.lines + y.lines + z.lines ≡ x.lines + (y.lines + z.lines) = omega arith in
@@ -192,7 +192,7 @@ module _ (board held : List ℕ) (begun : Begun) (b : is_board board ≡ true) (
   held₁ = held_closed held begun p
 
   abbrev first : AfterFeed
-  first = record { answer = Fed; used = length p + 1; begun = start; lines = 1; taken = one (answer (rows_of board) (event_of the_line)) }
+  first = record { answer = Ok tt; used = length p + 1; begun = start; lines = 1; taken = one (answer (rows_of board) (event_of the_line)) }
 
   rows₁ : rows_of board₁ ≡ rows_after (rows_of board) (event_of the_line)
   unfolding rows_by
@@ -275,7 +275,7 @@ module _ (board held : List ℕ) (begun : Begun) (b : is_board board ≡ true) (
         held_ready board held begun b a (suc n) rest
         ∙ rw (held_ready board held begun b a 1 rest, (read_free n rest none).text, (read_free 0 rest none).text)
 
-    all_used : (r : AfterFeed) → r ≡ fed_of board held begun 1 rest → (r.answer ≡ Fed) × (drop r.used rest ≡ [])
+    all_used : (r : AfterFeed) → r ≡ fed_of board held begun 1 rest → (r.answer ≡ Ok tt) × (drop r.used rest ≡ [])
     unfolding fed_with
     all_used r e = rw (e, fed_ready board held begun b a 1 rest, (read_free 0 rest none).used) (refl, drop-length rest)
 

@@ -1,6 +1,6 @@
 -- A whole part of a feed through cutter and planner: what `feed` answers, the counts, the board and the cutter's state after it.
 -- Assumes nothing.
-use Rattle.std.specs.Prelude.{ℕ, ◌≡◌, Bool, cond, ◌&&◌, List, [], ◌∷◌, take}
+use Rattle.std.specs.Prelude.{ℕ, ◌≡◌, Bool, cond, ◌&&◌, List, [], ◌∷◌, take, Err, Ok, Result}
 use Rattle.shapes.specs.Pieces.{pieces}
 use Rattle.board.specs.Board.{rows_of, words_of, is_allowed as is_board}
 use Rattle.rules.specs.Frame.{line_feed}
@@ -11,8 +11,7 @@ use Rattle.cutter.specs.Told.{told}
 use Rattle.cutter.specs.declared.Begun.{Begun}
 use Rattle.feeding.specs.Tally.{rows_by, taken_by, line_feeds, read_of}
 use Rattle.feeding.specs.declared.AfterFeed.{AfterFeed}
-use Rattle.feeding.specs.declared.FeedAnswer.{FeedAnswer}
-use Rattle.feeding.specs.declared.FeedAnswer.TheVariants.{Fed, NotAllowed}
+use Rattle.feeding.specs.declared.NotFed.{NotFed}
 
 -- ---- the cutter's state after the pieces of a text: each but the last ends a line
 
@@ -44,7 +43,7 @@ read_in most part = take (read_of most part) part
 unfoldable pub fed_with : List ℕ → List ℕ → Begun → ℕ → List ℕ → AfterFeed
 fed_with board held begun most part =
     record {
-      answer = Fed;
+      answer = Ok tt;
       used = read_of most part;
       begun = begun_fed held begun (pieces line_feed (read_in most part));
       lines = line_feeds (read_in most part);
@@ -53,7 +52,7 @@ fed_with board held begun most part =
 
 -- nothing is read, and the state is handed back
 abbrev pub refused_with : Begun → AfterFeed
-refused_with begun = record { answer = NotAllowed; used = 0; begun = begun; lines = 0; taken = 0 }
+refused_with begun = record { answer = Err (record {}); used = 0; begun = begun; lines = 0; taken = 0 }
 
 unfoldable pub fed_of : List ℕ → List ℕ → Begun → ℕ → List ℕ → AfterFeed
 fed_of board held begun most part = cond (is_ready board held begun) (fed_with board held begun most part) (refused_with begun)
@@ -65,9 +64,9 @@ board_fed board held begun most part =
 unfoldable pub held_after : List ℕ → List ℕ → Begun → ℕ → List ℕ → List ℕ
 held_after board held begun most part = cond (is_ready board held begun) (held_fed held begun (pieces line_feed (read_in most part))) held
 
-abbrev pub feed_number : FeedAnswer → ℕ
-feed_number Fed = 0
-feed_number NotAllowed = 13
+abbrev pub feed_number : Result (Unit {0}) NotFed → ℕ
+feed_number (Ok tt) = 0
+feed_number (Err _) = 13
 
 -- what `feed` promises of a call: the result, and both buffers as they are left. `proofs/Theorems` shows that this is the promise in the
 -- source.

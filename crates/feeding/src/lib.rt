@@ -16,17 +16,14 @@ use board::is_allowed;
 use cutter::{Begun, CutAnswer, cut, line};
 use planner::apply_allowed;
 
-// What `feed` answers: 0, 13.
-#[derive(Clone, Copy)]
-pub enum FeedAnswer {
-    Fed,
-    NotAllowed,
-}
+// Why `feed` reads nothing: 13, the board or the state of the cutter is not allowed.
+#[derive(Clone, Copy, PartialEq, Eq)]
+pub struct NotFed;
 
 // How much of the part was read, the cutter's state after it, how many lines ended in it, and how many of these were taken.
 #[derive(Clone, Copy)]
 pub struct AfterFeed {
-    pub answer: FeedAnswer,
+    pub answer: Result<(), NotFed>,
     pub used: usize,
     pub begun: Begun,
     pub lines: usize,
@@ -83,7 +80,7 @@ fn step(board: &mut [u64], held: &mut [u8], begun: Begun, rest: &[u8]) -> AfterF
     let done = cut(held, begun, rest);
     let taken = enter(board, done.answer, &held[..], rest);
     AfterFeed {
-        answer: FeedAnswer::Fed,
+        answer: Ok(()),
         used: done.used,
         begun: done.begun,
         lines: ended(done.answer),
@@ -106,7 +103,7 @@ pub fn feed_allowed(
     ensures held_after { held.new ≡ held_after board.old held.old begun most part.now }
 {
     let mut fed = AfterFeed {
-        answer: FeedAnswer::Fed,
+        answer: Ok(()),
         used: 0,
         begun,
         lines: 0,
@@ -116,7 +113,7 @@ pub fn feed_allowed(
     while fed.used < part.len() && fed.lines < most {
         let turn = step(board, held, fed.begun, &part[fed.used..]);
         fed = AfterFeed {
-            answer: FeedAnswer::Fed,
+            answer: Ok(()),
             used: fed.used + turn.used,
             begun: turn.begun,
             lines: fed.lines + turn.lines,
@@ -131,7 +128,7 @@ fn refused(begun: Begun) -> AfterFeed
     ensures { result ≡ refused_with begun }
 {
     AfterFeed {
-        answer: FeedAnswer::NotAllowed,
+        answer: Err(NotFed),
         used: 0,
         begun,
         lines: 0,

@@ -1,5 +1,6 @@
 -- `feed_allowed` meets its contract: what was read, and what is read of what is left from the board and the state as they are now, make
 -- what is read of the whole. Assumes nothing.
+use Rattle.std.specs.Prelude.{Ok}
 use mathlib.Core.Path.{◌≡◌, refl, sym, ap, ◌∙◌}
 use mathlib.Core.Bool.{true}
 use mathlib.Core.List.{List}
@@ -16,14 +17,13 @@ use Rattle.cutter.proofs.States.{allowed_size}
 use Rattle.feeding.specs.Tally.{read_of}
 use Rattle.feeding.specs.Fed.{fed_of, board_fed, held_after}
 use Rattle.feeding.specs.declared.AfterFeed.{AfterFeed}
-use Rattle.feeding.specs.declared.FeedAnswer.TheVariants.{Fed}
 use Rattle.feeding.proofs.Tallies.{read_none, read_zero}
 use Rattle.feeding.proofs.Turns.{summed, plus_none, none_plus, plus_plus, board_still, held_still, nothing_fed, nothing_board, nothing_held, turn, Counts, counts}
 use Rattle.feeding.proofs.feed_allowed.Invariants.{Inv}
 use Rattle.feeding.proofs.feed_allowed.Goals as goal
 
 start : (board held : List ℕ) (begun : Begun) (most : ℕ) (part : List ℕ) → is_board board ≡ true → is_allowed held begun ≡ true
-    → Inv board held begun most part board held (record { answer = Fed; used = 0; begun = begun; lines = 0; taken = 0 })
+    → Inv board held begun most part board held (record { answer = Ok tt; used = 0; begun = begun; lines = 0; taken = 0 })
 start board held begun most part b a =
     let z : most - 0 ≡ most = omega arith in
     record {
@@ -73,7 +73,7 @@ module _ {board₀ held₀ : List ℕ} {begun₀ : Begun} {most : ℕ} {part boa
     goes_on : (0 < r.used) × (fed.used + r.used ≤ length part)
     goes_on = (counts'.goes (omega (arith, length-drop fed.used part)), omega (arith, counts'.within, length-drop fed.used part))
 
-    again : Inv board₀ held₀ begun₀ most part board' held' (record { answer = Fed; used = fed.used + r.used; begun = r.begun; lines = fed.lines + r.lines; taken = fed.taken + r.taken })
+    again : Inv board₀ held₀ begun₀ most part board' held' (record { answer = Ok tt; used = fed.used + r.used; begun = r.begun; lines = fed.lines + r.lines; taken = fed.taken + r.taken })
     again =
         let f : board' ≡ board_fed board held fed.begun 1 rest = rw (rest_all part fed.used) at e.1.0 in
         let g : held' ≡ held_after board held fed.begun 1 rest = rw (rest_all part fed.used) at e.1.1 in

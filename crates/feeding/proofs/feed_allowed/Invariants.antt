@@ -1,5 +1,6 @@
 -- `feed_allowed` meets its contract: what was read, and what is read of what is left from the board and the state as they are now, make
 -- what is read of the whole. Assumes nothing.
+use Rattle.std.specs.Prelude.{Ok}
 use mathlib.Core.Path.{◌≡◌}
 use mathlib.Core.Bool.{true}
 use mathlib.Core.List.{List}
@@ -10,12 +11,11 @@ use Rattle.cutter.specs.State.{is_allowed}
 use Rattle.cutter.specs.declared.Begun.{Begun}
 use Rattle.feeding.specs.Fed.{fed_of, board_fed, held_after}
 use Rattle.feeding.specs.declared.AfterFeed.{AfterFeed}
-use Rattle.feeding.specs.declared.FeedAnswer.TheVariants.{Fed}
 use Rattle.feeding.proofs.Turns.{summed}
 use Rattle.feeding.proofs.feed_allowed.Given as goal
 
 pub record Inv (board₀ held₀ : List ℕ) (begun₀ : Begun) (most : ℕ) (part board held : List ℕ) (fed : AfterFeed) : Type 0 where
-  pub answered : fed.answer ≡ Fed
+  pub answered : fed.answer ≡ Ok tt
   pub good : is_board board ≡ true
   pub begins : is_allowed held fed.begun ≡ true
   pub board_size : length board ≡ length board₀
