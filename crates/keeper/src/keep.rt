@@ -39,7 +39,7 @@ fn count_line(keep: Keep, kept: Result<Place, NotKept>) -> Keep
             place: next,
             full: false,
         },
-        _ => Keep {
+        Err(_) => Keep {
             begun,
             lines: keep.lines + 1,
             place,
