@@ -12,7 +12,7 @@ ghost use Rattle.text.specs.Code.{code_of};
 ghost use Rattle.text.specs.Number.{read_number};
 ghost use Rattle.text.specs.Text.{is_text, packed, pack_of};
 
-// What a writer answers: the place after what it wrote; no room from the given place; or nothing that can be written.
+// Why a writer writes nothing: no room from the given place, or nothing that can be written. Else it answers the place after what it wrote.
 #[derive(Clone, Copy, PartialEq, Eq)]
 pub enum NotWritten {
     NoRoom,

@@ -45,10 +45,7 @@ pub fn size(t: u64) -> Option<usize>
 pub fn has_room(n: usize, len: usize, at: usize) -> bool
     ensures { result ≡ leb (at + n) len }
 {
-    if at > len {
-        return false;
-    }
-    n <= len - at
+    at <= len && n <= len - at
 }
 
 // Writes the text of t from place `at`, where it fits.
@@ -76,17 +73,13 @@ pub fn put(t: u64, out: &mut [u8], at: usize) -> Result<usize, NotWritten>
     ensures value { result ≡ written_next (is_packed t) (text_of t) out.old at }
     ensures out_after { out.new ≡ written_bytes (is_packed t) (text_of t) out.old at }
 {
-    let found = size(t);
-    match found {
-        None => Err(NotWritten::NoText),
-        Some(n) => {
-            if !has_room(n, out.len(), at) {
-                return Err(NotWritten::NoRoom);
-            }
-            let next = write(t, out, at);
-            Ok(next)
-        }
+    let Some(n) = size(t) else {
+        return Err(NotWritten::NoText);
+    };
+    if !has_room(n, out.len(), at) {
+        return Err(NotWritten::NoRoom);
     }
+    Ok(write(t, out, at))
 }
 
 // Writes the bytes s from place `at`, and leaves every other byte as it is; where there is no room it writes nothing.
@@ -107,20 +100,15 @@ pub fn join(a: u64, b: u64) -> Option<u64>
     ensures { result ≡ join_of a b }
 {
     let mut room = [0u8; 12];
-    let first = put(a, &mut room, 0);
-    match first {
-        Err(_) => None,
-        Ok(n) => {
-            if n >= 12 {
-                return None;
-            }
-            room[n] = b'/';
-            let m = n + 1;
-            let second = put(b, &mut room, m);
-            match second {
-                Err(_) => None,
-                Ok(end) => pack(&room[..end]),
-            }
-        }
+    let Ok(n) = put(a, &mut room, 0) else {
+        return None;
+    };
+    if n >= 12 {
+        return None;
     }
+    room[n] = b'/';
+    let Ok(end) = put(b, &mut room, n + 1) else {
+        return None;
+    };
+    pack(&room[..end])
 }
