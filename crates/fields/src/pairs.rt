@@ -45,7 +45,14 @@ pub(crate) fn pair_word(a: u64, b: u64) -> Option<u64>
 }
 
 // Writes the text of two words of the kinds from place `at`.
-pub(crate) fn put_pair(first: u8, second: u8, a: u64, b: u64, out: &mut [u8], at: usize) -> Result<usize, NotWritten>
+pub(crate) fn put_pair(
+    first: u8,
+    second: u8,
+    a: u64,
+    b: u64,
+    out: &mut [u8],
+    at: usize,
+) -> Result<usize, NotWritten>
     ensures value { result ≡ written_next (is_pair_text first second a b) (pair_text a b) out.old at }
     ensures out_after { out.new ≡ written_bytes (is_pair_text first second a b) (pair_text a b) out.old at }
 {
