@@ -10,16 +10,16 @@ ghost use Rattle.text.specs.Text.{text_of, written_next, written_bytes};
 
 use crate::kinds;
 use crate::kinds::{
-    AIRCRAFT, AMENDMENT, CONTENT, NotRead, IDENT, OLD_AIRCRAFT, OLD_CONTENT, PLAN_TIME, ROUTE,
+    AIRCRAFT, AMENDMENT, CONTENT, IDENT, NotRead, OLD_AIRCRAFT, OLD_CONTENT, PLAN_TIME, ROUTE,
     TZ_IDENT, Value,
 };
 use fields::aircraft::Aircraft;
 use fields::flight::{ComputerNumber, Key};
 use fields::idents::Ident;
 use fields::plan::Time;
-use fields::words;
-use text::writing::put_bytes;
+use fields::words::{self, Worded};
 use text::NotWritten;
+use text::writing::put_bytes;
 
 fn read_ident(s: &[u8]) -> Result<Value, NotRead>
     ensures { result ≡ of_ident (ident_of s.now) }
@@ -222,7 +222,13 @@ fn put_word(kind: u8, v: Value, out: &mut [u8], at: usize) -> Result<usize, NotW
 }
 
 // A value of a kind by itself.
-fn put_kind(kind: u8, v: Value, route: &[u8], out: &mut [u8], at: usize) -> Result<usize, NotWritten>
+fn put_kind(
+    kind: u8,
+    v: Value,
+    route: &[u8],
+    out: &mut [u8],
+    at: usize,
+) -> Result<usize, NotWritten>
     ensures value { result ≡ written_next (is_kind_value kind route.now v) (shown_kind kind route.now v) out.old at }
     ensures out_after { out.new ≡ written_bytes (is_kind_value kind route.now v) (shown_kind kind route.now v) out.old at }
 {
@@ -275,7 +281,14 @@ fn put_mark(mark: u64, out: &mut [u8], at: usize) -> Result<usize, NotWritten>
 }
 
 // A value after the trace of the field before it.
-pub fn put_field(kind: u8, trace: u8, v: Value, route: &[u8], out: &mut [u8], at: usize) -> Result<usize, NotWritten>
+pub fn put_field(
+    kind: u8,
+    trace: u8,
+    v: Value,
+    route: &[u8],
+    out: &mut [u8],
+    at: usize,
+) -> Result<usize, NotWritten>
     ensures value { result ≡ written_next (is_value kind trace route.now v) (shown kind trace route.now v) out.old at }
     ensures out_after { out.new ≡ written_bytes (is_value kind trace route.now v) (shown kind trace route.now v) out.old at }
 {

@@ -19,15 +19,15 @@ ghost use Rattle.writer.specs.Cases.{place_after, WriteCase};
 use crate::sizes::size_line;
 use fields::frame::{Sequence, Stamp, body_at};
 use fields::heads::{Facility, MessageType};
-use fields::words;
+use fields::words::{self, Worded};
 use messages::values::values_in;
 use messages::{Body, Message, OldMessage, Reading, marks_in, type_in};
 use rules::{FACILITY_AT, OLD_CENTER_AT, OLD_TYPE_AT, Rule, STAMP_AT, TYPE_AT};
 use table::field::put_field;
 use table::kinds::Value;
 use table::{field_count, has_fields, kinds, kinds_of};
-use text::writing::{has_room, put_bytes};
 use text::NotWritten;
+use text::writing::{has_room, put_bytes};
 
 // Where a field's text ends, and its trace for the next one.
 #[derive(Clone, Copy)]
@@ -131,7 +131,13 @@ fn put_line(rule: Rule, x: Reading, free: &[u8], out: &mut [u8])
 }
 
 // Writes a line of the rule from place `at`.
-fn write_by(rule: Rule, x: Reading, free: &[u8], out: &mut [u8], at: usize) -> Result<usize, NotWritten>
+fn write_by(
+    rule: Rule,
+    x: Reading,
+    free: &[u8],
+    out: &mut [u8],
+    at: usize,
+) -> Result<usize, NotWritten>
     ensures value { result ≡ written_next (is_allowed_by rule x free.now) (line_by rule x free.now) out.old at }
     ensures out_after { out.new ≡ written_bytes (is_allowed_by rule x free.now) (line_by rule x free.now) out.old at }
     ensures write_case { WriteCase rule x free.now out.old at (write_answer result) (place_after result) out.new }

@@ -9,7 +9,7 @@ ghost use Rattle.writer.specs.Size.{AllAsks, sized_text, sized_field, sized_all,
 
 use fields::frame::{Sequence, Stamp, body_at};
 use fields::heads::Facility;
-use fields::words;
+use fields::words::{self, Worded};
 use messages::values::values_in;
 use messages::{Body, Reading, marks_in, type_in};
 use rules::{LONGEST_LINE, Rule};
@@ -70,8 +70,7 @@ fn size_all(kinds: &[u8], values: [Value; 19], route: &[u8]) -> Option<(usize, u
     let mut trace: u8 = 0;
     let mut marks: u8 = 0;
     for (k, &kind) in kinds.iter().enumerate() {
-        let (n, next, after) = size_field(kind, trace, marks, values[k], route)
-       ?;
+        let (n, next, after) = size_field(kind, trace, marks, values[k], route)?;
         size += n + 1;
         trace = next;
         marks = after;
