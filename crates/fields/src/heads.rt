@@ -48,11 +48,7 @@ impl Facility {
     pub fn holds(self) -> bool
         ensures { result ≡ is_facility_value self.0 }
     {
-        if self.0 > LAST_FACILITY {
-            return false;
-        }
-        let room = self.bytes();
-        rules::is_facility(&room)
+        self.0 <= LAST_FACILITY && rules::is_facility(&self.bytes())
     }
 
     pub fn put(self, out: &mut [u8], at: usize) -> Result<usize, NotWritten>

@@ -22,8 +22,7 @@ pub fn holds(kind: u8, t: u64) -> bool
     ensures { result ≡ is_word kind t }
 {
     let mut room = [0u8; 12];
-    let written = writing::put(t, &mut room, 0);
-    match written {
+    match writing::put(t, &mut room, 0) {
         Ok(n) => rules::is_form(kind, &room[..n]),
         Err(_) => false,
     }
