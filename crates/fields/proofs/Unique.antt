@@ -28,6 +28,9 @@ use Rattle.fields.proofs.track.ArrivalClockWorded.holds.Reads as arrival-clock-h
 use Rattle.fields.proofs.track.GroundSpeedWorded.holds.Reads as ground-speed-holds
 use Rattle.fields.proofs.track.PositionWorded.holds.Reads as position-holds
 use Rattle.fields.proofs.track.TrackLevelWorded.holds.Reads as track-level-holds
+use Rattle.fields.proofs.words.Worded.holds.Reads as worded-holds
+use Rattle.fields.proofs.words.Worded.put.Reads as worded-put
+use Rattle.fields.proofs.words.Worded.read.Reads as worded-read
 use Rattle.fields.proofs.words.holds.Reads as holds
 use Rattle.fields.proofs.words.put.Reads as put
 use Rattle.fields.proofs.words.read.Reads as read
@@ -76,6 +79,17 @@ position_holds_one κs a r r' s s' p q = p ∙ sym q
 
 pub arrival_clock_holds_one : (κs : _) (a : _) (r r' : _) (s s' : _) → arrival-clock-holds.Post κs a r s → arrival-clock-holds.Post κs a r' s' → r ≡ r'
 arrival_clock_holds_one κs a r r' s s' p q = p ∙ sym q
+
+-- ---- any type of one word: t to y are the type and what it says of itself
+
+pub worded_read_one : (t l h w d x y : _) (κs : _) (a : _) (r r' : _) (s s' : _) → worded-read.Post t l h w d x y κs a r s → worded-read.Post t l h w d x y κs a r' s' → r ≡ r'
+worded_read_one t l h w d x y κs a r r' s s' p q = p ∙ sym q
+
+pub worded_holds_one : (t l h w d x y : _) (κs : _) (a : _) (r r' : _) (s s' : _) → worded-holds.Post t l h w d x y κs a r s → worded-holds.Post t l h w d x y κs a r' s' → r ≡ r'
+worded_holds_one t l h w d x y κs a r r' s s' p q = p ∙ sym q
+
+pub worded_put_one : (t l h w d x y : _) (κs : _) (a : _) (r r' : _) (s s' : _) → worded-put.Post t l h w d x y κs a r s → worded-put.Post t l h w d x y κs a r' s' → (r ≡ r') × (s.1.0.now ≡ s'.1.0.now)
+worded_put_one t l h w d x y κs a r r' s s' p q = (p.0 ∙ sym q.0, p.1 ∙ sym q.1)
 
 -- ---- aircraft
 

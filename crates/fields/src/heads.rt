@@ -99,6 +99,7 @@ const TO: u32 = 0x544F;
 
 const HB: u32 = 0x4842;
 
+// (Not `TryFrom` and `From`: what they promise would stand in a ghost member and not at the function, and `read` is promised by its name.)
 impl MessageType {
     pub fn read(s: &[u8]) -> Option<MessageType>
         ensures { result ≡ type_of s.now }

@@ -38,7 +38,7 @@ module _ (s : List ℕ) (long : length s ≡ 8) where
       rw (digits_fit 8 s (lit≤ tt) long, e, within_part s e 0 2 6 long 1 31, within_part s e 2 2 4 long 0 23, within_part s e 4 2 2 long 0 59, within_part s e 6 2 0 long 0 59, div-one)
       (simp (leb-zero, and_assoc) (rw (mod-eq_of_lt small)))
 
-  stamp_is : {n : ℕ} → read_number 10 s ≡ Some n → is_moment n ≡ is_stamp s
+  pub stamp_is : {n : ℕ} → read_number 10 s ≡ Some n → is_moment n ≡ is_stamp s
   stamp_is told = let k = number_known 10 s told in rw k.1 (moment_is k.0)
 
   -- what is said of a number that may not be there
@@ -51,7 +51,7 @@ module _ (s : List ℕ) (long : length s ≡ 6) where
   unfolding is_old_stamp
   no_old_stamp told = rw (digits_fit 6 s (lit≤ tt) long, number_none 10 s told)
 
-  old_stamp_is : {n : ℕ} → read_number 10 s ≡ Some n → is_time_of_day n ≡ is_old_stamp s
+  pub old_stamp_is : {n : ℕ} → read_number 10 s ≡ Some n → is_time_of_day n ≡ is_old_stamp s
   unfolding is_old_stamp
   old_stamp_is told =
       let k = number_known 10 s told in

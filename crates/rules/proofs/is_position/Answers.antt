@@ -1,5 +1,5 @@
 -- `rules::is_position` meets its contract: each test is a part of what a position is, said of its numbers. Assumes nothing.
-use mathlib.Core.Path.{◌≡◌, sym, ◌∙◌}
+use mathlib.Core.Path.{◌≡◌, ◌∙◌}
 use mathlib.Core.Bool.{◌&&◌}
 use Prim.Native.Char.{code}
 use lib.Dec.{eqb}
