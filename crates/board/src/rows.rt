@@ -6,6 +6,7 @@ use fields::flight::Key;
 use fields::frame::Stamp;
 use fields::plan::Point;
 use fields::track::{ArrivalClock, GroundSpeed, Position, TrackLevel};
+use fields::words::Worded;
 
 // What a DZ or an AZ writes; the stamp is that of its line.
 #[derive(Clone, Copy)]

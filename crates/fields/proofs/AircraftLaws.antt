@@ -1,5 +1,5 @@
 -- The ways of the functions of `aircraft`. Assumes nothing.
-use Rattle.std.specs.Prelude.{None, Option, Some}
+use Rattle.std.specs.Prelude.{None, Option, Some, MatchOption}
 use mathlib.Core.Path.{◌≡◌, refl, sym, ap, ◌∙◌}
 use mathlib.Core.Bool.{Bool, true, false, ◌||◌}
 use mathlib.Core.List.{List}
@@ -51,6 +51,11 @@ module _ (s : List ℕ) where
   pub with_one : plain_of s ≡ None → prefixed_of s ≡ aircraft_of s
   unfolding aircraft_of
   with_one e = rw e
+
+  -- the reading without a prefix, or else what another reader says
+  pub read_either : (r : Option Aircraft) (P : Type 0) (q : Option Aircraft) → q ≡ plain_of s → MatchOption q P (λ a. r ≡ Some a) → (P → r ≡ prefixed_of s) → r ≡ aircraft_of s
+  read_either r P (Some a) e p f = p ∙ without (sym e)
+  read_either r P None e p f = f p ∙ with_one (sym e)
 
 -- ---- writing
 

@@ -15,21 +15,21 @@ use Rattle.rules.specs.Form.{is_stamp, is_key, is_clock, is_time, is_arrival, is
 use Rattle.rules.specs.Kind.{SEQUENCE, STAMP, KEY, POINT, TIME, GROUND_SPEED, TRACK_LEVEL, POSITION, ARRIVAL, is_form}
 use Rattle.rules.specs.declared.Rule.TheVariants.{New, Old}
 use Rattle.fields.specs.Word.{word_of, is_word}
-use Rattle.fields.proofs.flight.Key.read.Reads as key-read
-use Rattle.fields.proofs.flight.Key.holds.Reads as key-holds
+use Rattle.fields.proofs.flight.KeyWorded.read.Reads as key-read
+use Rattle.fields.proofs.flight.KeyWorded.holds.Reads as key-holds
 use Rattle.fields.proofs.frame.body_at.Reads as body_at
-use Rattle.fields.proofs.frame.Sequence.read.Reads as sequence-read
-use Rattle.fields.proofs.frame.Sequence.holds.Reads as sequence-holds
-use Rattle.fields.proofs.frame.Sequence.put.Reads as sequence-put
-use Rattle.fields.proofs.frame.Stamp.read.Reads as stamp-read
-use Rattle.fields.proofs.frame.Stamp.holds.Reads as stamp-holds
-use Rattle.fields.proofs.frame.Stamp.put.Reads as stamp-put
-use Rattle.fields.proofs.plan.Point.holds.Reads as point-holds
-use Rattle.fields.proofs.plan.Time.read.Reads as time-read
-use Rattle.fields.proofs.track.GroundSpeed.holds.Reads as ground-speed-holds
-use Rattle.fields.proofs.track.TrackLevel.holds.Reads as track-level-holds
-use Rattle.fields.proofs.track.Position.holds.Reads as position-holds
-use Rattle.fields.proofs.track.ArrivalClock.holds.Reads as arrival-holds
+use Rattle.fields.proofs.frame.SequenceWorded.read.Reads as sequence-read
+use Rattle.fields.proofs.frame.SequenceWorded.holds.Reads as sequence-holds
+use Rattle.fields.proofs.frame.SequenceWorded.put.Reads as sequence-put
+use Rattle.fields.proofs.frame.StampWorded.read.Reads as stamp-read
+use Rattle.fields.proofs.frame.StampWorded.holds.Reads as stamp-holds
+use Rattle.fields.proofs.frame.StampWorded.put.Reads as stamp-put
+use Rattle.fields.proofs.plan.PointWorded.holds.Reads as point-holds
+use Rattle.fields.proofs.plan.TimeWorded.read.Reads as time-read
+use Rattle.fields.proofs.track.GroundSpeedWorded.holds.Reads as ground-speed-holds
+use Rattle.fields.proofs.track.TrackLevelWorded.holds.Reads as track-level-holds
+use Rattle.fields.proofs.track.PositionWorded.holds.Reads as position-holds
+use Rattle.fields.proofs.track.ArrivalClockWorded.holds.Reads as arrival-holds
 use Rattle.text.specs.declared.NotWritten.TheVariants.{NoText}
 
 -- the body of a line begins after 18 bytes, and that of an old line after nine

@@ -1,7 +1,8 @@
 -- THE LAWS of idents: reading is sound and complete, and the ways of the readers. Assumes nothing.
-use Rattle.std.specs.Prelude.{None, Option, Some}
+use Rattle.std.specs.Prelude.{None, Option, Some, MatchOption}
+use Rattle.std.specs.Bool.{then_some}
 use mathlib.Core.Path.{◌≡◌, refl, sym, ap, ◌∙◌}
-use mathlib.Core.Bool.{Bool, true, false, cond, ◌&&◌, or-false, or-true}
+use mathlib.Core.Bool.{Bool, true, false, cond, not, ◌&&◌, or-false, or-true}
 use mathlib.Core.List.{List}
 use Prim.Native.Nat.{ℕ, ◌≤◌}
 use native.Mathlib.Omega.{arith}
@@ -67,6 +68,28 @@ tz_as s = go (has slash s) refl
         inner : (t : Bool) → as_tz (cond t (Some (packed (before slash s), packed (after slash s))) None) ≡ None
         inner true = rw (whole_after slash s (no_cut slash s q), packed_none)
         inner false = refl
+
+-- an ident that has a number
+abbrev with_number : Option Ident → Option Ident
+with_number (Some i) = cond (eqb i.number.0 0) None (Some i)
+with_number None = None
+
+tz_of_ident : (s : List ℕ) → with_number (ident_of s) ≡ tz_ident_of s
+tz_of_ident s = ap with_number (sym (ident_as s)) ∙ go (pair_of KEY NUMBER s) ∙ tz_as s
+  where
+    go : (q : Option (ℕ × ℕ)) → with_number (as_ident q) ≡ as_tz q
+    go (Some (k, n)) = refl
+    go None = refl
+
+-- the ident that was read, kept where a test of its number says so
+pub tz_filtered : (s : List ℕ) (r : Option Ident) (P : Ident → Bool → Type 0) (q : Option Ident) → q ≡ ident_of s
+    → MatchOption q (r ≡ None) (λ i. (b : Bool) × P i b × (r ≡ then_some b i)) → ((i : Ident) (b : Bool) → P i b → b ≡ not (eqb i.number.0 0)) → r ≡ tz_ident_of s
+tz_filtered s r P (Some i) e p f = p.2 ∙ rw (f i p.0 p.1) (go (eqb i.number.0 0) refl) ∙ ap with_number e ∙ tz_of_ident s
+  where
+    go : (t : Bool) → eqb i.number.0 0 ≡ t → then_some (not (eqb i.number.0 0)) i ≡ with_number (Some i)
+    go true z = rw z
+    go false z = rw z
+tz_filtered s r P None e p f = p ∙ ap with_number e ∙ tz_of_ident s
 
 -- ---- THE LAWS
 

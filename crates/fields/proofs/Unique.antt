@@ -4,15 +4,15 @@ use mathlib.Core.Path.{◌≡◌, sym, ◌∙◌}
 use Rattle.fields.proofs.aircraft.Aircraft.holds.Reads as aircraft-holds
 use Rattle.fields.proofs.aircraft.Aircraft.put.Reads as aircraft-put
 use Rattle.fields.proofs.aircraft.Aircraft.read.Reads as aircraft-read
-use Rattle.fields.proofs.flight.Key.holds.Reads as key-holds
-use Rattle.fields.proofs.flight.Key.read.Reads as key-read
+use Rattle.fields.proofs.flight.KeyWorded.holds.Reads as key-holds
+use Rattle.fields.proofs.flight.KeyWorded.read.Reads as key-read
 use Rattle.fields.proofs.frame.body_at.Reads as body_at
-use Rattle.fields.proofs.frame.Sequence.holds.Reads as sequence-holds
-use Rattle.fields.proofs.frame.Sequence.put.Reads as sequence-put
-use Rattle.fields.proofs.frame.Sequence.read.Reads as sequence-read
-use Rattle.fields.proofs.frame.Stamp.holds.Reads as stamp-holds
-use Rattle.fields.proofs.frame.Stamp.put.Reads as stamp-put
-use Rattle.fields.proofs.frame.Stamp.read.Reads as stamp-read
+use Rattle.fields.proofs.frame.SequenceWorded.holds.Reads as sequence-holds
+use Rattle.fields.proofs.frame.SequenceWorded.put.Reads as sequence-put
+use Rattle.fields.proofs.frame.SequenceWorded.read.Reads as sequence-read
+use Rattle.fields.proofs.frame.StampWorded.holds.Reads as stamp-holds
+use Rattle.fields.proofs.frame.StampWorded.put.Reads as stamp-put
+use Rattle.fields.proofs.frame.StampWorded.read.Reads as stamp-read
 use Rattle.fields.proofs.heads.Facility.holds.Reads as facility-holds
 use Rattle.fields.proofs.heads.Facility.put.Reads as facility-put
 use Rattle.fields.proofs.heads.Facility.read.Reads as facility-read
@@ -22,12 +22,15 @@ use Rattle.fields.proofs.idents.Ident.holds.Reads as ident-holds
 use Rattle.fields.proofs.idents.Ident.put.Reads as ident-put
 use Rattle.fields.proofs.idents.Ident.read.Reads as ident-read
 use Rattle.fields.proofs.idents.Ident.read_tz.Reads as ident-read-tz
-use Rattle.fields.proofs.plan.Point.holds.Reads as point-holds
-use Rattle.fields.proofs.plan.Time.read.Reads as time-read
-use Rattle.fields.proofs.track.ArrivalClock.holds.Reads as arrival-clock-holds
-use Rattle.fields.proofs.track.GroundSpeed.holds.Reads as ground-speed-holds
-use Rattle.fields.proofs.track.Position.holds.Reads as position-holds
-use Rattle.fields.proofs.track.TrackLevel.holds.Reads as track-level-holds
+use Rattle.fields.proofs.plan.PointWorded.holds.Reads as point-holds
+use Rattle.fields.proofs.plan.TimeWorded.read.Reads as time-read
+use Rattle.fields.proofs.track.ArrivalClockWorded.holds.Reads as arrival-clock-holds
+use Rattle.fields.proofs.track.GroundSpeedWorded.holds.Reads as ground-speed-holds
+use Rattle.fields.proofs.track.PositionWorded.holds.Reads as position-holds
+use Rattle.fields.proofs.track.TrackLevelWorded.holds.Reads as track-level-holds
+use Rattle.fields.proofs.words.Worded.holds.Reads as worded-holds
+use Rattle.fields.proofs.words.Worded.put.Reads as worded-put
+use Rattle.fields.proofs.words.Worded.read.Reads as worded-read
 use Rattle.fields.proofs.words.holds.Reads as holds
 use Rattle.fields.proofs.words.put.Reads as put
 use Rattle.fields.proofs.words.read.Reads as read
@@ -76,6 +79,17 @@ position_holds_one κs a r r' s s' p q = p ∙ sym q
 
 pub arrival_clock_holds_one : (κs : _) (a : _) (r r' : _) (s s' : _) → arrival-clock-holds.Post κs a r s → arrival-clock-holds.Post κs a r' s' → r ≡ r'
 arrival_clock_holds_one κs a r r' s s' p q = p ∙ sym q
+
+-- ---- any type of one word: t to y are the type and what it says of itself
+
+pub worded_read_one : (t l h w d x y : _) (κs : _) (a : _) (r r' : _) (s s' : _) → worded-read.Post t l h w d x y κs a r s → worded-read.Post t l h w d x y κs a r' s' → r ≡ r'
+worded_read_one t l h w d x y κs a r r' s s' p q = p ∙ sym q
+
+pub worded_holds_one : (t l h w d x y : _) (κs : _) (a : _) (r r' : _) (s s' : _) → worded-holds.Post t l h w d x y κs a r s → worded-holds.Post t l h w d x y κs a r' s' → r ≡ r'
+worded_holds_one t l h w d x y κs a r r' s s' p q = p ∙ sym q
+
+pub worded_put_one : (t l h w d x y : _) (κs : _) (a : _) (r r' : _) (s s' : _) → worded-put.Post t l h w d x y κs a r s → worded-put.Post t l h w d x y κs a r' s' → (r ≡ r') × (s.1.0.now ≡ s'.1.0.now)
+worded_put_one t l h w d x y κs a r r' s s' p q = (p.0 ∙ sym q.0, p.1 ∙ sym q.1)
 
 -- ---- aircraft
 

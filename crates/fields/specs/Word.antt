@@ -11,3 +11,8 @@ word_of k s = cond (is_form k s) (Some (packed s)) None
 -- t is the word of some text of the kind k
 unfoldable pub is_word : ℕ → ℕ → Bool
 is_word k t = is_packed t && is_form k (text_of t)
+
+-- what a type whose values are made of words by `of` reads: the value of the word that was read
+abbrev pub as_field : {F : Type 0} → (ℕ → F) → Option ℕ → Option F
+as_field of (Some t) = Some (of t)
+as_field of None = None

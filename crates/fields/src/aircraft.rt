@@ -20,15 +20,12 @@ pub struct Aircraft {
 fn read_after(prefix: u64, s: &[u8]) -> Option<Aircraft>
     ensures { result ≡ with_prefix prefix (pair_of MODEL LETTER s.now) }
 {
-    let pair = pairs::read_pair(rules::MODEL, rules::LETTER, s);
-    match pair {
-        Some((model, letter)) => Some(Aircraft {
-            prefix,
-            model,
-            letter,
-        }),
-        None => None,
-    }
+    let (model, letter) = pairs::read_pair(rules::MODEL, rules::LETTER, s)?;
+    Some(Aircraft {
+        prefix,
+        model,
+        letter,
+    })
 }
 
 // The reading with a prefix.
@@ -50,9 +47,10 @@ fn word(a: Aircraft) -> Option<u64>
 {
     let tail = pairs::pair_word(a.model, a.letter)?;
     if a.prefix == 0 {
-        return Some(tail);
+        Some(tail)
+    } else {
+        writing::join(a.prefix, tail)
     }
-    writing::join(a.prefix, tail)
 }
 
 impl Aircraft {
@@ -61,22 +59,14 @@ impl Aircraft {
         ensures value { result ≡ aircraft_of s.now }
         ensures told { Told s.now result }
     {
-        let Some(plain) = read_after(0, s) else {
-            return read_prefixed(s);
-        };
-        Some(plain)
+        read_after(0, s).or_else(|| read_prefixed(s))
     }
 
     pub fn holds(self) -> bool
         ensures { result ≡ is_aircraft_value self }
     {
-        if !pairs::holds_pair(rules::MODEL, rules::LETTER, self.model, self.letter) {
-            return false;
-        }
-        if self.prefix == 0 {
-            return true;
-        }
-        words::holds(rules::PREFIX, self.prefix)
+        pairs::holds_pair(rules::MODEL, rules::LETTER, self.model, self.letter)
+            && (self.prefix == 0 || words::holds(rules::PREFIX, self.prefix))
     }
 
     pub fn put(self, out: &mut [u8], at: usize) -> Result<usize, NotWritten>
@@ -86,10 +76,7 @@ impl Aircraft {
         if !self.holds() {
             return Err(NotWritten::NoText);
         }
-        let whole = word(self);
-        match whole {
-            Some(t) => writing::put(t, out, at),
-            None => Err(NotWritten::NoText),
-        }
+        let whole = word(self).ok_or(NotWritten::NoText)?;
+        writing::put(whole, out, at)
     }
 }

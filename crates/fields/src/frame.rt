@@ -1,14 +1,10 @@
 // The fields before a line's body, and where the body begins.
 ghost use Rattle.std.specs.Prelude.{◌≡◌};
-ghost use Rattle.text.specs.Text.{text_of, written_next, written_bytes};
 ghost use Rattle.rules.specs.Kind.{SEQUENCE, STAMP};
 ghost use Rattle.fields.specs.Head.{head_length};
-ghost use Rattle.fields.specs.Word.{word_of, is_word};
-ghost use Rattle.fields.specs.Typed.{as_sequence, as_stamp};
 
-use crate::words;
+use crate::words::Worded;
 use rules::{BODY_AT, OLD_BODY_AT, Rule};
-use text::NotWritten;
 
 // The body begins after this many bytes.
 pub fn body_at(rule: Rule) -> usize
@@ -24,25 +20,21 @@ pub fn body_at(rule: Rule) -> usize
 #[derive(Clone, Copy)]
 pub struct Sequence(pub u64);
 
-impl Sequence {
-    pub fn read(s: &[u8]) -> Option<Sequence>
-        ensures { result ≡ as_sequence (word_of SEQUENCE s.now) }
-    {
-        let t = words::read(rules::SEQUENCE, s)?;
-        Some(Sequence(t))
+impl Worded for Sequence {
+    const KIND: u8 = rules::SEQUENCE;
+
+    ghost KIND = { SEQUENCE };
+
+    ghost of = { λ t. record { 0 = t } };
+
+    ghost word = { λ f. f.0 };
+
+    fn of(t: u64) -> Self {
+        Sequence(t)
     }
 
-    pub fn holds(self) -> bool
-        ensures { result ≡ is_word SEQUENCE self.0 }
-    {
-        words::holds(rules::SEQUENCE, self.0)
-    }
-
-    pub fn put(self, out: &mut [u8], at: usize) -> Result<usize, NotWritten>
-        ensures value { result ≡ written_next (is_word SEQUENCE self.0) (text_of self.0) out.old at }
-        ensures out_after { out.new ≡ written_bytes (is_word SEQUENCE self.0) (text_of self.0) out.old at }
-    {
-        words::put(rules::SEQUENCE, self.0, out, at)
+    fn word(self) -> u64 {
+        self.0
     }
 }
 
@@ -58,24 +50,20 @@ pub struct Center(pub u64);
 #[derive(Clone, Copy)]
 pub struct Stamp(pub u64);
 
-impl Stamp {
-    pub fn read(s: &[u8]) -> Option<Stamp>
-        ensures { result ≡ as_stamp (word_of STAMP s.now) }
-    {
-        let t = words::read(rules::STAMP, s)?;
-        Some(Stamp(t))
+impl Worded for Stamp {
+    const KIND: u8 = rules::STAMP;
+
+    ghost KIND = { STAMP };
+
+    ghost of = { λ t. record { 0 = t } };
+
+    ghost word = { λ f. f.0 };
+
+    fn of(t: u64) -> Self {
+        Stamp(t)
     }
 
-    pub fn holds(self) -> bool
-        ensures { result ≡ is_word STAMP self.0 }
-    {
-        words::holds(rules::STAMP, self.0)
-    }
-
-    pub fn put(self, out: &mut [u8], at: usize) -> Result<usize, NotWritten>
-        ensures value { result ≡ written_next (is_word STAMP self.0) (text_of self.0) out.old at }
-        ensures out_after { out.new ≡ written_bytes (is_word STAMP self.0) (text_of self.0) out.old at }
-    {
-        words::put(rules::STAMP, self.0, out, at)
+    fn word(self) -> u64 {
+        self.0
     }
 }

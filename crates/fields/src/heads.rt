@@ -48,11 +48,7 @@ impl Facility {
     pub fn holds(self) -> bool
         ensures { result ≡ is_facility_value self.0 }
     {
-        if self.0 > LAST_FACILITY {
-            return false;
-        }
-        let room = self.bytes();
-        rules::is_facility(&room)
+        self.0 <= LAST_FACILITY && rules::is_facility(&self.bytes())
     }
 
     pub fn put(self, out: &mut [u8], at: usize) -> Result<usize, NotWritten>
@@ -103,6 +99,7 @@ const TO: u32 = 0x544F;
 
 const HB: u32 = 0x4842;
 
+// (Not `TryFrom` and `From`: what they promise would stand in a ghost member and not at the function, and `read` is promised by its name.)
 impl MessageType {
     pub fn read(s: &[u8]) -> Option<MessageType>
         ensures { result ≡ type_of s.now }

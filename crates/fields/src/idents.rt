@@ -18,49 +18,37 @@ impl Ident {
     pub fn read(s: &[u8]) -> Option<Ident>
         ensures { result ≡ ident_of s.now }
     {
-        let pair = pairs::read_pair(rules::KEY, rules::NUMBER, s);
-        match pair {
-            Some((k, n)) => Some(Ident {
-                key: Key(k),
-                number: ComputerNumber(n),
-            }),
-            None => None,
-        }
+        let (key, number) = pairs::read_pair(rules::KEY, rules::NUMBER, s)?;
+        Some(Ident {
+            key: Key(key),
+            number: ComputerNumber(number),
+        })
     }
 
     // In a TZ the number is required.
     pub fn read_tz(s: &[u8]) -> Option<Ident>
         ensures { result ≡ tz_ident_of s.now }
     {
-        let pair = pairs::read_pair(rules::KEY, rules::NUMBER, s);
-        match pair {
-            Some((k, n)) => {
-                if n == 0 {
-                    return None;
-                }
-                Some(Ident {
-                    key: Key(k),
-                    number: ComputerNumber(n),
-                })
-            }
-            None => None,
-        }
+        Ident::read(s).filter(|ident| ident.number.0 != 0)
     }
 
     pub fn holds(self) -> bool
         ensures { result ≡ is_ident_value self }
     {
-        let key = self.key;
-        let number = self.number;
-        pairs::holds_pair(rules::KEY, rules::NUMBER, key.0, number.0)
+        pairs::holds_pair(rules::KEY, rules::NUMBER, self.key.0, self.number.0)
     }
 
     pub fn put(self, out: &mut [u8], at: usize) -> Result<usize, NotWritten>
         ensures value { result ≡ written_next (is_ident_value self) (ident_text self) out.old at }
         ensures out_after { out.new ≡ written_bytes (is_ident_value self) (ident_text self) out.old at }
     {
-        let key = self.key;
-        let number = self.number;
-        pairs::put_pair(rules::KEY, rules::NUMBER, key.0, number.0, out, at)
+        pairs::put_pair(
+            rules::KEY,
+            rules::NUMBER,
+            self.key.0,
+            self.number.0,
+            out,
+            at,
+        )
     }
 }

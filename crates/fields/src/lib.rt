@@ -1,5 +1,5 @@
-// The fields of document 01, each with a type of its own, so that no function takes one for another. A type has what is asked of it
-// by name; of every kind alike, `words` reads, tests and writes.
+// The fields of document 01, each with a type of its own, so that no function takes one for another. What is asked
+// of every type of one word alike, reading, testing and writing, is `words::Worded`; of a kind named by its letter, `words`.
 
 #![tactic(auto)]
 

@@ -25,23 +25,14 @@ pub(crate) fn read_pair(first: u8, second: u8, s: &[u8]) -> Option<(u64, u64)>
 pub(crate) fn holds_pair(first: u8, second: u8, a: u64, b: u64) -> bool
     ensures { result ≡ is_pair first second a b }
 {
-    if !holds(first, a) {
-        return false;
-    }
-    if b == 0 {
-        return true;
-    }
-    holds(second, b)
+    holds(first, a) && (b == 0 || holds(second, b))
 }
 
 // The word of the whole text.
 pub(crate) fn pair_word(a: u64, b: u64) -> Option<u64>
     ensures { result ≡ pair_word a b }
 {
-    if b == 0 {
-        return Some(a);
-    }
-    writing::join(a, b)
+    if b == 0 { Some(a) } else { writing::join(a, b) }
 }
 
 // Writes the text of two words of the kinds from place `at`.
@@ -59,9 +50,6 @@ pub(crate) fn put_pair(
     if !holds_pair(first, second, a, b) {
         return Err(NotWritten::NoText);
     }
-    let word = pair_word(a, b);
-    match word {
-        Some(t) => writing::put(t, out, at),
-        None => Err(NotWritten::NoText),
-    }
+    let word = pair_word(a, b).ok_or(NotWritten::NoText)?;
+    writing::put(word, out, at)
 }

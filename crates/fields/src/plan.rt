@@ -1,10 +1,7 @@
 // Fields of plans, departures and amendments.
-ghost use Rattle.std.specs.Prelude.{◌≡◌};
 ghost use Rattle.rules.specs.Kind.{POINT, TIME};
-ghost use Rattle.fields.specs.Word.{word_of, is_word};
-ghost use Rattle.fields.specs.Typed.{as_time};
 
-use crate::words;
+use crate::words::Worded;
 
 // A filed speed: 2 to 4 digits, or a letter and 3 digits (Mach), or SC.
 #[derive(Clone, Copy)]
@@ -14,11 +11,21 @@ pub struct FiledSpeed(pub u64);
 #[derive(Clone, Copy)]
 pub struct Point(pub u64);
 
-impl Point {
-    pub fn holds(self) -> bool
-        ensures { result ≡ is_word POINT self.0 }
-    {
-        words::holds(rules::POINT, self.0)
+impl Worded for Point {
+    const KIND: u8 = rules::POINT;
+
+    ghost KIND = { POINT };
+
+    ghost of = { λ t. record { 0 = t } };
+
+    ghost word = { λ f. f.0 };
+
+    fn of(t: u64) -> Self {
+        Point(t)
+    }
+
+    fn word(self) -> u64 {
+        self.0
     }
 }
 
@@ -30,12 +37,21 @@ pub struct Fix(pub u64);
 #[derive(Clone, Copy)]
 pub struct Time(pub u64);
 
-impl Time {
-    pub fn read(s: &[u8]) -> Option<Time>
-        ensures { result ≡ as_time (word_of TIME s.now) }
-    {
-        let t = words::read(rules::TIME, s)?;
-        Some(Time(t))
+impl Worded for Time {
+    const KIND: u8 = rules::TIME;
+
+    ghost KIND = { TIME };
+
+    ghost of = { λ t. record { 0 = t } };
+
+    ghost word = { λ f. f.0 };
+
+    fn of(t: u64) -> Self {
+        Time(t)
+    }
+
+    fn word(self) -> u64 {
+        self.0
     }
 }
 

@@ -1,19 +1,27 @@
 // Fields of tracks and arrivals.
-ghost use Rattle.std.specs.Prelude.{◌≡◌};
 ghost use Rattle.rules.specs.Kind.{GROUND_SPEED, TRACK_LEVEL, POSITION, ARRIVAL};
-ghost use Rattle.fields.specs.Word.{is_word};
 
-use crate::words;
+use crate::words::Worded;
 
 // A ground speed: 3 digits.
 #[derive(Clone, Copy)]
 pub struct GroundSpeed(pub u64);
 
-impl GroundSpeed {
-    pub fn holds(self) -> bool
-        ensures { result ≡ is_word GROUND_SPEED self.0 }
-    {
-        words::holds(rules::GROUND_SPEED, self.0)
+impl Worded for GroundSpeed {
+    const KIND: u8 = rules::GROUND_SPEED;
+
+    ghost KIND = { GROUND_SPEED };
+
+    ghost of = { λ t. record { 0 = t } };
+
+    ghost word = { λ f. f.0 };
+
+    fn of(t: u64) -> Self {
+        GroundSpeed(t)
+    }
+
+    fn word(self) -> u64 {
+        self.0
     }
 }
 
@@ -21,11 +29,21 @@ impl GroundSpeed {
 #[derive(Clone, Copy)]
 pub struct TrackLevel(pub u64);
 
-impl TrackLevel {
-    pub fn holds(self) -> bool
-        ensures { result ≡ is_word TRACK_LEVEL self.0 }
-    {
-        words::holds(rules::TRACK_LEVEL, self.0)
+impl Worded for TrackLevel {
+    const KIND: u8 = rules::TRACK_LEVEL;
+
+    ghost KIND = { TRACK_LEVEL };
+
+    ghost of = { λ t. record { 0 = t } };
+
+    ghost word = { λ f. f.0 };
+
+    fn of(t: u64) -> Self {
+        TrackLevel(t)
+    }
+
+    fn word(self) -> u64 {
+        self.0
     }
 }
 
@@ -33,11 +51,21 @@ impl TrackLevel {
 #[derive(Clone, Copy)]
 pub struct Position(pub u64);
 
-impl Position {
-    pub fn holds(self) -> bool
-        ensures { result ≡ is_word POSITION self.0 }
-    {
-        words::holds(rules::POSITION, self.0)
+impl Worded for Position {
+    const KIND: u8 = rules::POSITION;
+
+    ghost KIND = { POSITION };
+
+    ghost of = { λ t. record { 0 = t } };
+
+    ghost word = { λ f. f.0 };
+
+    fn of(t: u64) -> Self {
+        Position(t)
+    }
+
+    fn word(self) -> u64 {
+        self.0
     }
 }
 
@@ -49,10 +77,20 @@ pub struct Clock(pub u64);
 #[derive(Clone, Copy)]
 pub struct ArrivalClock(pub u64);
 
-impl ArrivalClock {
-    pub fn holds(self) -> bool
-        ensures { result ≡ is_word ARRIVAL self.0 }
-    {
-        words::holds(rules::ARRIVAL, self.0)
+impl Worded for ArrivalClock {
+    const KIND: u8 = rules::ARRIVAL;
+
+    ghost KIND = { ARRIVAL };
+
+    ghost of = { λ t. record { 0 = t } };
+
+    ghost word = { λ f. f.0 };
+
+    fn of(t: u64) -> Self {
+        ArrivalClock(t)
+    }
+
+    fn word(self) -> u64 {
+        self.0
     }
 }

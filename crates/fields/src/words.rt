@@ -1,8 +1,8 @@
-// A field of a kind that is held as its text: read from bytes as a word, tested, and written back. `fields` gives each kind
-// a type of its own; `pairs` has two such words in one field.
-ghost use Rattle.std.specs.Prelude.{◌≡◌};
+// A field of a kind that is held as its text: read from bytes as a word, tested, and written back. `Worded` is what the types of
+// such fields share; `pairs` has two such words in one field.
+ghost use Rattle.std.specs.Prelude.{◌≡◌, ℕ};
 ghost use Rattle.text.specs.Text.{text_of, written_next, written_bytes};
-ghost use Rattle.fields.specs.Word.{word_of, is_word};
+ghost use Rattle.fields.specs.Word.{word_of, is_word, as_field};
 
 use text::{NotWritten, writing};
 
@@ -22,8 +22,7 @@ pub fn holds(kind: u8, t: u64) -> bool
     ensures { result ≡ is_word kind t }
 {
     let mut room = [0u8; 12];
-    let written = writing::put(t, &mut room, 0);
-    match written {
+    match writing::put(t, &mut room, 0) {
         Ok(n) => rules::is_form(kind, &room[..n]),
         Err(_) => false,
     }
@@ -38,5 +37,43 @@ pub fn put(kind: u8, t: u64, out: &mut [u8], at: usize) -> Result<usize, NotWrit
         writing::put(t, out, at)
     } else {
         Err(NotWritten::NoText)
+    }
+}
+
+// A type whose values are the words of one kind. It says which kind, and how a value and its word are made of each other;
+// what is asked of all such types alike is written here.
+pub trait Worded: Copy {
+    const KIND: u8;
+
+    ghost KIND: { ℕ };
+
+    ghost of: { ℕ → Self };
+
+    ghost word: { Self → ℕ };
+
+    fn of(t: u64) -> Self
+        ensures { result ≡ of t };
+
+    fn word(self) -> u64
+        ensures { result ≡ word self };
+
+    fn read(s: &[u8]) -> Option<Self>
+        ensures { result ≡ as_field of (word_of KIND s.now) }
+    {
+        let t = read(Self::KIND, s)?;
+        Some(Self::of(t))
+    }
+
+    fn holds(self) -> bool
+        ensures { result ≡ is_word KIND (word self) }
+    {
+        holds(Self::KIND, self.word())
+    }
+
+    fn put(self, out: &mut [u8], at: usize) -> Result<usize, NotWritten>
+        ensures value { result ≡ written_next (is_word KIND (word self)) (text_of (word self)) out.old at }
+        ensures out_after { out.new ≡ written_bytes (is_word KIND (word self)) (text_of (word self)) out.old at }
+    {
+        put(Self::KIND, self.word(), out, at)
     }
 }

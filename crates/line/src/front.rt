@@ -7,7 +7,7 @@ ghost use Rattle.line.specs.Read.{type_by, head_of};
 use crate::Refusal;
 use fields::frame::{Sequence, Stamp};
 use fields::heads::{Facility, MessageType};
-use fields::words;
+use fields::words::{self, Worded};
 use rules::{
     BODY_AT, FACILITY_AT, OLD_BODY_AT, OLD_CENTER_AT, OLD_TYPE_AT, Rule, STAMP_AT, TYPE_AT,
 };

@@ -20,6 +20,7 @@ use board::listing::{look, write};
 use board::rows::{Arrival, Row, Track};
 use board::{Full, NotListed, is_allowed, listing};
 use fields::flight::Key;
+use fields::words::Worded;
 use line::Refusal;
 
 // What `apply` answers: 0; the line's own answer; 13; 12.

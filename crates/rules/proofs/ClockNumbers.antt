@@ -1,6 +1,6 @@
 -- What stamps, clocks and times are, said of their numbers: each way out of a test is a case of it. Assumes nothing.
-use Rattle.std.specs.Prelude.{None, Some}
-use mathlib.Core.Path.{◌≡◌, refl, sym}
+use Rattle.std.specs.Prelude.{None, Some, Option, MatchOption}
+use mathlib.Core.Path.{◌≡◌, refl, sym, ◌∙◌}
 use mathlib.Core.Bool.{Bool, true, false, ◌&&◌, and_assoc}
 use mathlib.Core.List.{List, [], ◌∷◌}
 use Prim.Native.Nat.{ℕ, ◌/◌, ◌%◌, ◌<◌}
@@ -27,7 +27,7 @@ abbrev is_moment : ℕ → Bool
 is_moment n = leb 1 (n / 1000000) && leb (n / 1000000) 31 && is_time_of_day n
 
 module _ (s : List ℕ) (long : length s ≡ 8) where
-  pub no_stamp : read_number 10 s ≡ None → false ≡ is_stamp s
+  no_stamp : read_number 10 s ≡ None → false ≡ is_stamp s
   unfolding is_stamp
   no_stamp told = rw (digits_fit 8 s (lit≤ tt) long, number_none 10 s told)
 
@@ -41,8 +41,13 @@ module _ (s : List ℕ) (long : length s ≡ 8) where
   pub stamp_is : {n : ℕ} → read_number 10 s ≡ Some n → is_moment n ≡ is_stamp s
   stamp_is told = let k = number_known 10 s told in rw k.1 (moment_is k.0)
 
+  -- what is said of a number that may not be there
+  pub stamp_told : (r : Bool) (q : Option ℕ) → q ≡ read_number 10 s → MatchOption q (r ≡ false) (λ n. r ≡ is_moment n) → r ≡ is_stamp s
+  stamp_told r (Some n) e p = p ∙ stamp_is (sym e)
+  stamp_told r None e p = p ∙ no_stamp (sym e)
+
 module _ (s : List ℕ) (long : length s ≡ 6) where
-  pub no_old_stamp : read_number 10 s ≡ None → false ≡ is_old_stamp s
+  no_old_stamp : read_number 10 s ≡ None → false ≡ is_old_stamp s
   unfolding is_old_stamp
   no_old_stamp told = rw (digits_fit 6 s (lit≤ tt) long, number_none 10 s told)
 
@@ -51,6 +56,10 @@ module _ (s : List ℕ) (long : length s ≡ 6) where
   old_stamp_is told =
       let k = number_known 10 s told in
       rw (k.1, digits_fit 6 s (lit≤ tt) long, k.0, within_part s k.0 0 2 4 long 0 23, within_part s k.0 2 2 2 long 0 59, within_part s k.0 4 2 0 long 0 59, div-one) (simp leb-zero)
+
+  pub old_stamp_told : (r : Bool) (q : Option ℕ) → q ≡ read_number 10 s → MatchOption q (r ≡ false) (λ n. r ≡ is_time_of_day n) → r ≡ is_old_stamp s
+  old_stamp_told r (Some n) e p = p ∙ old_stamp_is (sym e)
+  old_stamp_told r None e p = p ∙ no_old_stamp (sym e)
 
 day_first : (a b c d e f : Bool) → (a && b && c && d && e && f) ≡ (a && c && (b && d && e && f))
 day_first a b c d e f = simp (and_assoc, and_left_comm)

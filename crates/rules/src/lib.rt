@@ -64,10 +64,7 @@ pub const POSITION: u8 = b'O';
 pub fn is_facility(s: &[u8]) -> bool
     ensures { result ≡ is_facility s.now }
 {
-    if run(b'a', 4, 4, s) {
-        return true;
-    }
-    one_of(b" aaa|  aa|   a", s)
+    run(b'a', 4, 4, s) || one_of(b" aaa|  aa|   a", s)
 }
 
 // A letter and one to six alnum.
@@ -92,33 +89,23 @@ pub(crate) fn is_fix(s: &[u8]) -> bool
     run(b'a', 2, 5, &s[..i]) && run(b'a', 1, 6, &s[j..])
 }
 
-// Degrees and minutes, written together: at most `most`, minutes to 59.
-fn is_degrees(most: u64, s: &[u8]) -> bool
+// Hours or degrees and their minutes, written together: at most `most`, minutes to 59.
+fn is_minutes(most: u64, s: &[u8]) -> bool
     ensures { result ≡ (within 0 most s.now && leb (number_of 10 s.now % 100) 59) }
 {
-    let Some(n) = text::number(s, 10) else {
-        return false;
-    };
-    n <= most && n % 100 <= 59
+    text::number(s, 10).is_some_and(|n| n <= most && n % 100 <= 59)
 }
 
 // ddmm, N or S, slash, dddmm, E or W, in range.
 pub fn is_position(s: &[u8]) -> bool
     ensures { result ≡ is_position s.now }
 {
-    if s.len() != 12 {
-        return false;
-    }
-    if !is_of(b'n', s[4]) {
-        return false;
-    }
-    if s[5] != b'/' {
-        return false;
-    }
-    if !is_of(b'e', s[11]) {
-        return false;
-    }
-    is_degrees(9000, &s[0..4]) && is_degrees(18000, &s[6..11])
+    s.len() == 12
+        && is_of(b'n', s[4])
+        && s[5] == b'/'
+        && is_of(b'e', s[11])
+        && is_minutes(9000, &s[0..4])
+        && is_minutes(18000, &s[6..11])
 }
 
 // One or more bytes 33 to 126. A route is no short text, so it has no kind here.
@@ -175,10 +162,7 @@ fn is_level(s: &[u8]) -> bool
 fn is_number(s: &[u8]) -> bool
     ensures { result ≡ is_number s.now }
 {
-    if s.len() != 3 {
-        return false;
-    }
-    run(b'd', 2, 2, &s[..2]) && is_of(b'a', s[2])
+    s.len() == 3 && run(b'd', 2, 2, &s[..2]) && is_of(b'a', s[2])
 }
 
 // Three digits, and a letter after them or none.

@@ -17,7 +17,7 @@ use fields::aircraft::Aircraft;
 use fields::flight::{ComputerNumber, Key};
 use fields::idents::Ident;
 use fields::plan::Time;
-use fields::words;
+use fields::words::{self, Worded};
 use text::NotWritten;
 use text::writing::put_bytes;
 

@@ -19,7 +19,7 @@ ghost use Rattle.writer.specs.Cases.{place_after, WriteCase};
 use crate::sizes::size_line;
 use fields::frame::{Sequence, Stamp, body_at};
 use fields::heads::{Facility, MessageType};
-use fields::words;
+use fields::words::{self, Worded};
 use messages::values::values_in;
 use messages::{Body, Message, OldMessage, Reading, marks_in, type_in};
 use rules::{FACILITY_AT, OLD_CENTER_AT, OLD_TYPE_AT, Rule, STAMP_AT, TYPE_AT};

@@ -9,7 +9,7 @@ ghost use Rattle.writer.specs.Size.{AllAsks, sized_text, sized_field, sized_all,
 
 use fields::frame::{Sequence, Stamp, body_at};
 use fields::heads::Facility;
-use fields::words;
+use fields::words::{self, Worded};
 use messages::values::values_in;
 use messages::{Body, Reading, marks_in, type_in};
 use rules::{LONGEST_LINE, Rule};

@@ -16,7 +16,7 @@ unfolding one_of pieces fits_any
 first s = rw (fits_same (code "a") 4 s)
 
 pub returns-then-run : goal.returns-then-run
-returns-then-run c = rw (first _, sym c.run.ensures ∙ c.if-run.true)
+returns-then-run c = c.if-run.true ∙ rw (first _, sym c.run.ensures ∙ c.if-run.true)
 
-pub returns : goal.returns
-returns c = c.one_of.ensures ∙ rw (first _, sym c.run.ensures ∙ c.if-run.false)
+pub returns-else-run : goal.returns-else-run
+returns-else-run c = c.one_of.ensures ∙ rw (first _, sym c.run.ensures ∙ c.if-run.false)

@@ -12,6 +12,6 @@ pub returns-then-a-eq0 : goal.returns-then-a-eq0
 unfolding aircraft_word
 returns-then-a-eq0 c = (rw (eq-eqb _ _ c.if-a-eq0.true)) ∙ ap (after_prefix _) c.in_ok-tail.ensures
 
-pub returns : goal.returns
+pub returns-else-a-eq0 : goal.returns-else-a-eq0
 unfolding aircraft_word
-returns c = c.join.ensures ∙ (rw (ne_eqb _ _ c.if-a-eq0.false)) ∙ ap (after_prefix _) c.in_ok-tail.ensures
+returns-else-a-eq0 c = c.join.ensures ∙ (rw (ne_eqb _ _ c.if-a-eq0.false)) ∙ ap (after_prefix _) c.in_ok-tail.ensures

@@ -8,6 +8,6 @@ pub returns-then-b-eq0 : goal.returns-then-b-eq0
 unfolding pair_word
 returns-then-b-eq0 c = rw (eq-eqb _ _ c.if-b-eq0.true)
 
-pub returns : goal.returns
+pub returns-else-b-eq0 : goal.returns-else-b-eq0
 unfolding pair_word
-returns c = c.join.ensures ∙ rw (ne_eqb _ _ c.if-b-eq0.false)
+returns-else-b-eq0 c = c.join.ensures ∙ rw (ne_eqb _ _ c.if-b-eq0.false)

@@ -10,13 +10,9 @@ returns-then-not-holds c =
     let both = no_text _ _ _ (not_so c.holds.ensures c.if-not-holds.true-raw) in
     record { value = both.0; out_after = both.1 }
 
-pub returns-in-Some : goal.returns-in-Some
-returns-in-Some c =
-    let w = aircraft_writes _ (so c.holds.ensures c.if-not-holds.false-raw) (sym c.word-whole.ensures ∙ c.in-Some.is) in rw (← w.0, ← w.1) (record { value = c.put.ensures.value; out_after = c.put.ensures.out_after })
+pub returns-in_err-whole : goal.returns-in_err-whole
+returns-in_err-whole c = absurd (aircraft_word_lem _ (so c.holds.ensures c.if-not-holds.false-raw) (sym c.word.ensures ∙ c.in_err-whole.ensures.ok_part))
 
-pub returns-in-None : goal.returns-in-None
-returns-in-None c =
-    record {
-      value = absurd (aircraft_word_lem _ (so c.holds.ensures c.if-not-holds.false-raw) (sym c.word-whole.ensures ∙ c.in-None.is));
-      out_after = absurd (aircraft_word_lem _ (so c.holds.ensures c.if-not-holds.false-raw) (sym c.word-whole.ensures ∙ c.in-None.is));
-    }
+pub returns : goal.returns
+returns c =
+    let w = aircraft_writes _ (so c.holds.ensures c.if-not-holds.false-raw) (sym c.word.ensures ∙ c.in_ok-whole.ensures.ok_part) in rw (← w.0, ← w.1) (record { value = c.put.ensures.value; out_after = c.put.ensures.out_after })

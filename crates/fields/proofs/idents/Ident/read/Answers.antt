@@ -1,10 +1,10 @@
 -- `fields::idents::Ident::read` meets its contract. Assumes nothing.
-use mathlib.Core.Path.{sym, ap, ◌∙◌}
+use mathlib.Core.Path.{ap, ◌∙◌}
 use Rattle.fields.proofs.IdentLaws.{as_ident, ident_as}
 use Rattle.fields.proofs.idents.Ident.read.Goals as goal
 
-pub returns-in-Some : goal.returns-in-Some
-returns-in-Some c = ap as_ident (sym c.in-Some.is ∙ c.read_pair-pair.ensures) ∙ ident_as _
+pub returns-in_err-key : goal.returns-in_err-key
+returns-in_err-key c = c.from_residual.ensures ∙ ap as_ident c.in_err-key.ensures ∙ ident_as _
 
-pub returns-in-None : goal.returns-in-None
-returns-in-None c = ap as_ident (sym c.in-None.is ∙ c.read_pair-pair.ensures) ∙ ident_as _
+pub returns : goal.returns
+returns c = ap as_ident c.in_ok-key.ensures ∙ ident_as _
