@@ -101,21 +101,21 @@ fn plan_from(w: [Value; 19]) -> Plan
     }
 }
 
-// Returned from each arm, since a body by value is dear to the checker.
+#[tactic(auto, unfolding(crate::specs::Body::body_from))]
 fn body_from(t: MessageType, marks: u8, w: [Value; 19]) -> Body
     ensures { result ≡ body_from t marks w }
 {
     match t {
-        MessageType::Af => return Body::Af(af_from(marks, w)),
-        MessageType::Az => return Body::Az(az_from(w)),
-        MessageType::Dz => return Body::Dz(dz_from(w)),
-        MessageType::Fz => return Body::Fz(plan_from(w)),
-        MessageType::Rz => return Body::Rz(rz_from(w)),
-        MessageType::Tz => return Body::Tz(tz_from(w)),
-        MessageType::Uz => return Body::Uz(plan_from(w)),
-        MessageType::Rt => return Body::Rt,
-        MessageType::To => return Body::To,
-        MessageType::Hb => return Body::Hb,
+        MessageType::Af => Body::Af(af_from(marks, w)),
+        MessageType::Az => Body::Az(az_from(w)),
+        MessageType::Dz => Body::Dz(dz_from(w)),
+        MessageType::Fz => Body::Fz(plan_from(w)),
+        MessageType::Rz => Body::Rz(rz_from(w)),
+        MessageType::Tz => Body::Tz(tz_from(w)),
+        MessageType::Uz => Body::Uz(plan_from(w)),
+        MessageType::Rt => Body::Rt,
+        MessageType::To => Body::To,
+        MessageType::Hb => Body::Hb,
     }
 }
 
