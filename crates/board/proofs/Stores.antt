@@ -1,13 +1,8 @@
--- The stores of a row's words are one writing: of a key and an arrival entry, of a track, and of a row's eleven words.
--- Assumes nothing.
+-- The words of a row: how many an entry has, and the eleven as they are written. Assumes nothing.
 use Rattle.std.specs.Prelude.{None, Option, Some}
-use mathlib.Core.Path.{◌≡◌, refl, ap, ◌∙◌}
-use mathlib.Core.List.{List, [], ◌∷◌, ◌++◌}
-use Prim.Native.Nat.{ℕ, ◌+◌, ◌≤◌}
-use native.Mathlib.Omega.{arith}
-use lib.ListN.{length, set}
-use Rattle.text.specs.Text.{spliced}
-use Rattle.text.proofs.Splice.{spliced_next, set-spliced, next_store}
+use mathlib.Core.Path.{◌≡◌, refl}
+use mathlib.Core.List.{[], ◌∷◌, ◌++◌}
+use lib.ListN.{length, get_or}
 use Rattle.board.specs.Row.{arrival_words, track_words, row_words}
 use Rattle.board.specs.declared.rows.Row.{Row}
 use Rattle.board.specs.declared.rows.Arrival.{Arrival}
@@ -23,31 +18,15 @@ unfolding track_words
 length_track None = refl
 length_track (Some t) = refl
 
-pub five_stores : (l : List ℕ) (p k a b c d : ℕ) → p + 5 ≤ length l
-    → set (set (set (set (set l p k) (p + 1) a) (p + 2) b) (p + 3) c) (p + 4) d ≡ spliced l p (k ∷ a ∷ b ∷ c ∷ d ∷ [])
-five_stores l p k a b c d h =
-    ap (λ (z : List ℕ). set (set (set (set z (p + 1) a) (p + 2) b) (p + 3) c) (p + 4) d) (set-spliced l p k (omega arith))
-    ∙ ap (λ (z : List ℕ). set (set (set z (p + 2) b) (p + 3) c) (p + 4) d) (next_store l (k ∷ []) p a (omega arith))
-    ∙ ap (λ (z : List ℕ). set (set z (p + 3) c) (p + 4) d) (next_store l (k ∷ a ∷ []) p b (omega arith))
-    ∙ ap (λ (z : List ℕ). set z (p + 4) d) (next_store l (k ∷ a ∷ b ∷ []) p c (omega arith))
-    ∙ next_store l (k ∷ a ∷ b ∷ c ∷ []) p d (omega arith)
-
-pub six_stores : (l : List ℕ) (p a b c d e f : ℕ) → p + 6 ≤ length l
-    → set (set (set (set (set (set l p a) (p + 1) b) (p + 2) c) (p + 3) d) (p + 4) e) (p + 5) f ≡ spliced l p (a ∷ b ∷ c ∷ d ∷ e ∷ f ∷ [])
-six_stores l p a b c d e f h =
-    ap (λ (z : List ℕ). set z (p + 5) f) (five_stores l p a b c d e (omega arith)) ∙ next_store l (a ∷ b ∷ c ∷ d ∷ e ∷ []) p f (omega arith)
-
--- the key and the arrival entry, then the track and the words kept for later
-pub row_stores : (l m n : List ℕ) (p : ℕ) (r : Row) → p + 11 ≤ length l
-    → m ≡ spliced l p (r.key.0 ∷ arrival_words r.arrival)
-    → n ≡ spliced m (p + 5) (track_words r.track ++ 0 ∷ 0 ∷ [])
-    → n ≡ spliced l p (row_words r)
-unfolding row_words
-row_stores l m n p r h e f =
-    let vs : List ℕ = r.key.0 ∷ arrival_words r.arrival in
-    let us : List ℕ = track_words r.track ++ 0 ∷ 0 ∷ [] in
-    let five : p + 5 ≡ p + length vs = omega (arith, length_arrival r.arrival) in
-    f
-    ∙ ap (λ (z : List ℕ). spliced z (p + 5) us) e
-    ∙ ap (λ (i : ℕ). spliced (spliced l p vs) i us) five
-    ∙ spliced_next l vs us p (omega arith)
+-- the key, the four words of each entry, and the two that are kept for later
+pub eleven_words : (r : Row) → (let a = arrival_words r.arrival in let t = track_words r.track in
+    r.key.0 ∷ get_or a 0 0 ∷ get_or a 1 0 ∷ get_or a 2 0 ∷ get_or a 3 0 ∷ get_or t 0 0 ∷ get_or t 1 0 ∷ get_or t 2 0 ∷ get_or t 3 0 ∷ 0 ∷ 0 ∷ []) ≡ row_words r
+unfolding row_words arrival_words track_words
+eleven_words r = by_cases r.arrival r.track
+  where
+    by_cases : (x : Option Arrival) (y : Option Track) → (let a = arrival_words x in let t = track_words y in
+        r.key.0 ∷ get_or a 0 0 ∷ get_or a 1 0 ∷ get_or a 2 0 ∷ get_or a 3 0 ∷ get_or t 0 0 ∷ get_or t 1 0 ∷ get_or t 2 0 ∷ get_or t 3 0 ∷ 0 ∷ 0 ∷ []) ≡ r.key.0 ∷ (arrival_words x ++ (track_words y ++ 0 ∷ 0 ∷ []))
+    by_cases None None = refl
+    by_cases None (Some t) = refl
+    by_cases (Some a) None = refl
+    by_cases (Some a) (Some t) = refl

@@ -3,13 +3,15 @@ ghost use Rattle.std.specs.Prelude.{◌≡◌, true, ◌+◌, ◌*◌, ◌≤◌
 ghost use Rattle.board.specs.Board.{W, is_allowed};
 ghost use Rattle.board.specs.Halving.{half_from, Left};
 
+use crate::WORDS_OF_A_ROW;
+
 // One look: the first row of the half that is left. Either half has width - width / 2 rows.
 pub(crate) fn half_left(board: &[u64], key: u64, first: usize, width: usize) -> usize
     requires { (0 < width) × (1 + W * (first + width) ≤ length board.now) }
     ensures { result ≡ half_from board.now key first width }
 {
     let middle = first + width / 2;
-    if board[1 + 11 * middle] <= key {
+    if board[1 + WORDS_OF_A_ROW * middle] <= key {
         return middle;
     }
     first

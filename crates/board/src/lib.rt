@@ -15,6 +15,13 @@ ghost use Rattle.board.specs.Board.{W, read_rows, rows_hold, all_zero, is_allowe
 
 use crate::rows::is_row;
 
+// A row is eleven words, and row i begins at word 1 + WORDS_OF_A_ROW * i.
+pub const WORDS_OF_A_ROW: usize = 11;
+
+pub const MOST_ROWS: usize = 256;
+
+pub const WORDS_OF_A_BOARD: usize = 1 + WORDS_OF_A_ROW * MOST_ROWS;
+
 // Where a key stands, or the place where it would go.
 #[derive(Clone, Copy)]
 pub enum Found {
@@ -36,7 +43,7 @@ fn rows_hold(board: &[u64], n: usize) -> bool
     ensures { result ≡ rows_hold n (drop 1 board.now) }
 {
     for i in 0..n {
-        if !is_row(board, 1 + 11 * i) {
+        if !is_row(board, 1 + WORDS_OF_A_ROW * i) {
             return false;
         }
     }
@@ -49,7 +56,7 @@ fn keys_rise(board: &[u64], n: usize) -> bool
     ensures { result ≡ rises (read_rows n (drop 1 board.now)) }
 {
     for i in 1..n {
-        if board[1 + 11 * i] <= board[1 + 11 * (i - 1)] {
+        if board[1 + WORDS_OF_A_ROW * i] <= board[1 + WORDS_OF_A_ROW * (i - 1)] {
             return false;
         }
     }
@@ -69,10 +76,10 @@ pub fn is_allowed(board: &[u64]) -> bool
     ensures { result ≡ is_allowed board.now }
 {
     // one `&&` of the five: tried, the proof did not close with what the check finds
-    if board.len() != 2817 {
+    if board.len() != WORDS_OF_A_BOARD {
         return false;
     }
-    if board[0] > 256 {
+    if board[0] > MOST_ROWS as u64 {
         return false;
     }
     let n = board[0] as usize;
@@ -82,7 +89,7 @@ pub fn is_allowed(board: &[u64]) -> bool
     if !keys_rise(board, n) {
         return false;
     }
-    all_zero(board, 1 + 11 * n)
+    all_zero(board, 1 + WORDS_OF_A_ROW * n)
 }
 
 // Every word becomes 0: of 2,817 words that is the board without rows.

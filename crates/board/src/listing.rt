@@ -10,7 +10,7 @@ use crate::halving::one_left;
 use crate::keeping::{put_row, row_at};
 use crate::rows::Row;
 use crate::slides::{clear, slide_left, slide_right};
-use crate::{Found, Full, NotListed};
+use crate::{Found, Full, MOST_ROWS, NotListed, WORDS_OF_A_ROW};
 use fields::flight::Key;
 
 // The place of a key, or the place where it would go. The one row that is left of all, halved and halved again, tells it.
@@ -23,7 +23,7 @@ pub(crate) fn find(board: &[u64], key: Key) -> Found
         return Found::Gap(0);
     }
     let i = one_left(board, key.0, 0, n);
-    let left = board[1 + 11 * i];
+    let left = board[1 + WORDS_OF_A_ROW * i];
     if left == key.0 {
         return Found::At(i);
     }
@@ -40,7 +40,7 @@ pub fn look(board: &[u64], key: Key) -> Row
 {
     let found = find(board, Key(key.0));
     match found {
-        Found::At(i) => row_at(board, 1 + 11 * i),
+        Found::At(i) => row_at(board, 1 + WORDS_OF_A_ROW * i),
         Found::Gap(_) => Row {
             key,
             arrival: None,
@@ -55,7 +55,12 @@ fn open_gap(board: &mut [u64], i: usize)
     ensures { board.new ≡ slid_right board.old (1 + W * i) (1 + W * get_or board.old 0 0) W }
 {
     let n = board[0] as usize;
-    slide_right(board, 1 + 11 * i, 1 + 11 * n, 11);
+    slide_right(
+        board,
+        1 + WORDS_OF_A_ROW * i,
+        1 + WORDS_OF_A_ROW * n,
+        WORDS_OF_A_ROW,
+    );
 }
 
 // The rows after row i move up by one, and the last becomes 0; the count stays.
@@ -64,8 +69,13 @@ fn close_gap(board: &mut [u64], i: usize)
     ensures { board.new ≡ zeroed (slid_left board.old (1 + W * i) (W * (get_or board.old 0 0 - (i + 1))) W) (1 + W * (get_or board.old 0 0 - 1)) W }
 {
     let n = board[0] as usize;
-    slide_left(board, 1 + 11 * i, 11 * (n - (i + 1)), 11);
-    clear(board, 1 + 11 * (n - 1), 11);
+    slide_left(
+        board,
+        1 + WORDS_OF_A_ROW * i,
+        WORDS_OF_A_ROW * (n - (i + 1)),
+        WORDS_OF_A_ROW,
+    );
+    clear(board, 1 + WORDS_OF_A_ROW * (n - 1), WORDS_OF_A_ROW);
 }
 
 // The row stands in the place of its key's, or between the others; a full board has no room for another flight.
@@ -76,16 +86,16 @@ pub fn write(board: &mut [u64], row: Row) -> Result<(), Full>
     let found = find(board, Key(row.key.0));
     match found {
         Found::At(i) => {
-            put_row(board, 1 + 11 * i, row);
+            put_row(board, 1 + WORDS_OF_A_ROW * i, row);
             Ok(())
         }
         Found::Gap(i) => {
             let n = board[0];
-            if n >= 256 {
+            if n >= MOST_ROWS as u64 {
                 return Err(Full);
             }
             open_gap(board, i);
-            put_row(board, 1 + 11 * i, row);
+            put_row(board, 1 + WORDS_OF_A_ROW * i, row);
             board[0] = n + 1;
             Ok(())
         }

@@ -41,44 +41,32 @@ fn are_zero(a: u64, b: u64, c: u64) -> bool
 
 // Four words of an arrival entry such as a line could give, or of none.
 #[tactic(auto, unfolding(crate::specs::Row::is_arrival_words))]
-fn is_arrival(departure: u64, destination: u64, clock: u64, stamp: u64) -> bool
-    ensures { result ≡ is_arrival_words departure destination clock stamp }
-{
-    if departure == 0 {
-        return are_zero(destination, clock, stamp);
-    }
-    Point(departure).holds()
-        && Point(destination).holds()
-        && ArrivalClock(clock).holds()
-        && Stamp(stamp).holds()
-}
-
 fn is_arrival_at(words: &[u64], p: usize) -> bool
     requires { p + 4 ≤ length words.now }
     ensures { result ≡ is_arrival_words (get_or words.now p 0) (get_or words.now (p + 1) 0) (get_or words.now (p + 2) 0) (get_or words.now (p + 3) 0) }
 {
-    is_arrival(words[p], words[p + 1], words[p + 2], words[p + 3])
+    if words[p] == 0 {
+        return are_zero(words[p + 1], words[p + 2], words[p + 3]);
+    }
+    Point(words[p]).holds()
+        && Point(words[p + 1]).holds()
+        && ArrivalClock(words[p + 2]).holds()
+        && Stamp(words[p + 3]).holds()
 }
 
 // Four words of a track such as a line could give, or of none.
 #[tactic(auto, unfolding(crate::specs::Row::is_track_words))]
-fn is_track(speed: u64, level: u64, position: u64, stamp: u64) -> bool
-    ensures { result ≡ is_track_words speed level position stamp }
-{
-    if speed == 0 {
-        return are_zero(level, position, stamp);
-    }
-    GroundSpeed(speed).holds()
-        && TrackLevel(level).holds()
-        && Position(position).holds()
-        && Stamp(stamp).holds()
-}
-
 fn is_track_at(words: &[u64], p: usize) -> bool
     requires { p + 4 ≤ length words.now }
     ensures { result ≡ is_track_words (get_or words.now p 0) (get_or words.now (p + 1) 0) (get_or words.now (p + 2) 0) (get_or words.now (p + 3) 0) }
 {
-    is_track(words[p], words[p + 1], words[p + 2], words[p + 3])
+    if words[p] == 0 {
+        return are_zero(words[p + 1], words[p + 2], words[p + 3]);
+    }
+    GroundSpeed(words[p]).holds()
+        && TrackLevel(words[p + 1]).holds()
+        && Position(words[p + 2]).holds()
+        && Stamp(words[p + 3]).holds()
 }
 
 // Whether a row with these first words of its entries has one of them.

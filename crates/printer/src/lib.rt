@@ -13,7 +13,7 @@ ghost use Rattle.printer.specs.Text.{counts_text};
 ghost use Rattle.printer.specs.Print.{text_in, print_of, out_after, print_number, PrintCase, CountsCase};
 ghost use Rattle.printer.specs.Asks.{counted, RowsAsk, BoardAsks};
 
-use board::is_allowed;
+use board::{WORDS_OF_A_ROW, is_allowed};
 use text::writing::{has_room, put_bytes};
 use text::{NotWritten, decimals};
 
@@ -46,7 +46,7 @@ fn board_size(board: &[u64]) -> usize
     let flights = board[0];
     let mut total = 9 + decimals::size(flights);
     for i in 0..flights as usize {
-        total += slips::size(board, 1 + 11 * i);
+        total += slips::size(board, 1 + WORDS_OF_A_ROW * i);
     }
     total
 }
@@ -59,7 +59,7 @@ fn put_rows(board: &[u64], out: &mut [u8], at: usize)
     let rows = board[0] as usize;
     let mut next = at;
     for i in 0..rows {
-        let size = slips::put(board, 1 + 11 * i, &mut out[next..]);
+        let size = slips::put(board, 1 + WORDS_OF_A_ROW * i, &mut out[next..]);
         next += size;
     }
 }

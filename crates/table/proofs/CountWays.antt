@@ -15,7 +15,7 @@ use Rattle.shapes.specs.Picture.{is_of, fits}
 use Rattle.fields.specs.declared.heads.MessageType.{MessageType}
 use Rattle.fields.specs.declared.heads.MessageType.TheVariants.{Af, Az, Dz, Fz, Rz, Tz, Uz, Rt, To, Hb}
 use Rattle.fields.specs.contracts.heads.MessageType.{the_type}
-use Rattle.table.specs.Table.{count_with, is_count, has_fields, has_route_with}
+use Rattle.table.specs.Table.{count_with, is_count, has_fields}
 use Rattle.rules.specs.Frame.{longest_plan}
 use Rattle.rules.specs.declared.Rule.{Rule}
 use Rattle.fields.specs.Head.{type_at}
@@ -47,15 +47,6 @@ unfolding is_count count_with
 one_count t n =
     each_type (λ t. OneOf not_af (tag_of the_type t) → eqb n (count_with t 0) ≡ is_count t n)
     (λ h. absurd (miss not_af 0 tt h)) (λ h. refl) (λ h. refl) (λ h. refl) (λ h. refl) (λ h. refl) (λ h. refl) (λ h. refl) (λ h. refl) (λ h. refl) t
-
--- the types that the code does not name have no route
-abbrev unrouted : List ℕ
-unrouted = 1 ∷ 2 ∷ 4 ∷ 5 ∷ 7 ∷ 8 ∷ 9 ∷ []
-
-pub no_route : (t : MessageType) (m : ℕ) → OneOf unrouted (tag_of the_type t) → false ≡ has_route_with t m
-no_route t m =
-    each_type (λ t. OneOf unrouted (tag_of the_type t) → false ≡ has_route_with t m)
-    (λ h. absurd (miss unrouted 0 tt h)) (λ h. refl) (λ h. refl) (λ h. absurd (miss unrouted 3 tt h)) (λ h. refl) (λ h. refl) (λ h. absurd (miss unrouted 6 tt h)) (λ h. refl) (λ h. refl) (λ h. refl) t
 
 -- an FZ over its limit from its type is over both together from its start
 pub long_plan : (ρ : Rule) (n : ℕ) → ltb (type_at ρ + longest_plan) n ≡ is_long_plan ρ Fz n

@@ -11,11 +11,6 @@ use Rattle.text.specs.Bytes.{bytes}
 use Rattle.table.specs.Amends.{Amends, mark_of}
 use Rattle.table.proofs.Eight.{zero_mark, each_eight}
 
--- a text of no bytes has 0 for its first byte
-pub no_first : (s : List ℕ) → length s ≡ 0 → get_or s 0 0 ≡ 0
-no_first [] e = refl
-no_first (x ∷ s) e = absurd (omega arith)
-
 -- no number is longer or shorter than two bytes
 pub not_two : (s : List ℕ) → (length s ≡ 2 → ⊥) → 0 ≡ mark_of s
 not_two s n = sym (zero_mark s (λ a m q. n (sym (ap length q) ∙ each_eight (λ (c : Amends). length c.number ≡ 2) refl refl refl refl refl refl refl refl a m)))

@@ -14,7 +14,6 @@ use crate::kinds::{
     TZ_IDENT, Value,
 };
 use fields::aircraft::Aircraft;
-use fields::flight::{ComputerNumber, Key};
 use fields::idents::Ident;
 use fields::plan::Time;
 use fields::words::{self, Worded};
@@ -24,57 +23,30 @@ use text::writing::put_bytes;
 fn read_ident(s: &[u8]) -> Result<Value, NotRead>
     ensures { result ≡ of_ident (ident_of s.now) }
 {
-    let Some(ident) = Ident::read(s) else {
-        return Err(NotRead::Nothing);
-    };
-    Ok(Value {
-        a: ident.key.0,
-        b: ident.number.0,
-        c: 0,
-    })
+    Ident::read(s).map(Value::from).ok_or(NotRead::Nothing)
 }
 
 fn read_tz_ident(s: &[u8]) -> Result<Value, NotRead>
     ensures { result ≡ of_ident (tz_ident_of s.now) }
 {
-    let Some(ident) = Ident::read_tz(s) else {
-        return Err(NotRead::Nothing);
-    };
-    Ok(Value {
-        a: ident.key.0,
-        b: ident.number.0,
-        c: 0,
-    })
+    Ident::read_tz(s).map(Value::from).ok_or(NotRead::Nothing)
 }
 
+#[tactic(auto, unfolding(fields::specs::Aircraft::aircraft_by))]
 fn read_aircraft(s: &[u8]) -> Result<Value, NotRead>
     ensures { result ≡ of_aircraft (aircraft_by New s.now) }
 {
-    let Some(aircraft) = Aircraft::read(s) else {
-        return Err(NotRead::Nothing);
-    };
-    Ok(Value {
-        a: aircraft.prefix,
-        b: aircraft.model,
-        c: aircraft.letter,
-    })
+    Aircraft::read(s).map(Value::from).ok_or(NotRead::Nothing)
 }
 
 // In the old feed an aircraft has no last letter.
 fn read_old_aircraft(s: &[u8]) -> Result<Value, NotRead>
     ensures { result ≡ of_aircraft (aircraft_by Old s.now) }
 {
-    let Some(aircraft) = Aircraft::read(s) else {
-        return Err(NotRead::Nothing);
-    };
-    if aircraft.letter != 0 {
-        return Err(NotRead::Nothing);
+    match Aircraft::read(s) {
+        Some(aircraft) if aircraft.letter == 0 => Ok(Value::from(aircraft)),
+        _ => Err(NotRead::Nothing),
     }
-    Ok(Value {
-        a: aircraft.prefix,
-        b: aircraft.model,
-        c: 0,
-    })
 }
 
 // A route is not kept: it stays a part of the line.
@@ -84,20 +56,15 @@ fn read_route(s: &[u8]) -> Result<Value, NotRead>
     if !rules::is_route(s) {
         return Err(NotRead::Nothing);
     }
-    Ok(Value { a: 0, b: 0, c: 0 })
+    Ok(Value::NONE)
 }
 
 fn read_word(kind: u8, s: &[u8]) -> Result<Value, NotRead>
     ensures { result ≡ of_word (word_of kind s.now) }
 {
-    let Some(word) = words::read(kind, s) else {
-        return Err(NotRead::Nothing);
-    };
-    Ok(Value {
-        a: word,
-        b: 0,
-        c: 0,
-    })
+    words::read(kind, s)
+        .map(Value::word)
+        .ok_or(NotRead::Nothing)
 }
 
 // A field of a kind by itself.
@@ -119,34 +86,20 @@ fn read_number(marks: u8, s: &[u8]) -> Result<Value, NotRead>
     ensures { result ≡ read_in AMENDMENT 0 marks s.now }
 {
     let mark = kinds::mark(s);
-    if mark == 0 {
+    if mark == 0 || marks & mark != 0 {
         return Err(NotRead::Number);
     }
-    if marks & mark != 0 {
-        return Err(NotRead::Number);
-    }
-    Ok(Value {
-        a: mark as u64,
-        b: 0,
-        c: 0,
-    })
+    Ok(Value::word(mark as u64))
 }
 
-// The time of FZ and UZ: its own form first, then the E rule.
+// The time of FZ and UZ: the E rule, and its own form.
 fn read_plan_time(trace: u8, s: &[u8]) -> Result<Value, NotRead>
     ensures { result ≡ read_in PLAN_TIME trace 0 s.now }
 {
-    let Some(time) = Time::read(s) else {
-        return Err(NotRead::Nothing);
-    };
     if !kinds::follows(PLAN_TIME, trace, 0, s) {
         return Err(NotRead::Nothing);
     }
-    Ok(Value {
-        a: time.0,
-        b: 0,
-        c: 0,
-    })
+    read_word(rules::TIME, s)
 }
 
 // A field after the trace of the one before it, and the marks set so far.
@@ -169,23 +122,14 @@ fn put_ident(v: Value, out: &mut [u8], at: usize) -> Result<usize, NotWritten>
     if v.c != 0 {
         return Err(NotWritten::NoText);
     }
-    let ident = Ident {
-        key: Key(v.a),
-        number: ComputerNumber(v.b),
-    };
-    ident.put(out, at)
+    Ident::from(v).put(out, at)
 }
 
 fn put_aircraft(v: Value, out: &mut [u8], at: usize) -> Result<usize, NotWritten>
     ensures value { result ≡ written_next (is_aircraft_value (aircraft_in v)) (aircraft_text (aircraft_in v)) out.old at }
     ensures out_after { out.new ≡ written_bytes (is_aircraft_value (aircraft_in v)) (aircraft_text (aircraft_in v)) out.old at }
 {
-    let aircraft = Aircraft {
-        prefix: v.a,
-        model: v.b,
-        letter: v.c,
-    };
-    aircraft.put(out, at)
+    Aircraft::from(v).put(out, at)
 }
 
 // The route itself stands beside its value, which keeps nothing.
@@ -193,16 +137,7 @@ fn put_route(v: Value, route: &[u8], out: &mut [u8], at: usize) -> Result<usize,
     ensures value { result ≡ written_next (is_route route.now && eqb v.a 0 && is_one v) route.now out.old at }
     ensures out_after { out.new ≡ written_bytes (is_route route.now && eqb v.a 0 && is_one v) route.now out.old at }
 {
-    if !rules::is_route(route) {
-        return Err(NotWritten::NoText);
-    }
-    if v.a != 0 {
-        return Err(NotWritten::NoText);
-    }
-    if v.b != 0 {
-        return Err(NotWritten::NoText);
-    }
-    if v.c != 0 {
+    if !rules::is_route(route) || v.a != 0 || !v.is_one() {
         return Err(NotWritten::NoText);
     }
     put_bytes(route, out, at)
@@ -212,10 +147,7 @@ fn put_word(kind: u8, v: Value, out: &mut [u8], at: usize) -> Result<usize, NotW
     ensures value { result ≡ written_next (is_word kind v.a && is_one v) (text_of v.a) out.old at }
     ensures out_after { out.new ≡ written_bytes (is_word kind v.a && is_one v) (text_of v.a) out.old at }
 {
-    if v.b != 0 {
-        return Err(NotWritten::NoText);
-    }
-    if v.c != 0 {
+    if !v.is_one() {
         return Err(NotWritten::NoText);
     }
     words::put(kind, v.a, out, at)
@@ -234,19 +166,11 @@ fn put_kind(
 {
     match kind {
         IDENT => put_ident(v, out, at),
-        TZ_IDENT => {
-            if v.b == 0 {
-                return Err(NotWritten::NoText);
-            }
-            put_ident(v, out, at)
-        }
+        TZ_IDENT if v.b == 0 => Err(NotWritten::NoText),
+        TZ_IDENT => put_ident(v, out, at),
         AIRCRAFT => put_aircraft(v, out, at),
-        OLD_AIRCRAFT => {
-            if v.c != 0 {
-                return Err(NotWritten::NoText);
-            }
-            put_aircraft(v, out, at)
-        }
+        OLD_AIRCRAFT if v.c != 0 => Err(NotWritten::NoText),
+        OLD_AIRCRAFT => put_aircraft(v, out, at),
         ROUTE => put_route(v, route, out, at),
         _ => put_word(kind, v, out, at),
     }
@@ -295,10 +219,7 @@ pub fn put_field(
     if kind != AMENDMENT {
         return put_kind(kinds::plain(kind, trace), v, route, out, at);
     }
-    if v.b != 0 {
-        return Err(NotWritten::NoText);
-    }
-    if v.c != 0 {
+    if !v.is_one() {
         return Err(NotWritten::NoText);
     }
     put_mark(v.a, out, at)

@@ -1,11 +1,15 @@
 // The kinds of fields of document 01's table: what an amendment's number asks for, and what one field leaves for the next.
 ghost use Rattle.std.specs.Prelude.{◌≡◌};
 ghost use Rattle.rules.specs.declared.Rule.TheVariants.{Old};
-ghost use Rattle.table.specs.Field.{kind_by, mark_of, content_of, plain as plainly, trace_of, marks_of, follows as following};
+ghost use Rattle.table.specs.Field.{kind_by, mark_of, content_of, plain as plainly, trace_of, marks_of, follows as following, valued, ident_in, aircraft_in, is_one};
 
+use fields::aircraft::Aircraft;
+use fields::flight::{ComputerNumber, Key};
+use fields::idents::Ident;
 use rules::is_position;
 
-// The kinds that are no single text; the others are those of `rules`.
+// The kinds that are no single text; the others are those of `rules`. Letters and no enum: a row of the table is a string of them,
+// and the contracts (`dotted`, `table_by`) speak of lists of letters.
 pub const IDENT: u8 = b'I';
 
 pub const TZ_IDENT: u8 = b'J';
@@ -44,7 +48,8 @@ pub const MARK_09: u8 = 64;
 
 pub const MARK_10: u8 = 128;
 
-// The same marks as a value keeps them.
+// The same marks as a value keeps them. They have names too since an arm of a match takes no `MARK_02 as u64`, and a value's word may be
+// more than a u8: a cast of it would take 257 for 1.
 pub const KEPT_02: u64 = MARK_02 as u64;
 
 pub const KEPT_03: u64 = MARK_03 as u64;
@@ -68,6 +73,73 @@ pub struct Value {
     pub a: u64,
     pub b: u64,
     pub c: u64,
+}
+
+impl Value {
+    // Of a field that keeps nothing.
+    pub const NONE: Value = Value { a: 0, b: 0, c: 0 };
+
+    // Of a field that is one word.
+    pub fn word(a: u64) -> Value
+        ensures { result ≡ valued a 0 0 }
+    {
+        Value { a, b: 0, c: 0 }
+    }
+
+    // Whether it is one word.
+    #[tactic(auto, unfolding(crate::specs::Field::is_one))]
+    pub fn is_one(self) -> bool
+        ensures { result ≡ is_one self }
+    {
+        self.b == 0 && self.c == 0
+    }
+}
+
+impl From<Ident> for Value {
+    ghost from_gives = { λ i v. v ≡ valued i.key.0 i.number.0 0 };
+
+    fn from(ident: Ident) -> Value {
+        Value {
+            a: ident.key.0,
+            b: ident.number.0,
+            c: 0,
+        }
+    }
+}
+
+impl From<Aircraft> for Value {
+    ghost from_gives = { λ x v. v ≡ valued x.prefix x.model x.letter };
+
+    fn from(aircraft: Aircraft) -> Value {
+        Value {
+            a: aircraft.prefix,
+            b: aircraft.model,
+            c: aircraft.letter,
+        }
+    }
+}
+
+impl From<Value> for Ident {
+    ghost from_gives = { λ v i. i ≡ ident_in v };
+
+    fn from(v: Value) -> Ident {
+        Ident {
+            key: Key(v.a),
+            number: ComputerNumber(v.b),
+        }
+    }
+}
+
+impl From<Value> for Aircraft {
+    ghost from_gives = { λ v x. x ≡ aircraft_in v };
+
+    fn from(v: Value) -> Aircraft {
+        Aircraft {
+            prefix: v.a,
+            model: v.b,
+            letter: v.c,
+        }
+    }
 }
 
 // A field that is read; one without a reading (answer 9); a number that is none of the eight or came before (10).
@@ -146,18 +218,15 @@ pub fn plain(kind: u8, trace: u8) -> u8
 }
 
 // What a field leaves for the next one: a number its mark, a fix whether it is a position.
+#[tactic(auto, unfolding(crate::specs::Field::trace_of))]
 pub fn trace(kind: u8, s: &[u8]) -> u8
     ensures { result ≡ trace_of kind s.now }
 {
-    if kind == AMENDMENT {
-        return mark(s);
+    match kind {
+        AMENDMENT => mark(s),
+        rules::FIX if is_position(s) => 1,
+        _ => 0,
     }
-    if kind == rules::FIX {
-        if is_position(s) {
-            return 1;
-        }
-    }
-    0
 }
 
 // The marks set after a field.
@@ -171,20 +240,13 @@ pub fn marks_after(kind: u8, marks: u8, s: &[u8]) -> u8
 }
 
 // Whether a field may follow: no number comes twice, and a time with E follows a fix that is a position.
+#[tactic(auto, unfolding(crate::specs::Field::follows))]
 pub fn follows(kind: u8, trace: u8, marks: u8, s: &[u8]) -> bool
     ensures { result ≡ following kind trace marks s.now }
 {
-    if kind == AMENDMENT {
-        return marks & mark(s) == 0;
+    match kind {
+        AMENDMENT => marks & mark(s) == 0,
+        PLAN_TIME => s.len() == 0 || s[0] != b'E' || trace == 1,
+        _ => true,
     }
-    if kind != PLAN_TIME {
-        return true;
-    }
-    if s.len() == 0 {
-        return true;
-    }
-    if s[0] != b'E' {
-        return true;
-    }
-    trace == 1
 }

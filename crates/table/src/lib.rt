@@ -28,13 +28,12 @@ const AZ: [u8; 19] = *b"IPPA...............";
 
 const DZ: [u8; 19] = *b"IZPTPC.............";
 
+// FZ and UZ have one row.
 const FZ: [u8; 19] = *b"IZSFHLR............";
 
 const RZ: [u8; 19] = *b"IPP................";
 
 const TZ: [u8; 19] = *b"JGMO...............";
-
-const UZ: [u8; 19] = *b"IZSFHLR............";
 
 // Those of the old feed that differ.
 const OLD_AF: [u8; 19] = *b"IPPBwBwBwBwBwBwBwBw";
@@ -53,7 +52,8 @@ const LONGEST_OLD_FZ: usize = OLD_TYPE_AT + LONGEST_PLAN;
 // RT, TO and HB bodies are kept whole.
 const WHOLE: [u8; 19] = *b"...................";
 
-// The row of a type in the old feed.
+// The row of a type in the old feed: its own, or that of the feed.
+#[tactic(auto, unfolding(crate::specs::Table::dotted, crate::specs::Table::table_by))]
 fn old_kinds(t: MessageType) -> [u8; 19]
     ensures { result ≡ dotted Old t }
 {
@@ -61,17 +61,13 @@ fn old_kinds(t: MessageType) -> [u8; 19]
         MessageType::Af => OLD_AF,
         MessageType::Az => OLD_AZ,
         MessageType::Dz => OLD_DZ,
-        MessageType::Fz => OLD_FZ,
-        MessageType::Rz => RZ,
-        MessageType::Tz => TZ,
-        MessageType::Uz => OLD_FZ,
-        MessageType::Rt => WHOLE,
-        MessageType::To => WHOLE,
-        MessageType::Hb => WHOLE,
+        MessageType::Fz | MessageType::Uz => OLD_FZ,
+        _ => new_kinds(t),
     }
 }
 
 // The row of a type.
+#[tactic(auto, unfolding(crate::specs::Table::dotted, crate::specs::Table::table_by))]
 fn new_kinds(t: MessageType) -> [u8; 19]
     ensures { result ≡ dotted New t }
 {
@@ -79,13 +75,10 @@ fn new_kinds(t: MessageType) -> [u8; 19]
         MessageType::Af => AF,
         MessageType::Az => AZ,
         MessageType::Dz => DZ,
-        MessageType::Fz => FZ,
+        MessageType::Fz | MessageType::Uz => FZ,
         MessageType::Rz => RZ,
         MessageType::Tz => TZ,
-        MessageType::Uz => UZ,
-        MessageType::Rt => WHOLE,
-        MessageType::To => WHOLE,
-        MessageType::Hb => WHOLE,
+        MessageType::Rt | MessageType::To | MessageType::Hb => WHOLE,
     }
 }
 
@@ -131,20 +124,17 @@ pub(crate) fn amendment_count(marks: u8) -> u32
 }
 
 // How many fields the body of a type has; only an AF's count goes by its marks.
+#[tactic(auto, unfolding(crate::specs::Table::count_with))]
 pub fn field_count(t: MessageType, marks: u8) -> usize
     ensures { result ≡ count_with t marks }
 {
     match t {
         MessageType::Af => 3 + 2 * (amendment_count(marks) as usize),
-        MessageType::Az => 4,
+        MessageType::Az | MessageType::Tz => 4,
         MessageType::Dz => 6,
-        MessageType::Fz => 7,
+        MessageType::Fz | MessageType::Uz => 7,
         MessageType::Rz => 3,
-        MessageType::Tz => 4,
-        MessageType::Uz => 7,
-        MessageType::Rt => 0,
-        MessageType::To => 0,
-        MessageType::Hb => 0,
+        MessageType::Rt | MessageType::To | MessageType::Hb => 0,
     }
 }
 
@@ -171,23 +161,17 @@ pub fn has_route(t: MessageType, marks: u8) -> bool
 {
     match t {
         MessageType::Af => marks & MARK_10 != 0,
-        MessageType::Fz => true,
-        MessageType::Uz => true,
+        MessageType::Fz | MessageType::Uz => true,
         _ => false,
     }
 }
 
 // AF: even counts of fields, under 5 or over 19, are wrong.
+#[tactic(auto, unfolding(crate::specs::Table::is_count))]
 fn is_af_count(n: usize) -> bool
     ensures { result ≡ is_count type.Af n }
 {
-    if n < 5 {
-        return false;
-    }
-    if n > 19 {
-        return false;
-    }
-    n % 2 == 1
+    5 <= n && n <= 19 && n % 2 == 1
 }
 
 // Whether the body of a type may have n fields.

@@ -40,7 +40,7 @@ pub(crate) fn refused() -> TableRead
 {
     TableRead {
         answer: Err(Fault::Spacing),
-        values: [Value { a: 0, b: 0, c: 0 }; 19],
+        values: [Value::NONE; 19],
     }
 }
 
@@ -50,7 +50,7 @@ pub(crate) fn read(kinds: &[u8], body: &[u8], trailing: bool) -> TableRead
     ensures answer_value { result.answer ≡ answer_of kinds.now body.now }
     ensures values_value { result.values ≡ padded (values_of kinds.now body.now) }
 {
-    let mut values = [Value { a: 0, b: 0, c: 0 }; 19];
+    let mut values = [Value::NONE; 19];
     let mut at: usize = 0;
     let mut trace: u8 = 0;
     let mut marks: u8 = 0;

@@ -8,13 +8,13 @@ use Rattle.text.proofs.Logic.{so, not_so}
 use Rattle.board.proofs.Allowed.{cap_is, not_allowed, not_held, not_risen, by_rest}
 use Rattle.board.proofs.is_allowed.Goals as goal
 
-pub returns-then-board-ne2817 : goal.returns-then-board-ne2817
-returns-then-board-ne2817 c = let l : List ℕ = c.args.board.now in
-    sym (not_allowed l (λ p. let q : length l ≡ 2817 = omega (arith, p.size, cap_is) in c.if-board-ne2817.true q))
+pub returns-then-board-ne-WORDS_OF_A_BOARD : goal.returns-then-board-ne-WORDS_OF_A_BOARD
+returns-then-board-ne-WORDS_OF_A_BOARD c = let l : List ℕ = c.args.board.now in
+    sym (not_allowed l (λ p. let q : length l ≡ 2817 = omega (arith, p.size, cap_is) in c.if-board-ne-WORDS_OF_A_BOARD.true q))
 
-pub returns-then-board-gt256 : goal.returns-then-board-gt256
-returns-then-board-gt256 c = let l : List ℕ = c.args.board.now in
-    sym (not_allowed l (λ p. omega (arith, p.count, cap_is, c.if-board-gt256.true)))
+pub returns-then-board : goal.returns-then-board
+returns-then-board c = let l : List ℕ = c.args.board.now in
+    sym (not_allowed l (λ p. omega (arith, p.count, cap_is, c.if-board.true)))
 
 pub returns-then-not-rows_hold : goal.returns-then-not-rows_hold
 returns-then-not-rows_hold c = let l : List ℕ = c.args.board.now in
@@ -26,8 +26,8 @@ returns-then-not-keys_rise c = let l : List ℕ = c.args.board.now in
 
 pub returns : goal.returns
 returns c = let l : List ℕ = c.args.board.now in
-    let size = c.if-board-ne2817.false in
-    let count = c.if-board-gt256.false in
+    let size = c.if-board-ne-WORDS_OF_A_BOARD.false in
+    let count = c.if-board.false in
     c.all_zero.ensures
     ∙ by_rest l (omega (arith, size, cap_is)) (omega (arith, count, cap_is))
     (so c.rows_hold.ensures c.if-not-rows_hold.false-raw) (so c.keys_rise.ensures c.if-not-keys_rise.false-raw)

@@ -13,4 +13,6 @@ returns-then-v-ne0 c =
 
 pub returns : goal.returns
 unfolding is_two
-returns c = rw (eq-eqb _ _ c.if-v-ne0.false, and-true) (record { value = c.put.ensures.value; out_after = c.put.ensures.out_after })
+returns c =
+    let put = rw c.from.ensures at c.put.ensures in
+    rw (eq-eqb _ _ c.if-v-ne0.false, and-true) (record { value = put.value; out_after = put.out_after })

@@ -5,15 +5,15 @@ use Rattle.text.proofs.Laws.{no_text}
 use Rattle.table.specs.Field.{is_kind_value, shown_kind}
 use Rattle.table.proofs.field.put_kind.Goals as goal
 
-pub returns-then-v-eq0 : goal.returns-then-v-eq0
+pub returns-in-74 : goal.returns-in-74
 unfolding is_kind_value shown_kind
-returns-then-v-eq0 c =
+returns-in-74 c =
     let both = no_text _ _ _ (rw (c.in-74.is, eq-eqb _ _ c.if-v-eq0.true, and-false)) in
     record { value = both.0; out_after = both.1 }
 
-pub returns-then-v-ne0 : goal.returns-then-v-ne0
+pub returns-in-122 : goal.returns-in-122
 unfolding is_kind_value shown_kind
-returns-then-v-ne0 c =
+returns-in-122 c =
     let both = no_text _ _ _ (rw (c.in-122.is, ne_eqb _ _ c.if-v-ne0.true, and-false)) in
     record { value = both.0; out_after = both.1 }
 
@@ -21,17 +21,17 @@ pub returns-in-73 : goal.returns-in-73
 unfolding is_kind_value shown_kind
 returns-in-73 c = rw c.in-73.is (record { value = c.put_ident.ensures.value; out_after = c.put_ident.ensures.out_after })
 
-pub returns-else-v-eq0 : goal.returns-else-v-eq0
+pub returns-in-74-2 : goal.returns-in-74-2
 unfolding is_kind_value shown_kind
-returns-else-v-eq0 c = rw (c.in-74.is, ne_eqb _ _ c.if-v-eq0.false, and-true) (record { value = c.put_ident-in-74.ensures.value; out_after = c.put_ident-in-74.ensures.out_after })
+returns-in-74-2 c = rw (c.in-74.is, ne_eqb _ _ c.if-v-eq0.false, and-true) (record { value = c.put_ident-in-74-2.ensures.value; out_after = c.put_ident-in-74-2.ensures.out_after })
 
 pub returns-in-90 : goal.returns-in-90
 unfolding is_kind_value shown_kind
 returns-in-90 c = rw c.in-90.is (record { value = c.put_aircraft.ensures.value; out_after = c.put_aircraft.ensures.out_after })
 
-pub returns-else-v-ne0 : goal.returns-else-v-ne0
+pub returns-in-122-2 : goal.returns-in-122-2
 unfolding is_kind_value shown_kind
-returns-else-v-ne0 c = rw (c.in-122.is, eq-eqb _ _ c.if-v-ne0.false, and-true) (record { value = c.put_aircraft-in-122.ensures.value; out_after = c.put_aircraft-in-122.ensures.out_after })
+returns-in-122-2 c = rw (c.in-122.is, eq-eqb _ _ c.if-v-ne0.false, and-true) (record { value = c.put_aircraft-in-122-2.ensures.value; out_after = c.put_aircraft-in-122-2.ensures.out_after })
 
 pub returns-in-82 : goal.returns-in-82
 unfolding is_kind_value shown_kind

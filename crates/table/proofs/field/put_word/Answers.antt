@@ -1,22 +1,9 @@
 -- `table::field::put_word` meets its contract. Assumes nothing.
-use mathlib.Core.Bool.{and-true, and-false}
-use borrow.Author.Tests.{eq-eqb, ne_eqb}
+use mathlib.Core.Bool.{and-false}
 use Rattle.text.proofs.Laws.{no_text}
-use Rattle.table.specs.Field.{is_one}
 use Rattle.table.proofs.field.put_word.Goals as goal
 
-pub returns-then-v-ne0 : goal.returns-then-v-ne0
-unfolding is_one
-returns-then-v-ne0 c =
-    let both = no_text _ _ _ (rw (ne_eqb _ _ c.if-v-ne0.true, and-false)) in
+pub returns-then-not-is_one : goal.returns-then-not-is_one
+returns-then-not-is_one c =
+    let both = no_text _ _ _ (rw (← c.if-not-is_one.ensures, and-false)) in
     record { value = both.0; out_after = both.1 }
-
-pub returns-then-v-ne0-2 : goal.returns-then-v-ne0-2
-unfolding is_one
-returns-then-v-ne0-2 c =
-    let both = no_text _ _ _ (rw (eq-eqb _ _ c.if-v-ne0.false, ne_eqb _ _ c.if-v-ne0-2.true, and-false)) in
-    record { value = both.0; out_after = both.1 }
-
-pub returns : goal.returns
-unfolding is_one
-returns c = rw (eq-eqb _ _ c.if-v-ne0.false, eq-eqb _ _ c.if-v-ne0-2.false, and-true) (record { value = c.put.ensures.value; out_after = c.put.ensures.out_after })

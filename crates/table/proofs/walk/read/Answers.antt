@@ -8,7 +8,6 @@ use Prim.Native.Nat.{ℕ, ◌+◌, ◌-◌, ◌≤◌, ◌<◌}
 use native.Mathlib.Omega.{arith}
 use lib.ListN.{length, take, drop, get_or, set, replicate, drop_of_length-le}
 use lib.Seq.{sets}
-use denote.Enum.Declared.{tag_of}
 use Rattle.shapes.proofs.Laws.{next_byte}
 use Rattle.table.specs.Spacing.{end_of}
 use Rattle.table.specs.Field.{read_in, trace_of, marks_of}
