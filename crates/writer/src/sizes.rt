@@ -70,8 +70,7 @@ fn size_all(kinds: &[u8], values: [Value; 19], route: &[u8]) -> Option<(usize, u
     let mut trace: u8 = 0;
     let mut marks: u8 = 0;
     for (k, &kind) in kinds.iter().enumerate() {
-        let (n, next, after) = size_field(kind, trace, marks, values[k], route)
-       ?;
+        let (n, next, after) = size_field(kind, trace, marks, values[k], route)?;
         size += n + 1;
         trace = next;
         marks = after;
