@@ -68,9 +68,9 @@ pub(crate) fn feed(board: &mut [u64], held: &mut [u8], begun: Begun, most: usize
 // The number, 1 for ahead and 2 for old, the seconds.
 pub(crate) fn age(now: u64, last: u64, stamp: u64) {
     match ages::age(Stamp(now), last, Stamp(stamp)) {
-        Aged::Seconds(n) => say_three(0, 0, n),
-        Aged::Ahead => say_three(0, 1, 0),
-        Aged::Old => say_three(0, 2, 0),
-        Aged::OutOfRange => say_three(19, 0, 0),
+        Some(Aged::Seconds(n)) => say_three(0, 0, n),
+        Some(Aged::Ahead) => say_three(0, 1, 0),
+        Some(Aged::Old) => say_three(0, 2, 0),
+        None => say_three(19, 0, 0),
     }
 }

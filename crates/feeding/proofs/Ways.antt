@@ -15,6 +15,7 @@ use Rattle.board.proofs.Theorems.{words_rows}
 use Rattle.history.specs.Steps.{Took, NoRoom, rows_after, answer}
 use Rattle.planner.specs.Asked.{asked_of}
 use Rattle.planner.specs.declared.asks.Asked.{Asked}
+use Rattle.line.specs.declared.Refusal.{Refusal}
 use Rattle.planner.specs.declared.asks.Asked.TheVariants as asked
 use Rattle.planner.specs.Apply.{event_of as asked_event, line_event, room, answer_to, Entered}
 use Rattle.cutter.specs.State.{is_allowed}
@@ -63,13 +64,13 @@ count_room : (b : Bool) → counted (room b) ≡ one (cond b Took NoRoom)
 count_room true = refl
 count_room false = refl
 
-count_line : (rs : List Row) (a : Asked) → counted (answer_to rs a) ≡ one (answer rs (asked_event a))
+count_line : (rs : List Row) (a : Result Asked Refusal) → counted (answer_to rs a) ≡ one (answer rs (asked_event a))
 unfolding answer
-count_line rs (asked.Dz k x) = count_room (fits rs k.0)
-count_line rs (asked.Az k x) = count_room (fits rs k.0)
-count_line rs (asked.Tz k x) = count_room (fits rs k.0)
-count_line rs asked.Other = refl
-count_line rs (asked.Refused x) = refl
+count_line rs (Ok (asked.Dz k x)) = count_room (fits rs k.0)
+count_line rs (Ok (asked.Az k x)) = count_room (fits rs k.0)
+count_line rs (Ok (asked.Tz k x)) = count_room (fits rs k.0)
+count_line rs (Ok asked.Other) = refl
+count_line rs (Err x) = refl
 
 module _ (l s : List ℕ) (r : Result (Unit {0}) NotTaken) (l' : List ℕ) (w : Entered l (asked_of s) r l') where
   heard : counted r ≡ one (answer (rows_of l) (line_event s))

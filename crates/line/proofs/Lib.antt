@@ -1,3 +1,4 @@
+pub mod Handed
 pub mod Ways
 pub mod Heads
 pub mod Steps

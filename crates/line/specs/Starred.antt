@@ -68,11 +68,11 @@ abbrev of_minutes : Option (ℤ × ℤ) → Answer
 of_minutes (Some (y, x)) = Signed y x
 of_minutes None = NoReading
 
-abbrev of_age : Aged → Answer
-of_age (aged.Seconds n) = Seconds n
-of_age aged.Ahead = Ahead
-of_age aged.Old = Old
-of_age aged.OutOfRange = Refused (ages.age_number aged.OutOfRange)
+abbrev of_age : Option Aged → Answer
+of_age (Some (aged.Seconds n)) = Seconds n
+of_age (Some aged.Ahead) = Ahead
+of_age (Some aged.Old) = Old
+of_age None = Refused (ages.age_number None)
 
 abbrev pub answer : Question → Answer
 answer (Line t) = of_line (read_of (bytes t)) (free_of New (bytes t))

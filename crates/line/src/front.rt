@@ -36,18 +36,10 @@ fn read_new_head(line: &[u8]) -> Result<Head, Refusal>
     requires { head_length New ≤ length line.now }
     ensures { result ≡ head_of New line.now }
 {
-    let Some(sequence) = Sequence::read(&line[0..STAMP_AT]) else {
-        return Err(Refusal::NoSequence);
-    };
-    let Some(stamp) = Stamp::read(&line[STAMP_AT..FACILITY_AT]) else {
-        return Err(Refusal::NoStamp);
-    };
-    let Some(facility) = Facility::read(&line[FACILITY_AT..TYPE_AT]) else {
-        return Err(Refusal::NoFacility);
-    };
-    let Some(kind) = kind_of(Rule::New, &line[TYPE_AT..BODY_AT]) else {
-        return Err(Refusal::NoType);
-    };
+    let sequence = Sequence::read(&line[0..STAMP_AT]).ok_or(Refusal::NoSequence)?;
+    let stamp = Stamp::read(&line[STAMP_AT..FACILITY_AT]).ok_or(Refusal::NoStamp)?;
+    let facility = Facility::read(&line[FACILITY_AT..TYPE_AT]).ok_or(Refusal::NoFacility)?;
+    let kind = kind_of(Rule::New, &line[TYPE_AT..BODY_AT]).ok_or(Refusal::NoType)?;
     Ok(Head {
         sequence: sequence.0,
         stamp: stamp.0,
@@ -60,19 +52,15 @@ fn read_old_head(line: &[u8]) -> Result<Head, Refusal>
     requires { head_length Old ≤ length line.now }
     ensures { result ≡ head_of Old line.now }
 {
-    let Some(stamp) = words::read(rules::OLD_STAMP, &line[0..OLD_CENTER_AT]) else {
-        return Err(Refusal::NoStamp);
-    };
-    let Some(center) = words::read(rules::LETTER, &line[OLD_CENTER_AT..OLD_TYPE_AT]) else {
-        return Err(Refusal::NoFacility);
-    };
-    let Some(kind) = kind_of(Rule::Old, &line[OLD_TYPE_AT..OLD_BODY_AT]) else {
-        return Err(Refusal::NoType);
-    };
+    let stamp = words::read(rules::OLD_STAMP, &line[0..OLD_CENTER_AT]).ok_or(Refusal::NoStamp)?;
+    let facility = words::read(rules::LETTER, &line[OLD_CENTER_AT..OLD_TYPE_AT]).ok_or(
+        Refusal::NoFacility,
+    )?;
+    let kind = kind_of(Rule::Old, &line[OLD_TYPE_AT..OLD_BODY_AT]).ok_or(Refusal::NoType)?;
     Ok(Head {
         sequence: 0,
         stamp,
-        facility: center,
+        facility,
         kind,
     })
 }

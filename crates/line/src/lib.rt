@@ -13,8 +13,7 @@ ghost use Rattle.line.specs.Cases.{Case};
 ghost use Rattle.line.specs.Read.{rest_of, read_by, read_of, old_read_of, refusal_number, refusal_place, line_number, line_place, old_number, old_place, free_of, free_at};
 
 use crate::front::{Head, kind_of, read_head};
-use fields::frame::{Center, OldStamp, Sequence, Stamp, body_at};
-use fields::heads::Facility;
+use fields::frame::body_at;
 use messages::typed::read_body;
 use messages::{Message, OldMessage, Reading};
 use rules::{LONGEST_LINE, Rule};
@@ -52,8 +51,7 @@ fn fault_place(fault: Fault) -> usize
 {
     match fault {
         Fault::Spacing => 0,
-        Fault::Field(i) => i,
-        Fault::Number(i) => i,
+        Fault::Field(i) | Fault::Number(i) => i,
     }
 }
 
@@ -80,15 +78,8 @@ impl Refusal {
         ensures { result ≡ refusal_place self }
     {
         match self {
-            Refusal::Short => 0,
-            Refusal::Long => 0,
-            Refusal::Unprintable => 0,
-            Refusal::NoSequence => 0,
-            Refusal::NoStamp => 0,
-            Refusal::NoFacility => 0,
-            Refusal::NoType => 0,
-            Refusal::LongPlan => 0,
             Refusal::Body(fault) => fault_place(fault),
+            _ => 0,
         }
     }
 }
@@ -98,22 +89,18 @@ fn read_rest(rule: Rule, head: Head, line: &[u8]) -> Result<Reading, Refusal>
     requires { head_length rule ≤ length line.now }
     ensures { result ≡ rest_of rule head line.now }
 {
-    let kind = head.kind;
-    if table::is_long_plan(rule, kind, line.len()) {
+    if table::is_long_plan(rule, head.kind, line.len()) {
         return Err(Refusal::LongPlan);
     }
     let at = body_at(rule);
-    let read = read_body(rule, kind, &line[at..]);
-    match read {
-        Ok((body, trailing)) => Ok(Reading {
-            sequence: head.sequence,
-            stamp: head.stamp,
-            facility: head.facility,
-            body,
-            trailing,
-        }),
-        Err(fault) => Err(Refusal::Body(fault)),
-    }
+    let (body, trailing) = read_body(rule, head.kind, &line[at..]).map_err(Refusal::Body)?;
+    Ok(Reading {
+        sequence: head.sequence,
+        stamp: head.stamp,
+        facility: head.facility,
+        body,
+        trailing,
+    })
 }
 
 // Reads a line under the rule.
@@ -139,20 +126,7 @@ pub fn read(line: &[u8]) -> Result<Message, Refusal>
     ensures value { result ≡ read_of line.now }
     ensures case { Case New line.now (line_number result) (line_place result) }
 {
-    let read = read_by(Rule::New, line);
-    match read {
-        Ok(x) => {
-            let body = x.body;
-            Ok(Message {
-                sequence: Sequence(x.sequence),
-                stamp: Stamp(x.stamp),
-                facility: Facility(x.facility),
-                body,
-                trailing: x.trailing,
-            })
-        }
-        Err(refusal) => Err(refusal),
-    }
+    read_by(Rule::New, line).map(Message::from)
 }
 
 // Reads a line of the old feed.
@@ -160,19 +134,7 @@ pub fn read_old(line: &[u8]) -> Result<OldMessage, Refusal>
     ensures value { result ≡ old_read_of line.now }
     ensures case { Case Old line.now (old_number result) (old_place result) }
 {
-    let read = read_by(Rule::Old, line);
-    match read {
-        Ok(x) => {
-            let body = x.body;
-            Ok(OldMessage {
-                stamp: OldStamp(x.stamp),
-                center: Center(x.facility),
-                body,
-                trailing: x.trailing,
-            })
-        }
-        Err(refusal) => Err(refusal),
-    }
+    read_by(Rule::Old, line).map(OldMessage::from)
 }
 
 // The body of an RT, TO or HB, the route of an FZ, a UZ and of an AF with number 10, as that part of the line; of any

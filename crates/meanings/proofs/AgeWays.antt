@@ -52,17 +52,17 @@ module _ (last : ℕ) (n s : Moment) where
 
 -- ---- in range, and out of it
 
-pub in_range_lem : {now last stamp : ℕ} {n s : Moment} → InRange now last stamp n s → age_of last n s ≡ age_in now last stamp
+pub in_range_lem : {now last stamp : ℕ} {n s : Moment} → InRange now last stamp n s → Some (age_of last n s) ≡ age_in now last stamp
 unfolding age_in is_last_day
 in_range_lem {now} {last} {stamp} r = rw (r.now_at, r.stamp_at, le-leb 28 last r.last_least, le-leb last 31 r.last_most)
 
 module _ (last : ℕ) (h : is_last_day last ≡ false) where
-  wrong_last : (n s : Option Moment) → aged.OutOfRange ≡ aged_from n last s
+  wrong_last : (n s : Option Moment) → None ≡ aged_from n last s
   wrong_last (Some n) (Some s) = rw h
   wrong_last (Some n) None = refl
   wrong_last None s = refl
 
-no_stamp : (last : ℕ) (n : Option Moment) → aged.OutOfRange ≡ aged_from n last None
+no_stamp : (last : ℕ) (n : Option Moment) → None ≡ aged_from n last None
 no_stamp last (Some n) = refl
 no_stamp last None = refl
 
@@ -74,7 +74,7 @@ last_over : (last : ℕ) → 31 < last → is_last_day last ≡ false
 unfolding is_last_day
 last_over last h = rw (le-leb 28 last (omega (arith, h)), lt-leb last 31 h)
 
-pub out_of_range : {now last stamp : ℕ} → OutOfRange now last stamp → aged.OutOfRange ≡ age_in now last stamp
+pub out_of_range : {now last stamp : ℕ} → OutOfRange now last stamp → None ≡ age_in now last stamp
 unfolding age_in
 out_of_range {now} {last} {stamp} (NowOut e) = rw e
 out_of_range {now} {last} {stamp} (StampOut e) = rw e (no_stamp last (moment_in now))

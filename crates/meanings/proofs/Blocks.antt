@@ -1,4 +1,5 @@
 -- THE NUMBERS of a level: what `level_numbers` tells are the numbers of its digits, and those of a block do not fall. Assumes nothing.
+use Rattle.std.specs.Prelude.{Option}
 use mathlib.Core.Path.{◌≡◌, refl}
 use mathlib.Core.Bool.{Bool, true, false}
 use mathlib.Core.List.{List}
@@ -30,6 +31,6 @@ level_tells s = go (is_level s) refl
     go false q = rw q (λ l. true_false ((level_exactly s).1 l) q)
 
 -- what `level_numbers` promises of its answer
-pub level_told : (t : ℕ) {r : Levels} → r ≡ levels_in t → (r ≡ levels_in t) × TellsIn t r
+pub level_told : (t : ℕ) {r : Option Levels} → r ≡ levels_in t → (r ≡ levels_in t) × TellsIn t r
 unfolding levels_in
 level_told t e = (e, λ q. rw (e, q) (level_tells (text_of t)))

@@ -18,14 +18,14 @@ use Rattle.meanings.proofs.AgeWays.{same_day, day_before_lem, ahead, old, in_ran
 first_day : {now last stamp : ℕ} {n s : Moment} → InRange now last stamp n s → 1 ≤ n.day
 first_day {now} {last} {stamp} {n} {s} r = (ranged now n r.now_at).day_least
 
-pub case_age : {now last stamp k : ℕ} {a : Aged} → AgeCase now last stamp k a → a ≡ age_in now last stamp
-case_age {now} {last} (SameDay n s r e h) = same_day last n s e h ∙ in_range_lem r
-case_age {now} {last} (DayBefore n s r e) = day_before_lem last n s r.last_least (first_day r) e ∙ in_range_lem r
-case_age {now} {last} (Ahead n s r e h) = ahead last n s r.last_least (first_day r) e h ∙ in_range_lem r
-case_age {now} {last} (Old n s r f g) = old last n s f g ∙ in_range_lem r
+pub case_age : {now last stamp k : ℕ} {a : Option Aged} → AgeCase now last stamp k a → a ≡ age_in now last stamp
+case_age {now} {last} (SameDay n s r e h) = ap Some (same_day last n s e h) ∙ in_range_lem r
+case_age {now} {last} (DayBefore n s r e) = ap Some (day_before_lem last n s r.last_least (first_day r) e) ∙ in_range_lem r
+case_age {now} {last} (Ahead n s r e h) = ap Some (ahead last n s r.last_least (first_day r) e h) ∙ in_range_lem r
+case_age {now} {last} (Old n s r f g) = ap Some (old last n s f g) ∙ in_range_lem r
 case_age (Refused o) = out_of_range o
 
-pub case_number : {now last stamp k : ℕ} {a : Aged} → AgeCase now last stamp k a → k ≡ age_number a
+pub case_number : {now last stamp k : ℕ} {a : Option Aged} → AgeCase now last stamp k a → k ≡ age_number a
 unfolding age_number
 case_number (SameDay n s r e h) = refl
 case_number (DayBefore n s r e) = refl
@@ -34,7 +34,7 @@ case_number (Old n s r f g) = refl
 case_number (Refused o) = refl
 
 -- no call is in two
-pub one_case : {now last stamp k k' : ℕ} {a a' : Aged} → AgeCase now last stamp k a → AgeCase now last stamp k' a' → (k ≡ k') × (a ≡ a')
+pub one_case : {now last stamp k k' : ℕ} {a a' : Option Aged} → AgeCase now last stamp k a → AgeCase now last stamp k' a' → (k ≡ k') × (a ≡ a')
 one_case c d =
     let e = case_age c ∙ sym (case_age d) in
     (case_number c ∙ ap age_number e ∙ sym (case_number d), e)
@@ -42,8 +42,8 @@ one_case c d =
 -- ---- each call is in one
 
 module _ (now last stamp : ℕ) where
-  told : {k : ℕ} {a : Aged} → AgeCase now last stamp k a → AgeIs now last stamp (age_in now last stamp)
-  told {k} {a} c = subst (λ (x : Aged). AgeIs now last stamp x) (case_age c) (subst (λ (i : ℕ). AgeCase now last stamp i a) (case_number c) c)
+  told : {k : ℕ} {a : Option Aged} → AgeCase now last stamp k a → AgeIs now last stamp (age_in now last stamp)
+  told {k} {a} c = subst (λ (x : Option Aged). AgeIs now last stamp x) (case_age c) (subst (λ (i : ℕ). AgeCase now last stamp i a) (case_number c) c)
 
   told_in : (n s : Moment) → InRange now last stamp n s → AgeIs now last stamp (age_in now last stamp)
   told_in n s r = go (eqb s.day n.day) refl (leb s.seconds n.seconds) refl (eqb s.day (day_before last n.day)) refl
@@ -67,5 +67,5 @@ module _ (now last stamp : ℕ) where
       go (Some n) e (Some s) f true p true q = told_in n s (record { now_at = e; stamp_at = f; last_least = leb-true 28 last p; last_most = leb-true last 31 q })
 
 -- what a way out of `age` shows, as its promise asks it
-pub in_age_case : {now last stamp : ℕ} {r : Aged} → r ≡ age_in now last stamp → (r ≡ age_in now last stamp) × AgeIs now last stamp r
-in_age_case {now} {last} {stamp} e = (e, subst (λ (x : Aged). AgeIs now last stamp x) (sym e) (case_of now last stamp))
+pub in_age_case : {now last stamp : ℕ} {r : Option Aged} → r ≡ age_in now last stamp → (r ≡ age_in now last stamp) × AgeIs now last stamp r
+in_age_case {now} {last} {stamp} e = (e, subst (λ (x : Option Aged). AgeIs now last stamp x) (sym e) (case_of now last stamp))

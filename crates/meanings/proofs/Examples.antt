@@ -1,6 +1,6 @@
 -- What the promises of `meanings` require on inputs written out, and so wrong answers that they do not allow: of each, `Post` is the function's
 -- `ensures` as it stands in the source, r any result that meets it, s the state at exit. Assumes nothing.
-use Rattle.std.specs.Prelude.{Some}
+use Rattle.std.specs.Prelude.{None, Some}
 use Prim.Native.Nat.{ℕ}
 use Prim.Native.String.{String}
 use mathlib.Core.Path.{◌≡◌, ap, ◌∙◌}
@@ -54,12 +54,12 @@ unfolding minutes_in minutes_of is_position fits is_of is_digit is_letter within
 longitude_cut κs a r s p e = p ∙ ap minutes_in e
 
 -- a block is cut at its B
-pub level_cut_at_c : (κs : _) (a : _) (r : _) (s : _) → level-numbers.Post κs a r s → a.0.0 ≡ packed (bytes "120B140") → r ≡ levels.Block 120 140
+pub level_cut_at_c : (κs : _) (a : _) (r : _) (s : _) → level-numbers.Post κs a r s → a.0.0 ≡ packed (bytes "120B140") → r ≡ Some (levels.Block 120 140)
 unfolding levels_in levels_of is_level is_block joins run is_of is_digit is_letter has up_to before after decimal_of read_number is_numeral all is_digit_to digit_of number_of value is_packed tight text_of digits byte_of packed code_of
 level_cut_at_c κs a r s p e = p.0 ∙ ap levels_in e
 
 -- and has its lower end first: one that falls has no numbers, neither as they stand nor turned round
-pub falling_block_told : (κs : _) (a : _) (r : _) (s : _) → level-numbers.Post κs a r s → a.0.0 ≡ packed (bytes "140B120") → r ≡ levels.NotOne
+pub falling_block_told : (κs : _) (a : _) (r : _) (s : _) → level-numbers.Post κs a r s → a.0.0 ≡ packed (bytes "140B120") → r ≡ None
 unfolding levels_in levels_of is_level is_block joins run is_of is_digit is_letter has up_to before after decimal_of read_number is_numeral all is_digit_to digit_of number_of value is_packed tight text_of digits byte_of packed code_of
 falling_block_told κs a r s p e = p.0 ∙ ap levels_in e
 
@@ -73,26 +73,26 @@ asked : {n l t : ℕ} (now : String) (last : ℕ) (stamp : String) → Asks n l 
 asked now last stamp e = rw (e.0, e.1, e.2)
 
 -- the previous month's last day is the day before the 1st alone: on the 2nd it is old
-pub last_day_on_any_day : (κs : _) (a : _) (r : _) (s : _) → age.Post κs a r s → Asks a.0.0 a.1.0 a.1.1.0.0 "02000010" 30 "30235950" → r ≡ aged.Old
+pub last_day_on_any_day : (κs : _) (a : _) (r : _) (s : _) → age.Post κs a r s → Asks a.0.0 a.1.0 a.1.1.0.0 "02000010" 30 "30235950" → r ≡ Some aged.Old
 unfolding age_in is_last_day age_of day_before moment_in moment_of is_stamp fits is_of is_digit within decimal_of read_number is_numeral all is_digit_to digit_of number_of value is_packed tight text_of digits byte_of packed code_of
 last_day_on_any_day κs a r s p e = p.0 ∙ asked "02000010" 30 "30235950" e
 
 -- a later second of the same day is ahead
-pub ahead_is_old : (κs : _) (a : _) (r : _) (s : _) → age.Post κs a r s → Asks a.0.0 a.1.0 a.1.1.0.0 "06081659" 30 "06081700" → r ≡ aged.Ahead
+pub ahead_is_old : (κs : _) (a : _) (r : _) (s : _) → age.Post κs a r s → Asks a.0.0 a.1.0 a.1.1.0.0 "06081659" 30 "06081700" → r ≡ Some aged.Ahead
 unfolding age_in is_last_day age_of day_before moment_in moment_of is_stamp fits is_of is_digit within decimal_of read_number is_numeral all is_digit_to digit_of number_of value is_packed tight text_of digits byte_of packed code_of
 ahead_is_old κs a r s p e = p.0 ∙ asked "06081659" 30 "06081700" e
 
 -- this very second is 0 seconds old
-pub same_second_is_ahead : (κs : _) (a : _) (r : _) (s : _) → age.Post κs a r s → Asks a.0.0 a.1.0 a.1.1.0.0 "06081700" 30 "06081700" → r ≡ (aged.Seconds 0)
+pub same_second_is_ahead : (κs : _) (a : _) (r : _) (s : _) → age.Post κs a r s → Asks a.0.0 a.1.0 a.1.1.0.0 "06081700" 30 "06081700" → r ≡ Some (aged.Seconds 0)
 unfolding age_in is_last_day age_of day_before moment_in moment_of is_stamp fits is_of is_digit within decimal_of read_number is_numeral all is_digit_to digit_of number_of value is_packed tight text_of digits byte_of packed code_of
 same_second_is_ahead κs a r s p e = p.0 ∙ asked "06081700" 30 "06081700" e
 
 -- a month may have 28 days
-pub last_day_of_28_refused : (κs : _) (a : _) (r : _) (s : _) → age.Post κs a r s → Asks a.0.0 a.1.0 a.1.1.0.0 "01000010" 28 "28235950" → r ≡ (aged.Seconds 20)
+pub last_day_of_28_refused : (κs : _) (a : _) (r : _) (s : _) → age.Post κs a r s → Asks a.0.0 a.1.0 a.1.1.0.0 "01000010" 28 "28235950" → r ≡ Some (aged.Seconds 20)
 unfolding age_in is_last_day age_of day_before moment_in moment_of is_stamp fits is_of is_digit within decimal_of read_number is_numeral all is_digit_to digit_of number_of value is_packed tight text_of digits byte_of packed code_of
 last_day_of_28_refused κs a r s p e = p.0 ∙ asked "01000010" 28 "28235950" e
 
 -- and none has 32
-pub last_day_of_32_taken : (κs : _) (a : _) (r : _) (s : _) → age.Post κs a r s → Asks a.0.0 a.1.0 a.1.1.0.0 "06081800" 32 "06081700" → r ≡ aged.OutOfRange
+pub last_day_of_32_taken : (κs : _) (a : _) (r : _) (s : _) → age.Post κs a r s → Asks a.0.0 a.1.0 a.1.1.0.0 "06081800" 32 "06081700" → r ≡ None
 unfolding age_in is_last_day age_of day_before moment_in moment_of is_stamp fits is_of is_digit within decimal_of read_number is_numeral all is_digit_to digit_of number_of value is_packed tight text_of digits byte_of packed code_of
 last_day_of_32_taken κs a r s p e = p.0 ∙ asked "06081800" 32 "06081700" e

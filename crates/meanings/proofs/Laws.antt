@@ -1,4 +1,5 @@
 -- What the ranges of stamps and positions say of their numbers, and signed numbers. Assumes nothing.
+use Rattle.std.specs.Prelude.{Some}
 use mathlib.Core.Path.{◌≡◌, refl, ap, ◌∙◌}
 use mathlib.Core.Bool.{Bool, true, false, cond, ◌&&◌}
 use mathlib.Core.List.{List, []}
@@ -105,11 +106,11 @@ read_back z false n e h = let f : SFits w64 z = rw (e, negated n h) (sfits_of (s
 -- ---- the ways of `levels_of`
 
 module _ (s : List ℕ) (i : ℕ) (at : i ≡ up_to (code "B") s) (e : is_level s ≡ true) where
-  pub one_level : length s ≤ i → levels.One (decimal_of s) ≡ levels_of s
+  pub one_level : length s ≤ i → Some (levels.One (decimal_of s)) ≡ levels_of s
   unfolding levels_of
   one_level h = rw (e, not_cut (code "B") s i at h)
 
-  pub two_levels : i < length s → levels.Block (decimal_of (take i s)) (decimal_of (take (length s - (i + 1)) (drop (i + 1) s))) ≡ levels_of s
+  pub two_levels : i < length s → Some (levels.Block (decimal_of (take i s)) (decimal_of (take (length s - (i + 1)) (drop (i + 1) s)))) ≡ levels_of s
   unfolding levels_of
   two_levels h = rw (e, is_cut (code "B") s i at h, cut_before (code "B") s i at h, cut_after (code "B") s i at h)
 

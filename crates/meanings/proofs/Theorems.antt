@@ -1,7 +1,7 @@
 -- THE THEOREMS of an age, of calls of `age` as its promise stands in the source: a.0 is now, a.1.0 the last day of
 -- the previous month, a.1.1.0 the stamp, and r the answer. Assumes nothing.
-use Rattle.std.specs.Prelude.{None}
-use mathlib.Core.Path.{◌≡◌, refl, sym, ◌∙◌, subst}
+use Rattle.std.specs.Prelude.{None, Option, Some}
+use mathlib.Core.Path.{◌≡◌, refl, sym, ap, ◌∙◌, subst}
 use mathlib.Core.Bool.{false}
 use Prim.Native.Nat.{ℕ, ◌+◌, ◌-◌, ◌≤◌, ◌<◌}
 use native.Mathlib.Omega.{arith}
@@ -23,29 +23,29 @@ use Rattle.meanings.proofs.ages.age.Reads as age
 pub age_in_case : (κs : _) (a : _) (r : _) (s : _) → age.Post κs a r s → AgeIs a.0.0 a.1.0 a.1.1.0.0 r
 age_in_case κs a r s p = p.1
 
-pub age_only_case : (κs : _) (a : _) (r : _) (s : _) → age.Post κs a r s → (k : ℕ) (b : Aged) → AgeCase a.0.0 a.1.0 a.1.1.0.0 k b → (age_number r ≡ k) × (r ≡ b)
+pub age_only_case : (κs : _) (a : _) (r : _) (s : _) → age.Post κs a r s → (k : ℕ) (b : Option Aged) → AgeCase a.0.0 a.1.0 a.1.1.0.0 k b → (age_number r ≡ k) × (r ≡ b)
 age_only_case κs a r s p k b c = one_case p.1 c
 
 -- the same, case by case
 pub same_day_answer : (κs : _) (a : _) (r : _) (s : _) → age.Post κs a r s → (n m : Moment) → InRange a.0.0 a.1.0 a.1.1.0.0 n m
-    → m.day ≡ n.day → m.seconds ≤ n.seconds → r ≡ aged.Seconds (n.seconds - m.seconds)
+    → m.day ≡ n.day → m.seconds ≤ n.seconds → r ≡ Some (aged.Seconds (n.seconds - m.seconds))
 same_day_answer κs a r s p n m i e h = (one_case p.1 (SameDay n m i e h)).1
 
 pub day_before_answer : (κs : _) (a : _) (r : _) (s : _) → age.Post κs a r s → (n m : Moment) → InRange a.0.0 a.1.0 a.1.1.0.0 n m
-    → m.day ≡ day_before a.1.0 n.day → r ≡ aged.Seconds (86400 - m.seconds + n.seconds)
+    → m.day ≡ day_before a.1.0 n.day → r ≡ Some (aged.Seconds (86400 - m.seconds + n.seconds))
 day_before_answer κs a r s p n m i e = (one_case p.1 (DayBefore n m i e)).1
 
 pub ahead_answer : (κs : _) (a : _) (r : _) (s : _) → age.Post κs a r s → (n m : Moment) → InRange a.0.0 a.1.0 a.1.1.0.0 n m
-    → m.day ≡ n.day → n.seconds < m.seconds → r ≡ aged.Ahead
+    → m.day ≡ n.day → n.seconds < m.seconds → r ≡ Some aged.Ahead
 ahead_answer κs a r s p n m i e h = (one_case p.1 (Ahead n m i e h)).1
 
 pub old_answer : (κs : _) (a : _) (r : _) (s : _) → age.Post κs a r s → (n m : Moment) → InRange a.0.0 a.1.0 a.1.1.0.0 n m
-    → (m.day ≡ n.day → ⊥) → (m.day ≡ day_before a.1.0 n.day → ⊥) → r ≡ aged.Old
+    → (m.day ≡ n.day → ⊥) → (m.day ≡ day_before a.1.0 n.day → ⊥) → r ≡ Some aged.Old
 old_answer κs a r s p n m i f g = (one_case p.1 (Old n m i f g)).1
 
 -- ---- 19 EXACTLY where now, the stamp or the month's last day is out of range
 
-case_19 : {now last stamp k : ℕ} {a : Aged} → AgeCase now last stamp k a → k ≡ 19 → OutOfRange now last stamp
+case_19 : {now last stamp k : ℕ} {a : Option Aged} → AgeCase now last stamp k a → k ≡ 19 → OutOfRange now last stamp
 case_19 (SameDay n s r e h) z = absurd (omega arith)
 case_19 (DayBefore n s r e) z = absurd (omega arith)
 case_19 (Ahead n s r e h) z = absurd (omega arith)
@@ -59,7 +59,7 @@ pub out_nineteen : (κs : _) (a : _) (r : _) (s : _) → age.Post κs a r s → 
 out_nineteen κs a r s p o = (one_case p.1 (Refused o)).0
 
 -- and 0 elsewhere
-case_0 : {now last stamp k : ℕ} {a : Aged} → AgeCase now last stamp k a → (OutOfRange now last stamp → ⊥) → k ≡ 0
+case_0 : {now last stamp k : ℕ} {a : Option Aged} → AgeCase now last stamp k a → (OutOfRange now last stamp → ⊥) → k ≡ 0
 case_0 (SameDay n s r e h) f = refl
 case_0 (DayBefore n s r e) f = refl
 case_0 (Ahead n s r e h) f = refl
@@ -75,21 +75,21 @@ stamp_out t = (no_stamp t, no_moment t)
 
 -- ---- AN AGE IN SECONDS is under two days
 
-abbrev seconds_in : Aged → ℕ
-seconds_in (aged.Seconds n) = n
-seconds_in aged.Ahead = 0
-seconds_in aged.Old = 0
-seconds_in aged.OutOfRange = 0
+abbrev seconds_in : Option Aged → ℕ
+seconds_in (Some (aged.Seconds n)) = n
+seconds_in (Some aged.Ahead) = 0
+seconds_in (Some aged.Old) = 0
+seconds_in None = 0
 
-case_under : {now last stamp k : ℕ} {a : Aged} → AgeCase now last stamp k a → seconds_in a < 172800
+case_under : {now last stamp k : ℕ} {a : Option Aged} → AgeCase now last stamp k a → seconds_in a < 172800
 case_under {now} (SameDay n s r e h) = omega (arith, (ranged now n r.now_at).seconds_most)
 case_under {now} (DayBefore n s r e) = omega (arith, (ranged now n r.now_at).seconds_most)
 case_under (Ahead n s r e h) = omega arith
 case_under (Old n s r f g) = omega arith
 case_under (Refused o) = omega arith
 
-pub under_two_days : (κs : _) (a : _) (r : _) (s : _) → age.Post κs a r s → (n : ℕ) → r ≡ aged.Seconds n → n < 172800
-under_two_days κs a r s p n e = subst (λ (x : Aged). seconds_in x < 172800) e (case_under p.1)
+pub under_two_days : (κs : _) (a : _) (r : _) (s : _) → age.Post κs a r s → (n : ℕ) → r ≡ Some (aged.Seconds n) → n < 172800
+under_two_days κs a r s p n e = subst (λ (x : Option Aged). seconds_in x < 172800) e (case_under p.1)
 
 -- ---- THE DAY BEFORE: of the 1st it is the month's last day, of a day n over 1 it is n less 1
 
@@ -106,9 +106,9 @@ same_before last last' n m h = rw (before_other last n.day h, before_other last'
 
 pub last_day_on_the_first : (now last last' stamp : ℕ) (n m : Moment) → InRange now last stamp n m → InRange now last' stamp n m → (n.day ≡ 1 → ⊥)
     → age_in now last stamp ≡ age_in now last' stamp
-last_day_on_the_first now last last' stamp n m i j h = sym (in_range_lem i) ∙ same_before last last' n m h ∙ in_range_lem j
+last_day_on_the_first now last last' stamp n m i j h = sym (in_range_lem i) ∙ ap Some (same_before last last' n m h) ∙ in_range_lem j
 
 -- on the 1st a stamp of any day but the 1st and that last day is old, also of a day that the previous month has not
 pub first_else_old : (κs : _) (a : _) (r : _) (s : _) → age.Post κs a r s → (n m : Moment) → InRange a.0.0 a.1.0 a.1.1.0.0 n m
-    → n.day ≡ 1 → (m.day ≡ 1 → ⊥) → (m.day ≡ a.1.0 → ⊥) → r ≡ aged.Old
+    → n.day ≡ 1 → (m.day ≡ 1 → ⊥) → (m.day ≡ a.1.0 → ⊥) → r ≡ Some aged.Old
 first_else_old κs a r s p n m i e f g = old_answer κs a r s p n m i (λ q. f (q ∙ e)) (λ q. g (q ∙ before_first a.1.0 n.day e))

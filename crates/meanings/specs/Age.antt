@@ -28,17 +28,15 @@ age_of last now stamp =
     (cond (eqb stamp.day now.day && ltb now.seconds stamp.seconds) aged.Ahead
     aged.Old))
 
-abbrev pub aged_from : Option Moment → ℕ → Option Moment → Aged
-aged_from (Some now) last (Some stamp) = cond (is_last_day last) (age_of last now stamp) aged.OutOfRange
-aged_from (Some now) last None = aged.OutOfRange
-aged_from None last stamp = aged.OutOfRange
+abbrev pub aged_from : Option Moment → ℕ → Option Moment → Option Aged
+aged_from (Some now) last (Some stamp) = cond (is_last_day last) (Some (age_of last now stamp)) None
+aged_from (Some now) last None = None
+aged_from None last stamp = None
 
 -- now and the stamp as numbers, whether a stamp's or not
-unfoldable pub age_in : ℕ → ℕ → ℕ → Aged
+unfoldable pub age_in : ℕ → ℕ → ℕ → Option Aged
 age_in now last stamp = aged_from (moment_in now) last (moment_in stamp)
 
-unfoldable pub age_number : Aged → ℕ
-age_number (aged.Seconds n) = 0
-age_number aged.Ahead = 0
-age_number aged.Old = 0
-age_number aged.OutOfRange = 19
+unfoldable pub age_number : Option Aged → ℕ
+age_number (Some a) = 0
+age_number None = 19

@@ -1,6 +1,6 @@
 -- THE CASES of an age, in the sentences of document 01 ("Age", "Answer numbers"): when each is answered, with its
 -- number. Assumes nothing.
-use Rattle.std.specs.Prelude.{ℕ, ◌+◌, ◌-◌, ◌≤◌, ◌<◌, ◌≡◌, None, Some}
+use Rattle.std.specs.Prelude.{ℕ, ◌+◌, ◌-◌, ◌≤◌, ◌<◌, ◌≡◌, None, Option, Some}
 use Rattle.meanings.specs.Meaning.{moment_in}
 use Rattle.meanings.specs.declared.Moment.{Moment}
 use Rattle.meanings.specs.Age.{day_before, age_number}
@@ -22,18 +22,18 @@ pub data OutOfRange (now last stamp : ℕ) : Type 0 where
   LastOver : 31 < last → OutOfRange now last stamp
 
 -- AgeCase now last stamp k a: the case of the number k and the answer a
-pub data AgeCase (now last stamp : ℕ) : ℕ → Aged → Type 0 where
+pub data AgeCase (now last stamp : ℕ) : ℕ → Option Aged → Type 0 where
   -- "same day and not later, the difference in seconds"
-  SameDay : (n s : Moment) → InRange now last stamp n s → s.day ≡ n.day → s.seconds ≤ n.seconds → AgeCase now last stamp 0 (aged.Seconds (n.seconds - s.seconds))
+  SameDay : (n s : Moment) → InRange now last stamp n s → s.day ≡ n.day → s.seconds ≤ n.seconds → AgeCase now last stamp 0 (Some (aged.Seconds (n.seconds - s.seconds)))
   -- "the day before, 86,400 less the stamp's second of the day plus now's"
-  DayBefore : (n s : Moment) → InRange now last stamp n s → s.day ≡ day_before last n.day → AgeCase now last stamp 0 (aged.Seconds (86400 - s.seconds + n.seconds))
+  DayBefore : (n s : Moment) → InRange now last stamp n s → s.day ≡ day_before last n.day → AgeCase now last stamp 0 (Some (aged.Seconds (86400 - s.seconds + n.seconds)))
   -- "same day and later, "ahead""
-  Ahead : (n s : Moment) → InRange now last stamp n s → s.day ≡ n.day → n.seconds < s.seconds → AgeCase now last stamp 0 aged.Ahead
+  Ahead : (n s : Moment) → InRange now last stamp n s → s.day ≡ n.day → n.seconds < s.seconds → AgeCase now last stamp 0 (Some aged.Ahead)
   -- "else "old""
-  Old : (n s : Moment) → InRange now last stamp n s → (s.day ≡ n.day → ⊥) → (s.day ≡ day_before last n.day → ⊥) → AgeCase now last stamp 0 aged.Old
+  Old : (n s : Moment) → InRange now last stamp n s → (s.day ≡ n.day → ⊥) → (s.day ≡ day_before last n.day → ⊥) → AgeCase now last stamp 0 (Some aged.Old)
   -- 19
-  Refused : OutOfRange now last stamp → AgeCase now last stamp 19 aged.OutOfRange
+  Refused : OutOfRange now last stamp → AgeCase now last stamp 19 None
 
 -- of a call that answered r
-abbrev pub AgeIs : ℕ → ℕ → ℕ → Aged → Type 0
+abbrev pub AgeIs : ℕ → ℕ → ℕ → Option Aged → Type 0
 AgeIs now last stamp r = AgeCase now last stamp (age_number r) r

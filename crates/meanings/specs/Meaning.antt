@@ -56,20 +56,20 @@ minutes_in t = cond (is_packed t) (minutes_of (text_of t)) None
 
 -- ---- a level: one number, or two with B between them
 
-unfoldable pub levels_of : List ℕ → Levels
+unfoldable pub levels_of : List ℕ → Option Levels
 levels_of s =
-    cond (is_level s) (cond (has (code "B") s) (levels.Block (decimal_of (before (code "B") s)) (decimal_of (after (code "B") s))) (levels.One (decimal_of s)))
-    levels.NotOne
+    cond (is_level s) (cond (has (code "B") s) (Some (levels.Block (decimal_of (before (code "B") s)) (decimal_of (after (code "B") s)))) (Some (levels.One (decimal_of s))))
+    None
 
-unfoldable pub levels_in : ℕ → Levels
-levels_in t = cond (is_packed t) (levels_of (text_of t)) levels.NotOne
+unfoldable pub levels_in : ℕ → Option Levels
+levels_in t = cond (is_packed t) (levels_of (text_of t)) None
 
 -- what is told of a text, in the numbers of the rule
-abbrev pub Tells : List ℕ → Levels → Type 0
-Tells s (levels.One n) = Digits n s
-Tells s (levels.Block n m) = Block n m s × (n ≤ m)
-Tells s levels.NotOne = Level s → ⊥
+abbrev pub Tells : List ℕ → Option Levels → Type 0
+Tells s (Some (levels.One n)) = Digits n s
+Tells s (Some (levels.Block n m)) = Block n m s × (n ≤ m)
+Tells s None = Level s → ⊥
 
 -- of the text of t, where it has one
-abbrev pub TellsIn : ℕ → Levels → Type 0
+abbrev pub TellsIn : ℕ → Option Levels → Type 0
 TellsIn t r = is_packed t ≡ true → Tells (text_of t) r

@@ -8,13 +8,12 @@ use fields::frame::Stamp;
 
 const DAY: u64 = 86400;
 
-// What `age` answers: 0 with the age in seconds, 0 with one of two words, 19.
+// How old a stamp is: an age in seconds, or one of two words.
 #[derive(Clone, Copy)]
 pub enum Aged {
     Seconds(u64),
     Ahead,
     Old,
-    OutOfRange,
 }
 
 // The day before a day; of the 1st it is the previous month's last day.
@@ -46,22 +45,15 @@ fn age_at(last: u64, moment: Moment, stamped: Moment) -> Aged
     Aged::Old
 }
 
-// Any values: a number that is no stamp's, and a last day that no month has, are told.
-pub fn age(now: Stamp, last: u64, stamp: Stamp) -> Aged
+// Any values: a number that is no stamp's, and a last day that no month has, have no age; the answer is 19.
+pub fn age(now: Stamp, last: u64, stamp: Stamp) -> Option<Aged>
     ensures value { result ≡ age_in now.0 last stamp.0 }
     ensures age_is { AgeIs now.0 last stamp.0 result }
 {
-    if last < 28 {
-        return Aged::OutOfRange;
+    if last < 28 || last > 31 {
+        return None;
     }
-    if last > 31 {
-        return Aged::OutOfRange;
-    }
-    let Some(moment) = stamp_moment(now) else {
-        return Aged::OutOfRange;
-    };
-    let Some(stamped) = stamp_moment(stamp) else {
-        return Aged::OutOfRange;
-    };
-    age_at(last, moment, stamped)
+    let moment = stamp_moment(now)?;
+    let stamped = stamp_moment(stamp)?;
+    Some(age_at(last, moment, stamped))
 }

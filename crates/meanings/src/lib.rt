@@ -28,7 +28,6 @@ pub struct Moment {
 pub enum Levels {
     One(u64),
     Block(u64, u64),
-    NotOne,
 }
 
 // The decimal number that s is; 0 where it is none.
@@ -124,23 +123,23 @@ pub fn position_minutes(position: Position) -> Option<(i64, i64)>
     minutes_of(&room[..n])
 }
 
-fn levels_of(s: &[u8]) -> Levels
+fn levels_of(s: &[u8]) -> Option<Levels>
     ensures { result ≡ levels_of s.now }
 {
     if !rules::is_form(rules::LEVEL, s) {
-        return Levels::NotOne;
+        return None;
     }
     let i = shapes::find(b'B', s);
     if i >= s.len() {
-        return Levels::One(decimal(s));
+        return Some(Levels::One(decimal(s)));
     }
     let j = i + 1;
     let low = decimal(&s[..i]);
     let high = decimal(&s[j..]);
-    Levels::Block(low, high)
+    Some(Levels::Block(low, high))
 }
 
-pub fn level_numbers(level: Level) -> Levels
+pub fn level_numbers(level: Level) -> Option<Levels>
     ensures value { result ≡ levels_in level.0 }
     ensures tells_in { TellsIn level.0 result }
 {

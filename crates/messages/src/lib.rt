@@ -8,6 +8,7 @@ pub mod values;
 
 ghost use Rattle.std.specs.Prelude.{◌≡◌};
 ghost use Rattle.messages.specs.Body.{plan_level, amended_in, held_of, type_in, key_in, marks_in};
+ghost use Rattle.messages.specs.Reading.{message_of, old_message_of, reading_of, old_reading_of};
 
 use fields::aircraft::Aircraft;
 use fields::flight::{ComputerNumber, Key};
@@ -149,6 +150,61 @@ pub struct Reading {
     pub trailing: bool,
 }
 
+impl From<Reading> for Message {
+    ghost from_gives = { λ x m. m ≡ message_of x };
+
+    fn from(x: Reading) -> Message {
+        Message {
+            sequence: Sequence(x.sequence),
+            stamp: Stamp(x.stamp),
+            facility: Facility(x.facility),
+            body: x.body,
+            trailing: x.trailing,
+        }
+    }
+}
+
+impl From<Reading> for OldMessage {
+    ghost from_gives = { λ x m. m ≡ old_message_of x };
+
+    fn from(x: Reading) -> OldMessage {
+        OldMessage {
+            stamp: OldStamp(x.stamp),
+            center: Center(x.facility),
+            body: x.body,
+            trailing: x.trailing,
+        }
+    }
+}
+
+impl From<Message> for Reading {
+    ghost from_gives = { λ m x. x ≡ reading_of m };
+
+    fn from(m: Message) -> Reading {
+        Reading {
+            sequence: m.sequence.0,
+            stamp: m.stamp.0,
+            facility: m.facility.0,
+            body: m.body,
+            trailing: m.trailing,
+        }
+    }
+}
+
+impl From<OldMessage> for Reading {
+    ghost from_gives = { λ m x. x ≡ old_reading_of m };
+
+    fn from(m: OldMessage) -> Reading {
+        Reading {
+            sequence: 0,
+            stamp: m.stamp.0,
+            facility: m.center.0,
+            body: m.body,
+            trailing: m.trailing,
+        }
+    }
+}
+
 // The weight of a word's first letter, and the code of P there.
 const FIRST: u64 = 238572050223552512;
 
@@ -159,12 +215,10 @@ impl Plan {
     pub fn filed_level(self) -> PlanLevel
         ensures { result ≡ plan_level self }
     {
-        let time = self.time;
-        let level = self.level;
-        if time.0 / FIRST == P {
-            return PlanLevel::Requested(level);
+        if self.time.0 / FIRST == P {
+            return PlanLevel::Requested(self.level);
         }
-        PlanLevel::Assigned(level)
+        PlanLevel::Assigned(self.level)
     }
 }
 

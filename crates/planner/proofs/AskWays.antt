@@ -1,6 +1,7 @@
 -- What each way through the code asks is what the definition says. Assumes nothing.
-use Rattle.std.specs.Prelude.{Result}
-use mathlib.Core.Path.{◌≡◌, refl, sym, ap}
+use Rattle.std.specs.Prelude.{Err, Ok, Result}
+use Rattle.std.specs.Result.{MatchResult, IsOkAnd}
+use mathlib.Core.Path.{◌≡◌, refl, sym, ap, ◌∙◌}
 use mathlib.Core.List.{List, [], ◌∷◌}
 use Prim.Native.Nat.{ℕ}
 use denote.Enum.Declared.{tag_of}
@@ -12,6 +13,7 @@ use Rattle.messages.specs.declared.Body.TheVariants as body
 use Rattle.messages.specs.contracts.Body.{the_type}
 use Rattle.line.specs.Read.{read_of}
 use Rattle.planner.specs.Asked.{asked_in, asked_by, asked_from, asked_of}
+use Rattle.planner.specs.declared.asks.Asked.{Asked}
 use Rattle.planner.specs.declared.asks.Asked.TheVariants.{Other}
 use Rattle.line.specs.declared.Refusal.{Refusal}
 
@@ -36,7 +38,10 @@ pub asks_body : (m : Message) (b : Body) → m.body ≡ b → asked_in m.stamp b
 unfolding asked_by
 asks_body m b e = ap (asked_in m.stamp) (sym e)
 
--- a line that reads as r asks what r does
-pub asks_as : (s : List ℕ) (r : Result Message Refusal) → r ≡ read_of s → asked_from r ≡ asked_of s
+-- a line that reads as r asks what r does: what each message of it asks, or its refusal
+pub asks_as : (s : List ℕ) (r : Result Message Refusal) (a : Result Asked Refusal) → r ≡ read_of s
+    → MatchResult r (λ m. IsOkAnd a (λ x. x ≡ asked_by m)) (λ e. a ≡ Err e) → a ≡ asked_of s
 unfolding asked_of
-asks_as s r e = ap asked_from e
+asks_as s (Ok m) (Ok x) e h = ap Ok h ∙ ap asked_from e
+asks_as s (Ok m) (Err x) e h = absurd h
+asks_as s (Err x) a e h = h ∙ ap asked_from e

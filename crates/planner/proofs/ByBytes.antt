@@ -121,7 +121,7 @@ module _ (s : List ℕ) (m : Message) (e : read_of s ≡ Ok m) where
         }
 
   -- its named parts are its fields, so its entry is of these
-  known_body : (b : Body) → m.body ≡ b → Known s (event_of (asked_in m.stamp b))
+  known_body : (b : Body) → m.body ≡ b → Known s (event_of (Ok (asked_in m.stamp b)))
   unfolding named
   known_body (body.Dz d) q =
       let f = (fields_at (body.Dz d) q refl).stand in

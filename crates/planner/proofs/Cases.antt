@@ -1,6 +1,6 @@
 -- THE CASES of a call of `apply` and `strike`: its number, its place and the board that it leaves are those of the document's case.
 -- Assumes nothing.
-use Rattle.std.specs.Prelude.{Err, Result}
+use Rattle.std.specs.Prelude.{Err, Ok, Result}
 use mathlib.Core.Path.{◌≡◌, refl, sym, ap, ◌∙◌, subst}
 use mathlib.Core.Bool.{Bool, true, false, cond}
 use mathlib.Core.List.{List}
@@ -35,7 +35,7 @@ abbrev Own : List ℕ → List ℕ → Type 0
 Own l s = ApplyCase l s (apply_number (apply_of l s)) (apply_place (apply_of l s)) (board_after l s)
 
 module _ (l s : List ℕ) where
-  refused_own : (x : Refusal) → asked_of s ≡ asked.Refused x → Own l s
+  refused_own : (x : Refusal) → asked_of s ≡ Err x → Own l s
   unfolding apply_of
   refused_own x e =
       let n = asks_number s x e in
@@ -57,30 +57,30 @@ module _ (l s : List ℕ) where
         go true q true p = rw (is, q, p) (Taken zero q (λ j a. subst (λ (n : ℕ). fits (rows_of l) n ≡ true) (only j a) p))
         go true q false p = rw (is, q, p) (subst (ApplyCase l s 12 0) (stayed q p) (Full zero q k asks p))
 
-  other_own : asked_of s ≡ asked.Other → line_number (read_of s) ≡ 0 → Own l s
+  other_own : asked_of s ≡ Ok asked.Other → line_number (read_of s) ≡ 0 → Own l s
   unfolding apply_of board_after
   other_own e zero = go (is_allowed l) refl
     where
       go : (b : Bool) → is_allowed l ≡ b → Own l s
       go false q = rw (e, q) (NotAllowed zero q)
-      go true q = rw (e, q) (Taken zero q (λ j a. absurd (subst (λ (x : Asked). KeyIsAsked x j) e a)))
+      go true q = rw (e, q) (Taken zero q (λ j a. absurd (subst (λ (x : Result Asked Refusal). KeyIsAsked x j) e a)))
 
   apply_own : Own l s
   unfolding apply_of line_event rows_after
   apply_own = go (asked_of s) refl
     where
-      go : (x : Asked) → asked_of s ≡ x → Own l s
-      go (asked.Refused x) e = refused_own x e
-      go asked.Other e = other_own e (ap line_number (asks_read s asked.Other e).1)
-      go (asked.Dz k a) e =
-          put_own k.0 (by_dz k.0 a (look_row k.0 (rows_of l))) refl (subst (λ (x : Asked). KeyIsAsked x k.0) (sym e) refl)
-          (λ j a. subst (λ (x : Asked). KeyIsAsked x j) e a) (ap line_number (asks_read s (asked.Dz k a) e).1) (rw e) (rw e)
-      go (asked.Az k a) e =
-          put_own k.0 (by_az k.0 a (look_row k.0 (rows_of l))) refl (subst (λ (x : Asked). KeyIsAsked x k.0) (sym e) refl)
-          (λ j a. subst (λ (x : Asked). KeyIsAsked x j) e a) (ap line_number (asks_read s (asked.Az k a) e).1) (rw e) (rw e)
-      go (asked.Tz k a) e =
-          put_own k.0 (by_tz k.0 a (look_row k.0 (rows_of l))) refl (subst (λ (x : Asked). KeyIsAsked x k.0) (sym e) refl)
-          (λ j a. subst (λ (x : Asked). KeyIsAsked x j) e a) (ap line_number (asks_read s (asked.Tz k a) e).1) (rw e) (rw e)
+      go : (x : Result Asked Refusal) → asked_of s ≡ x → Own l s
+      go (Err x) e = refused_own x e
+      go (Ok asked.Other) e = other_own e (ap line_number (asks_read s (Ok asked.Other) e).1)
+      go (Ok (asked.Dz k a)) e =
+          put_own k.0 (by_dz k.0 a (look_row k.0 (rows_of l))) refl (subst (λ (x : Result Asked Refusal). KeyIsAsked x k.0) (sym e) refl)
+          (λ j a. subst (λ (x : Result Asked Refusal). KeyIsAsked x j) e a) (ap line_number (asks_read s (Ok (asked.Dz k a)) e).1) (rw e) (rw e)
+      go (Ok (asked.Az k a)) e =
+          put_own k.0 (by_az k.0 a (look_row k.0 (rows_of l))) refl (subst (λ (x : Result Asked Refusal). KeyIsAsked x k.0) (sym e) refl)
+          (λ j a. subst (λ (x : Result Asked Refusal). KeyIsAsked x j) e a) (ap line_number (asks_read s (Ok (asked.Az k a)) e).1) (rw e) (rw e)
+      go (Ok (asked.Tz k a)) e =
+          put_own k.0 (by_tz k.0 a (look_row k.0 (rows_of l))) refl (subst (λ (x : Result Asked Refusal). KeyIsAsked x k.0) (sym e) refl)
+          (λ j a. subst (λ (x : Result Asked Refusal). KeyIsAsked x j) e a) (ap line_number (asks_read s (Ok (asked.Tz k a)) e).1) (rw e) (rw e)
 
 -- so a call that gives this is in its case
 pub in_apply_case : (l s : List ℕ) {r : (Result (Unit {0}) NotTaken)} {l' : List ℕ} → (r ≡ apply_of l s) × (l' ≡ board_after l s)

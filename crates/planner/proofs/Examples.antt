@@ -1,6 +1,6 @@
 -- What the promises of `planner` require on inputs written out, and so wrong answers that they do not allow: of each, `Post` is the function's
 -- `ensures` as it stands in the source, r any result that meets it, s the state at exit. Assumes nothing.
-use Rattle.std.specs.Prelude.{None, Some}
+use Rattle.std.specs.Prelude.{None, Ok, Some}
 use Prim.Native.Nat.{ℕ}
 use mathlib.Core.Bool.{true, false}
 use mathlib.Core.List.{List, [], ◌∷◌}
@@ -63,7 +63,7 @@ hb = bytes "000006143655KZMAHB"
 abbrev pub due : Arrival
 due = record { departure = record { 0 = word "ABC" }; destination = record { 0 = word "DEF" }; clock = record { 0 = word "0930" }; stamp = record { 0 = word "06081600" } }
 
-pub asks : (asked_of tz ≡ asked.Tz tracked.key seen) × (asked_of dz ≡ asked.Dz tracked.key due) × (asked_of hb ≡ asked.Other)
+pub asks : (asked_of tz ≡ Ok (asked.Tz tracked.key seen)) × (asked_of dz ≡ Ok (asked.Dz tracked.key due)) × (asked_of hb ≡ Ok asked.Other)
 unfolding asked_of asked_by read_of read_by type_by head_of rest_of body_read body_from type_of all_in answer_by values_by kinds_of table_by count_in is_count count_with padded values_from answer_from counted answers values answer_of values_of
     plain trace_of marks_of read_kind read_in follows ended fields_of plain_of prefixed_of aircraft_of aircraft_by ident_from ident_of tz_ident_of is_pair_form pair_of word_of
     is_form is_stamp is_key is_ident is_tz_ident is_clock is_time is_position up_to has before after joins is_of fits_picture fits_any one_of run within pieces is_digit_to digit_of is_numeral number packed value code_of all is_digit is_letter is_alnum

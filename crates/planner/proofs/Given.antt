@@ -144,7 +144,7 @@ key_numbered : (k : ℕ) → is_word KEY k ≡ true → is_pair KEY NUMBER k som
 unfolding is_pair
 key_numbered k e = rw (e, number_some, form_word NUMBER (bytes "101") number_made)
 
-asks_as : (m : Message) (s : List ℕ) → read_of s ≡ Ok m → line_event s ≡ event_of (asked_by m)
+asks_as : (m : Message) (s : List ℕ) → read_of s ≡ Ok m → line_event s ≡ event_of (Ok (asked_by m))
 unfolding line_event asked_of
 asks_as m s e = ap (λ r. event_of (asked_from r)) e
 

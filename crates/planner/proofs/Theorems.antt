@@ -20,6 +20,7 @@ use Rattle.history.proofs.Demand.{demand3}
 use Rattle.line.proofs.Lines.{refusal_numbers}
 use Rattle.planner.specs.Asked.{asked_of}
 use Rattle.planner.specs.declared.asks.Asked.{Asked}
+use Rattle.line.specs.declared.Refusal.{Refusal}
 use Rattle.planner.specs.declared.asks.Asked.TheVariants as asked
 use Rattle.planner.specs.Apply.{line_event, strike_event, room, apply_of, board_after, strike_of, board_struck, apply_number, strike_number}
 use Rattle.planner.specs.Run.{Applies, Strikes, Run, fresh, applied, struck, AltersOne, OfCalls}
@@ -105,12 +106,12 @@ line_heard : (l s : List ℕ) → is_allowed l ≡ true → heard_line (apply_of
 unfolding apply_of line_event answer heard_line
 line_heard l s a = go (asked_of s) refl
   where
-    go : (x : Asked) → asked_of s ≡ x → heard_line (apply_of l s) ≡ answer (rows_of l) (line_event s)
-    go (asked.Dz k x) e = rw (e, a) (heard_room (fits (rows_of l) k.0))
-    go (asked.Az k x) e = rw (e, a) (heard_room (fits (rows_of l) k.0))
-    go (asked.Tz k x) e = rw (e, a) (heard_room (fits (rows_of l) k.0))
-    go asked.Other e = rw (e, a)
-    go (asked.Refused x) e = rw e
+    go : (x : Result Asked Refusal) → asked_of s ≡ x → heard_line (apply_of l s) ≡ answer (rows_of l) (line_event s)
+    go (Ok (asked.Dz k x)) e = rw (e, a) (heard_room (fits (rows_of l) k.0))
+    go (Ok (asked.Az k x)) e = rw (e, a) (heard_room (fits (rows_of l) k.0))
+    go (Ok (asked.Tz k x)) e = rw (e, a) (heard_room (fits (rows_of l) k.0))
+    go (Ok asked.Other) e = rw (e, a)
+    go (Err x) e = rw e
 
 strike_heard : (l s : List ℕ) → is_allowed l ≡ true → heard_strike (strike_of l s) ≡ answer (rows_of l) (strike_event s)
 unfolding strike_of strike_event answer heard_strike

@@ -9,6 +9,7 @@ use Rattle.board.specs.Board.{rows_of, words_of, is_allowed}
 use Rattle.history.specs.Events.{Event, dz, az, tz, other, unread, strike, misnamed}
 use Rattle.history.specs.Steps.{rows_after}
 use Rattle.line.specs.Read.{refusal_number, refusal_place}
+use Rattle.line.specs.declared.Refusal.{Refusal}
 use Rattle.planner.specs.Asked.{asked_of}
 use Rattle.planner.specs.declared.asks.Asked.{Asked}
 use Rattle.planner.specs.declared.asks.Asked.TheVariants as asked
@@ -20,12 +21,12 @@ use Rattle.planner.specs.declared.NotTaken.{NotTaken}
 
 -- ---- a line and a strike as the board sees them
 
-abbrev pub event_of : Asked → Event
-event_of (asked.Dz k a) = dz k.0 a
-event_of (asked.Az k a) = az k.0 a
-event_of (asked.Tz k t) = tz k.0 t
-event_of asked.Other = other
-event_of (asked.Refused x) = unread
+abbrev pub event_of : Result Asked Refusal → Event
+event_of (Ok (asked.Dz k a)) = dz k.0 a
+event_of (Ok (asked.Az k a)) = az k.0 a
+event_of (Ok (asked.Tz k t)) = tz k.0 t
+event_of (Ok asked.Other) = other
+event_of (Err x) = unread
 
 unfoldable pub line_event : List ℕ → Event
 line_event s = event_of (asked_of s)
@@ -34,12 +35,12 @@ unfoldable pub strike_event : List ℕ → Event
 strike_event s = cond (is_form KEY s) (strike (packed s)) misnamed
 
 -- the line is a DZ, AZ or TZ of the flight k
-abbrev pub KeyIsAsked : Asked → ℕ → Type 0
-KeyIsAsked (asked.Dz k' a) k = k'.0 ≡ k
-KeyIsAsked (asked.Az k' a) k = k'.0 ≡ k
-KeyIsAsked (asked.Tz k' t) k = k'.0 ≡ k
-KeyIsAsked asked.Other k = ⊥
-KeyIsAsked (asked.Refused x) k = ⊥
+abbrev pub KeyIsAsked : Result Asked Refusal → ℕ → Type 0
+KeyIsAsked (Ok (asked.Dz k' a)) k = k'.0 ≡ k
+KeyIsAsked (Ok (asked.Az k' a)) k = k'.0 ≡ k
+KeyIsAsked (Ok (asked.Tz k' t)) k = k'.0 ≡ k
+KeyIsAsked (Ok asked.Other) k = ⊥
+KeyIsAsked (Err x) k = ⊥
 
 -- ---- a line on an allowed board
 
@@ -51,26 +52,23 @@ abbrev pub room : Bool → Result (Unit {0}) NotTaken
 room true = Ok tt
 room false = Err line.Full
 
-abbrev pub answer_to : List Row → Asked → Result (Unit {0}) NotTaken
-answer_to rs (asked.Dz k a) = room (fits rs k.0)
-answer_to rs (asked.Az k a) = room (fits rs k.0)
-answer_to rs (asked.Tz k t) = room (fits rs k.0)
-answer_to rs asked.Other = Ok tt
-answer_to rs (asked.Refused x) = Err (line.Line x)
+abbrev pub answer_to : List Row → Result Asked Refusal → Result (Unit {0}) NotTaken
+answer_to rs (Ok (asked.Dz k a)) = room (fits rs k.0)
+answer_to rs (Ok (asked.Az k a)) = room (fits rs k.0)
+answer_to rs (Ok (asked.Tz k t)) = room (fits rs k.0)
+answer_to rs (Ok asked.Other) = Ok tt
+answer_to rs (Err x) = Err (line.Line x)
 
-pub record Entered (l : List ℕ) (a : Asked) (r : Result (Unit {0}) NotTaken) (l' : List ℕ) : Type 0 where
+pub record Entered (l : List ℕ) (a : Result Asked Refusal) (r : Result (Unit {0}) NotTaken) (l' : List ℕ) : Type 0 where
   pub answered : r ≡ answer_to (rows_of l) a
   pub words : l' ≡ words_of (rows_after (rows_of l) (event_of a))
   pub still : is_allowed l' ≡ true
 
 -- ---- a line on any words
 
-abbrev pub apply_by : List ℕ → Asked → Result (Unit {0}) NotTaken
-apply_by l (asked.Refused x) = Err (line.Line x)
-apply_by l (asked.Dz k a) = cond (is_allowed l) (answer_to (rows_of l) (asked.Dz k a)) (Err line.NotAllowed)
-apply_by l (asked.Az k a) = cond (is_allowed l) (answer_to (rows_of l) (asked.Az k a)) (Err line.NotAllowed)
-apply_by l (asked.Tz k t) = cond (is_allowed l) (answer_to (rows_of l) (asked.Tz k t)) (Err line.NotAllowed)
-apply_by l asked.Other = cond (is_allowed l) (Ok tt) (Err line.NotAllowed)
+abbrev pub apply_by : List ℕ → Result Asked Refusal → Result (Unit {0}) NotTaken
+apply_by l (Err x) = Err (line.Line x)
+apply_by l (Ok a) = cond (is_allowed l) (answer_to (rows_of l) (Ok a)) (Err line.NotAllowed)
 
 unfoldable pub apply_of : List ℕ → List ℕ → Result (Unit {0}) NotTaken
 apply_of l s = apply_by l (asked_of s)

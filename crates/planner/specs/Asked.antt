@@ -10,7 +10,7 @@ use Rattle.messages.specs.declared.Body.{Body}
 use Rattle.messages.specs.declared.Body.TheVariants as body
 use Rattle.line.specs.Read.{read_of, refusal_number, refusal_place}
 use Rattle.planner.specs.declared.asks.Asked.{Asked}
-use Rattle.planner.specs.declared.asks.Asked.TheVariants.{Dz, Az, Tz, Other, Refused}
+use Rattle.planner.specs.declared.asks.Asked.TheVariants.{Dz, Az, Tz, Other}
 use Rattle.line.specs.declared.Refusal.{Refusal}
 
 -- of a line with the stamp s; "the flight's key is the part before the slash"
@@ -39,24 +39,18 @@ unfoldable pub asked_by : Message → Asked
 asked_by m = asked_in m.stamp m.body
 
 -- the line's own answer, where it is not read
-abbrev pub asked_from : Result Message Refusal → Asked
-asked_from (Ok m) = asked_by m
-asked_from (Err x) = Refused x
+abbrev pub asked_from : Result Message Refusal → Result Asked Refusal
+asked_from (Ok m) = Ok (asked_by m)
+asked_from (Err x) = Err x
 
 -- document 01's number and place of what is asked: the line's own, 0 for a line that is read
-abbrev pub asked_number : Asked → ℕ
-asked_number (Dz k a) = 0
-asked_number (Az k a) = 0
-asked_number (Tz k t) = 0
-asked_number Other = 0
-asked_number (Refused x) = refusal_number x
+abbrev pub asked_number : Result Asked Refusal → ℕ
+asked_number (Ok a) = 0
+asked_number (Err x) = refusal_number x
 
-abbrev pub asked_place : Asked → ℕ
-asked_place (Dz k a) = 0
-asked_place (Az k a) = 0
-asked_place (Tz k t) = 0
-asked_place Other = 0
-asked_place (Refused x) = refusal_place x
+abbrev pub asked_place : Result Asked Refusal → ℕ
+asked_place (Ok a) = 0
+asked_place (Err x) = refusal_place x
 
-unfoldable pub asked_of : List ℕ → Asked
+unfoldable pub asked_of : List ℕ → Result Asked Refusal
 asked_of s = asked_from (read_of s)

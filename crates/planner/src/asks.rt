@@ -15,82 +15,60 @@ pub enum Asked {
     Az(Key, Arrival),
     Tz(Key, Track),
     Other,
-    Refused(Refusal),
 }
 
 // A DZ's clock has no letter before it; on the board it is an arrival's.
 fn of_dz(m: Dz, stamp: Stamp) -> Asked
     ensures { result ≡ dz_asks m stamp }
 {
-    let ident = m.ident;
-    let key = ident.key;
-    let departure = m.from;
-    let destination = m.to;
-    let clock = m.clock;
     let entry = Arrival {
-        departure,
-        destination,
-        clock: ArrivalClock(clock.0),
+        departure: m.from,
+        destination: m.to,
+        clock: ArrivalClock(m.clock.0),
         stamp,
     };
-    Asked::Dz(key, entry)
+    Asked::Dz(m.ident.key, entry)
 }
 
 fn of_az(m: Az, stamp: Stamp) -> Asked
     ensures { result ≡ az_asks m stamp }
 {
-    let ident = m.ident;
-    let key = ident.key;
-    let departure = m.from;
-    let destination = m.to;
-    let clock = m.clock;
     let entry = Arrival {
-        departure,
-        destination,
-        clock,
+        departure: m.from,
+        destination: m.to,
+        clock: m.clock,
         stamp,
     };
-    Asked::Az(key, entry)
+    Asked::Az(m.ident.key, entry)
 }
 
 fn of_tz(m: Tz, stamp: Stamp) -> Asked
     ensures { result ≡ tz_asks m stamp }
 {
-    let ident = m.ident;
-    let key = ident.key;
-    let speed = m.speed;
-    let level = m.level;
-    let position = m.position;
     let entry = Track {
-        speed,
-        level,
-        position,
+        speed: m.speed,
+        level: m.level,
+        position: m.position,
         stamp,
     };
-    Asked::Tz(key, entry)
+    Asked::Tz(m.ident.key, entry)
 }
 
 // What a message asks.
 fn ask(m: Message) -> Asked
     ensures { result ≡ asked_by m }
 {
-    let stamp = m.stamp;
-    let body = m.body;
-    match body {
-        Body::Dz(m) => of_dz(m, stamp),
-        Body::Az(m) => of_az(m, stamp),
-        Body::Tz(m) => of_tz(m, stamp),
+    match m.body {
+        Body::Dz(body) => of_dz(body, m.stamp),
+        Body::Az(body) => of_az(body, m.stamp),
+        Body::Tz(body) => of_tz(body, m.stamp),
         _ => Asked::Other,
     }
 }
 
 // Reads a line: any bytes, of any length.
-pub(crate) fn read(line: &[u8]) -> Asked
+pub(crate) fn read(line: &[u8]) -> Result<Asked, Refusal>
     ensures { result ≡ asked_of line.now }
 {
-    let read = line::read(line);
-    match read {
-        Ok(m) => ask(m),
-        Err(refusal) => Asked::Refused(refusal),
-    }
+    line::read(line).map(ask)
 }

@@ -4,7 +4,7 @@
 
 pub mod asks;
 
-ghost use Rattle.std.specs.Prelude.{◌≡◌, true, Some};
+ghost use Rattle.std.specs.Prelude.{◌≡◌, true, Ok, Some};
 ghost use Rattle.rules.specs.Kind.{KEY};
 ghost use Rattle.fields.specs.Word.{is_word};
 ghost use Rattle.board.specs.Row.{is_arrival, is_track};
@@ -12,8 +12,10 @@ ghost use Rattle.board.specs.Board.{is_allowed};
 ghost use Rattle.history.specs.Events.{is_event};
 ghost use Rattle.planner.specs.declared.asks.Asked.TheVariants as asked;
 ghost use Rattle.planner.specs.Asked.{asked_of};
-ghost use Rattle.planner.specs.Apply.{event_of, told_of, Entered, apply_of, board_after, strike_of, board_struck, apply_number, apply_place, strike_number, strike_place};
+ghost use Rattle.planner.specs.Apply.{event_of, Entered, apply_of, board_after, strike_of, board_struck, apply_number, apply_place, strike_number, strike_place};
 ghost use Rattle.planner.specs.Cases.{ApplyCase, StrikeCase};
+ghost use Rattle.planner.specs.declared.NotTaken.TheVariants as untaken;
+ghost use Rattle.planner.specs.declared.NotStruck.TheVariants as unstruck;
 
 use crate::asks::Asked;
 use board::listing::{look, write};
@@ -39,12 +41,19 @@ pub enum NotStruck {
     NotListed,
 }
 
-fn told(done: Result<(), Full>) -> Result<(), NotTaken>
-    ensures { result ≡ told_of done }
-{
-    match done {
-        Ok(()) => Ok(()),
-        Err(Full) => Err(NotTaken::Full),
+impl From<Full> for NotTaken {
+    ghost from_gives = { λ _ e. e ≡ untaken.Full };
+
+    fn from(_: Full) -> NotTaken {
+        NotTaken::Full
+    }
+}
+
+impl From<NotListed> for NotStruck {
+    ghost from_gives = { λ _ e. e ≡ unstruck.NotListed };
+
+    fn from(_: NotListed) -> NotStruck {
+        NotStruck::NotListed
     }
 }
 
@@ -53,15 +62,14 @@ fn put_dz(board: &mut [u64], key: Key, entry: Arrival) -> Result<(), NotTaken>
     requires board_value { is_allowed board.old ≡ true }
     requires key_value { is_word KEY key.0 ≡ true }
     requires value { is_arrival (Some entry) ≡ true }
-    ensures { Entered board.old (asked.Dz key entry) result board.new }
+    ensures { Entered board.old (Ok (asked.Dz key entry)) result board.new }
 {
     let row = Row {
         key,
         arrival: Some(entry),
         track: None,
     };
-    let done = write(board, row);
-    told(done)
+    Ok(write(board, row)?)
 }
 
 // An AZ writes the arrival entry.
@@ -69,17 +77,15 @@ fn put_az(board: &mut [u64], key: Key, entry: Arrival) -> Result<(), NotTaken>
     requires board_value { is_allowed board.old ≡ true }
     requires key_value { is_word KEY key.0 ≡ true }
     requires value { is_arrival (Some entry) ≡ true }
-    ensures { Entered board.old (asked.Az key entry) result board.new }
+    ensures { Entered board.old (Ok (asked.Az key entry)) result board.new }
 {
-    let old = look(&board[..], key);
-    let track = old.track;
+    let track = look(&board[..], key).track;
     let row = Row {
         key,
         arrival: Some(entry),
         track,
     };
-    let done = write(board, row);
-    told(done)
+    Ok(write(board, row)?)
 }
 
 // A TZ writes the track.
@@ -87,31 +93,28 @@ fn put_tz(board: &mut [u64], key: Key, entry: Track) -> Result<(), NotTaken>
     requires board_value { is_allowed board.old ≡ true }
     requires key_value { is_word KEY key.0 ≡ true }
     requires value { is_track (Some entry) ≡ true }
-    ensures { Entered board.old (asked.Tz key entry) result board.new }
+    ensures { Entered board.old (Ok (asked.Tz key entry)) result board.new }
 {
-    let old = look(&board[..], key);
-    let arrival = old.arrival;
+    let arrival = look(&board[..], key).arrival;
     let row = Row {
         key,
         arrival,
         track: Some(entry),
     };
-    let done = write(board, row);
-    told(done)
+    Ok(write(board, row)?)
 }
 
 // What a line asks, done on an allowed board.
 fn enter(board: &mut [u64], asked: Asked) -> Result<(), NotTaken>
     requires board_value { is_allowed board.old ≡ true }
-    requires asked_value { is_event (event_of asked) ≡ true }
-    ensures { Entered board.old asked result board.new }
+    requires asked_value { is_event (event_of (Ok asked)) ≡ true }
+    ensures { Entered board.old (Ok asked) result board.new }
 {
     match asked {
         Asked::Dz(key, entry) => put_dz(board, key, entry),
         Asked::Az(key, entry) => put_az(board, key, entry),
         Asked::Tz(key, entry) => put_tz(board, key, entry),
         Asked::Other => Ok(()),
-        Asked::Refused(refusal) => Err(NotTaken::Line(refusal)),
     }
 }
 
@@ -120,7 +123,7 @@ pub fn apply_allowed(board: &mut [u64], line: &[u8]) -> Result<(), NotTaken>
     requires { is_allowed board.old ≡ true }
     ensures { Entered board.old (asked_of line.now) result board.new }
 {
-    let asked = asks::read(line);
+    let asked = asks::read(line).map_err(NotTaken::Line)?;
     enter(board, asked)
 }
 
@@ -130,10 +133,7 @@ pub fn apply(board: &mut [u64], line: &[u8]) -> Result<(), NotTaken>
     ensures board_after { board.new ≡ board_after board.old line.now }
     ensures apply_case { ApplyCase board.old line.now (apply_number result) (apply_place result) board.new }
 {
-    let asked = asks::read(line);
-    if let Asked::Refused(refusal) = asked {
-        return Err(NotTaken::Line(refusal));
-    }
+    let asked = asks::read(line).map_err(NotTaken::Line)?;
     if !is_allowed(&board[..]) {
         return Err(NotTaken::NotAllowed);
     }
@@ -146,15 +146,9 @@ pub fn strike(board: &mut [u64], key: &[u8]) -> Result<(), NotStruck>
     ensures board_after { board.new ≡ board_struck board.old key.now }
     ensures strike_case { StrikeCase board.old key.now (strike_number result) (strike_place result) board.new }
 {
-    let Some(key) = Key::read(key) else {
-        return Err(NotStruck::NoKey);
-    };
+    let key = Key::read(key).ok_or(NotStruck::NoKey)?;
     if !is_allowed(&board[..]) {
         return Err(NotStruck::NotAllowed);
     }
-    let struck = listing::strike(board, key);
-    match struck {
-        Ok(()) => Ok(()),
-        Err(NotListed) => Err(NotStruck::NotListed),
-    }
+    Ok(listing::strike(board, key)?)
 }

@@ -1,4 +1,5 @@
 -- What the last three lines of the printed case ask of the board; the first two are examples of the planner. antt computes it. Assumes nothing.
+use Rattle.std.specs.Prelude.{Err, Ok}
 use Prim.Native.String.{String}
 use mathlib.Core.Path.{◌≡◌, refl}
 use Rattle.text.specs.Class.{all, is_digit, is_letter, is_alnum}
@@ -44,9 +45,9 @@ abbrev moves : String → String → String → String → Track
 moves v l p s = record { speed = record { 0 = word v }; level = record { 0 = word l }; position = record { 0 = word p }; stamp = record { 0 = word s } }
 
 -- a TZ, an AZ, and a TZ whose ident has no computer number: 9, place 1
-pub asks_later : (asked_of (bytes line3) ≡ asked.Tz (key "QQX12") (moves "315" "250C" "3020N/08430W" "06081700"))
-    × (asked_of (bytes line4) ≡ asked.Az (key "N5AB") (arrives "GHI" "JKL" "A0810" "06081800"))
-    × (asked_of (bytes line5) ≡ asked.Refused (refusal.Body (fault.Field 1)))
+pub asks_later : (asked_of (bytes line3) ≡ Ok (asked.Tz (key "QQX12") (moves "315" "250C" "3020N/08430W" "06081700")))
+    × (asked_of (bytes line4) ≡ Ok (asked.Az (key "N5AB") (arrives "GHI" "JKL" "A0810" "06081800")))
+    × (asked_of (bytes line5) ≡ Err (refusal.Body (fault.Field 1)))
 unfolding asked_of asked_by read_of read_by type_by head_of rest_of body_read body_from type_of all_in answer_by values_by kinds_of table_by count_in is_count count_with padded values_from answer_from counted answers values answer_of values_of
     plain trace_of marks_of read_kind read_in follows ended fields_of plain_of prefixed_of aircraft_of aircraft_by ident_from ident_of tz_ident_of is_pair_form pair_of word_of
     is_form is_stamp is_key is_ident is_tz_ident is_clock is_time is_position up_to has before after joins is_of fits_picture fits_any one_of run within pieces is_digit_to digit_of is_numeral number packed value code_of all is_digit is_letter is_alnum is_arrival

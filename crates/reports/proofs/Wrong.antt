@@ -1,6 +1,6 @@
 -- WHAT MUST NOT PASS, as document 01 names it: no reader that refuses all lines, or reads every line as one message, no board that never
 -- changes, or applies the first line and then only nods, and no printer that makes up LINES or TAKEN meets the promises. Assumes nothing.
-use Rattle.std.specs.Prelude.{Ok, Result}
+use Rattle.std.specs.Prelude.{Err, Ok, Result}
 use Prim.Native.Nat.{ℕ, ◌<◌, ◌≤◌, ◌^◌}
 use native.Mathlib.Omega.{arith}
 use mathlib.Core.Path.{◌≡◌, refl, sym, ap, ◌∙◌}
@@ -51,12 +51,12 @@ pub read_promise : (κs : _) (a : _) (r : _) (s : _) → read.Post κs a r s →
 read_promise κs a r s p = p.0
 
 -- a line without a reading asks nothing but to be refused
-abbrev kind : Asked → ℕ
-kind (asked.Refused x) = 0
-kind asked.Other = 1
-kind (asked.Dz k a) = 2
-kind (asked.Az k a) = 3
-kind (asked.Tz k t) = 4
+abbrev kind : Result Asked Refusal → ℕ
+kind (Err x) = 0
+kind (Ok asked.Other) = 1
+kind (Ok (asked.Dz k a)) = 2
+kind (Ok (asked.Az k a)) = 3
+kind (Ok (asked.Tz k t)) = 4
 
 module _ (reader : List ℕ → Result Message Refusal) (promise : (s : List ℕ) → Reads s (reader s)) where
   is_read : (s : List ℕ) → 1 ≤ kind (asked_of s) → ((m : Message) → reader s ≡ Ok m → ⊥) → ⊥
@@ -76,7 +76,7 @@ module _ (reader : List ℕ → Result Message Refusal) (promise : (s : List ℕ
       hb_read (λ m e. is_read tz (rw asks.0 (omega arith)) (λ n f.
       let q : kind (asked_of hb) ≡ kind (asked_of tz) = ap kind (as_one hb m e ∙ sym (as_one tz n f)) in omega (arith, rw (asks.2, asks.0) at q)))
     where
-      as_one : (s : List ℕ) (m : Message) → reader s ≡ Ok m → asked_of s ≡ asked_by one
+      as_one : (s : List ℕ) (m : Message) → reader s ≡ Ok m → asked_of s ≡ Ok (asked_by one)
       as_one s m e = ap asked_from (sym (promise s) ∙ e ∙ ap Ok (same s m e))
 
 -- ---- BOARDS: what answers each line, and leaves the words, as `planner::apply` promises (`apply_promise`)

@@ -159,15 +159,7 @@ pub fn write(m: Message, free: &[u8], out: &mut [u8], at: usize) -> Result<usize
     ensures out_after { out.new ≡ written_bytes (is_allowed m free.now) (line_of m free.now) out.old at }
     ensures write_case { WriteCase New (reading_of m) free.now out.old at (write_answer result) (place_after result) out.new }
 {
-    let body = m.body;
-    let x = Reading {
-        sequence: m.sequence.0,
-        stamp: m.stamp.0,
-        facility: m.facility.0,
-        body,
-        trailing: m.trailing,
-    };
-    write_by(Rule::New, x, free, out, at)
+    write_by(Rule::New, Reading::from(m), free, out, at)
 }
 
 // Writes the line of a message of the old feed.
@@ -176,13 +168,5 @@ pub fn write_old(m: OldMessage, free: &[u8], out: &mut [u8], at: usize) -> Resul
     ensures out_after { out.new ≡ written_bytes (is_old_allowed m free.now) (old_line_of m free.now) out.old at }
     ensures write_case { WriteCase Old (old_reading_of m) free.now out.old at (write_answer result) (place_after result) out.new }
 {
-    let body = m.body;
-    let x = Reading {
-        sequence: 0,
-        stamp: m.stamp.0,
-        facility: m.center.0,
-        body,
-        trailing: m.trailing,
-    };
-    write_by(Rule::Old, x, free, out, at)
+    write_by(Rule::Old, Reading::from(m), free, out, at)
 }

@@ -1,4 +1,5 @@
 -- `meanings::levels_of` meets its contract. Assumes nothing.
+use Rattle.std.specs.Prelude.{Some}
 use mathlib.Core.Path.{sym, ap, ap₂, ◌∙◌}
 use native.Mathlib.Nat.{le_of_lt}
 use lib.Seq.{length-take-le}
@@ -16,7 +17,7 @@ returns-then-not-is_form c = rw (not_so c.is_form.ensures c.if-not-is_form.true-
 pub returns-then-i-s : goal.returns-then-i-s
 unfolding is_form
 returns-then-i-s c =
-    ap One c.decimal.ensures ∙ one_level _ _ c.find-i.ensures (so c.is_form.ensures c.if-not-is_form.false-raw) c.if-i-s.true
+    ap (λ n. Some (One n)) c.decimal.ensures ∙ one_level _ _ c.find-i.ensures (so c.is_form.ensures c.if-not-is_form.false-raw) c.if-i-s.true
 
 pub slice_bounds-decimal-end : goal.slice_bounds-decimal-end
 unfolding levels_of is_form
@@ -25,4 +26,4 @@ slice_bounds-decimal-end c = sym (length-take-le _ _ (le_of_lt c.if-i-s.false))
 pub returns : goal.returns
 unfolding is_form
 returns c =
-    ap₂ Block c.decimal-low.ensures c.decimal-high.ensures ∙ two_levels _ _ c.find-i.ensures (so c.is_form.ensures c.if-not-is_form.false-raw) c.if-i-s.false
+    ap₂ (λ n m. Some (Block n m)) c.decimal-low.ensures c.decimal-high.ensures ∙ two_levels _ _ c.find-i.ensures (so c.is_form.ensures c.if-not-is_form.false-raw) c.if-i-s.false

@@ -1,5 +1,7 @@
 -- `enter` meets its contract. Assumes nothing.
-use Rattle.planner.proofs.Ways.{dz_needs, az_needs, tz_needs, entered_as, other_entered, refused_entered}
+use Rattle.std.specs.Prelude.{Ok}
+use mathlib.Core.Path.{ap}
+use Rattle.planner.proofs.Ways.{dz_needs, az_needs, tz_needs, entered_as, other_entered}
 use Rattle.planner.proofs.enter.Goals as goal
 
 pub put_dz-requires : goal.put_dz-requires
@@ -18,16 +20,13 @@ put_tz-requires c =
     record { board_value = c.requires.board_value; key_value = both.0; value = both.1 }
 
 pub returns-in-Dz : goal.returns-in-Dz
-returns-in-Dz c = entered_as _ _ _ _ _ c.in-Dz.is c.put_dz.ensures
+returns-in-Dz c = entered_as _ _ _ _ _ (ap Ok c.in-Dz.is) c.put_dz.ensures
 
 pub returns-in-Az : goal.returns-in-Az
-returns-in-Az c = entered_as _ _ _ _ _ c.in-Az.is c.put_az.ensures
+returns-in-Az c = entered_as _ _ _ _ _ (ap Ok c.in-Az.is) c.put_az.ensures
 
 pub returns-in-Tz : goal.returns-in-Tz
-returns-in-Tz c = entered_as _ _ _ _ _ c.in-Tz.is c.put_tz.ensures
+returns-in-Tz c = entered_as _ _ _ _ _ (ap Ok c.in-Tz.is) c.put_tz.ensures
 
 pub returns-in-Other : goal.returns-in-Other
-returns-in-Other c = entered_as _ _ _ _ _ c.in-Other.is (other_entered _ c.requires.board_value)
-
-pub returns-in-Refused : goal.returns-in-Refused
-returns-in-Refused c = entered_as _ _ _ _ _ c.in-Refused.is (refused_entered _ c.requires.board_value _)
+returns-in-Other c = entered_as _ _ _ _ _ (ap Ok c.in-Other.is) (other_entered _ c.requires.board_value)
