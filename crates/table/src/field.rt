@@ -15,8 +15,7 @@ use crate::kinds::{
 };
 use fields::aircraft::Aircraft;
 use fields::idents::Ident;
-use fields::plan::Time;
-use fields::words::{self, Worded};
+use fields::words;
 use text::NotWritten;
 use text::writing::put_bytes;
 
