@@ -186,10 +186,6 @@ pub fn read_body(rule: Rule, t: MessageType, body: &[u8]) -> Result<(Body, bool)
     ensures { result ≡ body_read rule t body.now }
 {
     let read = read_fields(rule, t, body);
-    let answer = read.answer;
-    let values = read.values;
-    match answer {
-        Ok((trailing, marks)) => Ok((body_from(t, marks, values), trailing)),
-        Err(fault) => Err(fault),
-    }
+    let (trailing, marks) = read.answer?;
+    Ok((body_from(t, marks, read.values), trailing))
 }
