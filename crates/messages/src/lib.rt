@@ -81,6 +81,7 @@ pub enum Amended {
     Assigned(Level),
     Requested(Level),
     Route,
+    // A content as well: `amendment` promises what it is held as (`held_of`), and `amended` gives it back.
     Nothing,
 }
 

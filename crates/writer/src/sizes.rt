@@ -101,10 +101,8 @@ fn size_fields(rule: Rule, b: Body, free: &[u8]) -> Option<usize>
     if !is_count(kind, n) {
         return None;
     }
-    if !has_route(kind, marks) {
-        if free.len() != 0 {
-            return None;
-        }
+    if !has_route(kind, marks) && free.len() != 0 {
+        return None;
     }
     let values = values_in(b);
     if !is_none_from(values, n) {
@@ -142,25 +140,13 @@ fn size_body(rule: Rule, b: Body, free: &[u8], trailing: bool) -> Option<usize>
 fn holds_new(sequence: u64, stamp: u64, facility: u64) -> bool
     ensures { result ≡ ((sequence_in New).held sequence && (stamp_in New).held stamp && (facility_in New).held facility) }
 {
-    if !Sequence(sequence).holds() {
-        return false;
-    }
-    if !Stamp(stamp).holds() {
-        return false;
-    }
-    Facility(facility).holds()
+    Sequence(sequence).holds() && Stamp(stamp).holds() && Facility(facility).holds()
 }
 
 fn holds_old(sequence: u64, stamp: u64, center: u64) -> bool
     ensures { result ≡ ((sequence_in Old).held sequence && (stamp_in Old).held stamp && (facility_in Old).held center) }
 {
-    if sequence != 0 {
-        return false;
-    }
-    if !words::holds(rules::OLD_STAMP, stamp) {
-        return false;
-    }
-    words::holds(rules::LETTER, center)
+    sequence == 0 && words::holds(rules::OLD_STAMP, stamp) && words::holds(rules::LETTER, center)
 }
 
 // Whether some head of the rule gives these numbers.

@@ -11,7 +11,7 @@ use Rattle.messages.specs.Body.{type_in, field_count, spare, marks_in}
 use Rattle.messages.specs.Allowed.{has_route, all_none}
 use Rattle.writer.proofs.LineSizes.{count_of, route_of_lem, Has, has_few, has_length, has_asks, has_sized, not_count, not_free, not_none, not_allowed, not_marks, fields_are}
 use Rattle.writer.proofs.sizes.size_fields.Goals as goal
-use Rattle.writer.proofs.sizes.size_fields.Goals.{then-not-has_route+else-free-ne0, else-not-has_route}
+use Rattle.writer.proofs.sizes.size_fields.Goals.{else-not-has_route-via-then-not-has_route+else-free-ne0, else-not-has_route-via-else-not-has_route}
 
 pub returns-then-not-is_count : goal.returns-then-not-is_count
 returns-then-not-is_count c =
@@ -68,7 +68,7 @@ returns c =
     let found : c.field_count-n.result ≡ field_count c.args.b = count_of _ c.type_in-kind.ensures c.marks_in-marks.ensures c.field_count-n.ensures in
     let routed : c.has_route.result ≡ has_route c.args.b = route_of_lem _ c.type_in-kind.ensures c.marks_in-marks.ensures c.has_route.ensures in
     let counted : let b = c.args.b in c.is_count.result ≡ is_count (type_in b) (field_count b) = c.is_count.ensures ∙ rw (found, c.type_in-kind.ensures) in
-    let free : let a = c.args in (has_route a.b || eqb (length a.free.now) 0) ≡ true = elim c.if-not-has_route.branch [ then-not-has_route+else-free-ne0 w ↦ rw (eq-eqb _ _ w.if-free-ne0.false, or-true) | else-not-has_route w ↦ rw (so routed w.if-not-has_route.false-raw) ] in
+    let free : let a = c.args in (has_route a.b || eqb (length a.free.now) 0) ≡ true = elim c.else-not-has_route.branch [ else-not-has_route-via-then-not-has_route+else-free-ne0 w ↦ rw (eq-eqb _ _ w.if-free-ne0.false, or-true) | else-not-has_route-via-else-not-has_route w ↦ rw (so routed w.if-not-has_route.false-raw) ] in
     let spared : c.is_none_from.result ≡ all_none (spare c.args.b) = c.is_none_from.ensures ∙ rw (c.values_in-values.ensures, found) in
     let has : Has c.args.rule c.args.b c.type_in-kind.result c.field_count-n.result c.kinds_of-kinds.result c.values_in-values.result = record { type = c.type_in-kind.ensures; count = found; kinds = c.kinds_of-kinds.ensures; values = c.values_in-values.ensures; right = so c.is_count.ensures c.if-not-is_count.false-raw } in
     let kept : c.marks_in-marks.result ≡ marks_in c.args.b = c.marks_in-marks.ensures in
