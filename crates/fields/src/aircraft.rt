@@ -37,8 +37,7 @@ fn read_prefixed(s: &[u8]) -> Option<Aircraft>
         return None;
     }
     let prefix = words::read(rules::PREFIX, &s[..i])?;
-    let j = i + 1;
-    read_after(prefix, &s[j..])
+    read_after(prefix, &s[i + 1..])
 }
 
 // The word of the whole text.

@@ -16,8 +16,7 @@ pub(crate) fn read_pair(first: u8, second: u8, s: &[u8]) -> Option<(u64, u64)>
         return Some((a, 0));
     }
     let a = read(first, &s[..i])?;
-    let j = i + 1;
-    let b = read(second, &s[j..])?;
+    let b = read(second, &s[i + 1..])?;
     Some((a, b))
 }
 

@@ -85,8 +85,7 @@ pub(crate) fn is_fix(s: &[u8]) -> bool
     if i >= s.len() {
         return false;
     }
-    let j = i + 1;
-    run(b'a', 2, 5, &s[..i]) && run(b'a', 1, 6, &s[j..])
+    run(b'a', 2, 5, &s[..i]) && run(b'a', 1, 6, &s[i + 1..])
 }
 
 // Hours or degrees and their minutes, written together: at most `most`, minutes to 59.
@@ -141,11 +140,10 @@ fn is_block(s: &[u8]) -> bool
     if i >= s.len() {
         return false;
     }
-    let j = i + 1;
     let Some(first) = height(&s[..i]) else {
         return false;
     };
-    let Some(second) = height(&s[j..]) else {
+    let Some(second) = height(&s[i + 1..]) else {
         return false;
     };
     first <= second
