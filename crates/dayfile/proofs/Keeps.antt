@@ -41,12 +41,18 @@ module _ (most : ℕ) (p : Place) (l : List ℕ) where
   pub full_many : most ≤ p.count → true ≡ is_full most p l
   full_many h = sym (full_is most 0 l [] [] p (inl h))
 
-  pub full_far : too_far ≤ p.at → true ≡ is_full most p l
-  full_far h = sym (full_is most 0 l [] [] p (inr (omega arith)))
-
-  pub full_by : p.count < most → leb too_far (p.at + length l + 1) ≡ is_full most p l
+  full_sum : p.count < most → leb too_far (p.at + length l + 1) ≡ is_full most p l
   unfolding is_full
-  full_by h = let e : p.at + length (fed l) ≡ p.at + length l + 1 = omega (arith, fed_length l) in rw (lt-leb most p.count h, e)
+  full_sum h = let e : p.at + length (fed l) ≡ p.at + length l + 1 = omega (arith, fed_length l) in rw (lt-leb most p.count h, e)
+
+  pub full_by : p.count < most → leb (too_far - (length l + 1)) p.at ≡ is_full most p l
+  full_by h = go (leb (too_far - (length l + 1)) p.at) refl
+    where
+      go : (b : Bool) → leb (too_far - (length l + 1)) p.at ≡ b → b ≡ is_full most p l
+      go true q = let k = leb-true (too_far - (length l + 1)) p.at q in sym (full_is most 0 l [] [] p (inr (omega (arith, k))))
+      go false q =
+          let k = leb-false (too_far - (length l + 1)) p.at q in
+          sym (lt-leb too_far (p.at + length l + 1) (omega (arith, k))) ∙ full_sum h
 
   -- where it is not, no number is too large
   pub not_far : {full : Bool} → full ≡ is_full most p l → full ≡ false → p.at + length l + 1 < too_far

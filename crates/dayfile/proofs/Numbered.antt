@@ -65,7 +65,7 @@ module _ {t : Trailer} {file : List ℕ} {day : Contents} (o : IsOpen t file day
 -- ---- where there is no line with a number: an empty part at the start
 
 -- the answer, of a text that lies at p
-abbrev AtFront : ℕ × ℕ → List (List ℕ) → ℕ → Type 0
+abbrev pub AtFront : ℕ × ℕ → List (List ℕ) → ℕ → Type 0
 AtFront p ls n = ([] ≡ numbered ls n) × (p ≡ starts_at p (place_of ls n))
 
 past : (p : ℕ × ℕ) (ls : List (List ℕ)) (n : ℕ) → length ls < n → AtFront p ls n

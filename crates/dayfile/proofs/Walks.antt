@@ -9,7 +9,7 @@ use native.Mathlib.Numerals.{add-one}
 use native.Mathlib.Omega.{arith}
 use lib.Dec.{eqb, ltb, leb}
 use lib.ListN.{length, take, drop, get_or, length-append, length-drop, take-append-drop}
-use lib.Seq.{length-take-le, take_all, take-suc, take-add, take_at, drop_at, get_or-drop}
+use lib.Seq.{length-take-le, take_all, take-suc, take-add, take_at, drop_at}
 use borrow.Author.Tests.{ltb-true, leb-true, lt-ltb, le-leb}
 use Rattle.text.specs.Place.{value}
 use Rattle.text.proofs.Logic.{and_left, and_right, not_holds, not_fails}

@@ -12,29 +12,18 @@ use crate::{NotEnded, Place, TOO_FAR, Trailer, trailer_size, version_1};
 fn is_agreed(out: &[u8], offsets: &[u32], place: Place) -> bool
     ensures { result ≡ is_agreed out.now offsets.now place }
 {
-    let at = place.at;
-    let count = place.count;
-    if at > out.len() {
+    if place.at > out.len() || place.count > offsets.len() {
         return false;
     }
-    if count > offsets.len() {
-        return false;
-    }
-    let walked = walk_run(&out[..at], &offsets[..count]);
-    if walked.lines != count {
-        return false;
-    }
-    walked.used == at
+    let walked = walk_run(&out[..place.at], &offsets[..place.count]);
+    walked.lines == place.count && walked.used == place.at
 }
 
 // 24: more lines than there may be, or an index that starts too far.
 fn is_over(trailer: Trailer, place: Place) -> bool
     ensures { result ≡ is_over trailer place }
 {
-    if place.count > trailer.most {
-        return true;
-    }
-    place.at >= TOO_FAR
+    place.count > trailer.most || place.at >= TOO_FAR
 }
 
 // Puts the trailer from place `from`, where there is room.
@@ -44,10 +33,9 @@ pub fn put_trailer(trailer: Trailer, place: Place, out: &mut [u8], from: usize)
     requires trailer_in_bounds { from + trailer_size trailer ≤ length out.old }
     ensures { out.new ≡ spliced out.old from (trailer_of trailer place.at place.count) }
 {
-    let wide = trailer.wide;
     put_number(place.at, 4, out, from);
-    put_number(place.count, wide, out, from + 4);
-    put_number(trailer.version, 2, out, from + 4 + wide);
+    put_number(place.count, trailer.wide, out, from + 4);
+    put_number(trailer.version, 2, out, from + 4 + trailer.wide);
 }
 
 // Ends a file with this trailer.
@@ -67,14 +55,12 @@ fn end_as(
     if is_over(trailer, place) {
         return Err(NotEnded::TooMany);
     }
-    let at = place.at;
-    let count = place.count;
-    let after = at + 4 * count;
+    let after = place.at + 4 * place.count;
     let size = after + trailer_size(trailer);
     if size > out.len() {
         return Err(NotEnded::NoRoom);
     }
-    put_index(&offsets[..count], out, at);
+    put_index(&offsets[..place.count], out, place.at);
     put_trailer(trailer, place, out, after);
     Ok(size)
 }

@@ -40,7 +40,7 @@ pub struct Contents {
     pub start: usize,
 }
 
-// What `open` answers: 0, 20, 21, 22, 23.
+// Why `open` refuses: 20, 21, 22, 23.
 #[derive(Clone, Copy, PartialEq, Eq)]
 pub enum NotOpened {
     TooShort,
@@ -56,7 +56,7 @@ pub struct Place {
     pub count: usize,
 }
 
-// What `keep_line` answers: 0 with the place after the line, 2, 25, 24, 15.
+// Why `keep_line` refuses: 2, 25, 24, 15.
 #[derive(Clone, Copy, PartialEq, Eq)]
 pub enum NotKept {
     TooLong,
@@ -65,7 +65,7 @@ pub enum NotKept {
     NoRoom,
 }
 
-// What `end_file` answers: 0 with the file's length, 13, 24, 15.
+// Why `end_file` refuses: 13, 24, 15.
 #[derive(Clone, Copy, PartialEq, Eq)]
 pub enum NotEnded {
     Disagree,
@@ -102,8 +102,7 @@ pub fn open_tail(trailer: Trailer, size: usize, tail: &[u8]) -> Result<Contents,
     if size < width {
         return Err(NotOpened::TooShort);
     }
-    let wide = trailer.wide;
-    let after = 4 + wide;
+    let after = 4 + trailer.wide;
     if read_number(&tail[after..]) != trailer.version {
         return Err(NotOpened::UnknownVersion);
     }
@@ -119,11 +118,7 @@ pub fn open_tail(trailer: Trailer, size: usize, tail: &[u8]) -> Result<Contents,
 fn last<'a>(n: usize, s: &'a [u8]) -> &'a [u8]
     ensures { result.now ≡ drop (length s.now - n) s.now }
 {
-    if n > s.len() {
-        return s;
-    }
-    let from = s.len() - n;
-    &s[from..]
+    &s[s.len().saturating_sub(n)..]
 }
 
 // A file with this trailer: 20 to 22, and then 23, in one pass over its lines beside its index.
@@ -133,13 +128,9 @@ fn open_as(trailer: Trailer, file: &[u8]) -> Result<Contents, NotOpened>
 {
     let width = trailer_size(trailer);
     let day = open_tail(trailer, file.len(), last(width, file))?;
-    let start = day.start;
-    let end = start + 4 * day.lines;
-    let walked = walk(0, &file[..start], &file[start..end]);
-    if walked.lines != day.lines {
-        return Err(NotOpened::WrongLines);
-    }
-    if walked.used != start {
+    let end = day.start + 4 * day.lines;
+    let walked = walk(0, &file[..day.start], &file[day.start..end]);
+    if walked.lines != day.lines || walked.used != day.start {
         return Err(NotOpened::WrongLines);
     }
     Ok(day)
@@ -160,13 +151,10 @@ pub fn known_line<'a>(file: &'a [u8], day: Contents, number: usize) -> &'a [u8]
     ensures result_value { result.now ≡ numbered (lines_in version1 file.now) number }
     ensures ref_ptr_value { result.ref_ptr ≡ starts_at file.entry.ref_ptr (place_of (lines_in version1 file.now) number) }
 {
-    let start = day.start;
-    let at = start + 4 * (number - 1);
-    let after = at + 4;
-    let from = read_number(&file[at..after]);
-    let size = line_size(&file[from..start]);
-    let end = from + size - 1;
-    &file[from..end]
+    let at = day.start + 4 * (number - 1);
+    let from = read_number(&file[at..at + 4]);
+    let size = line_size(&file[from..day.start]);
+    &file[from..from + size - 1]
 }
 
 // The line with this number, the first being 1: a part of the file, not a copy. Where there is none, or the bytes are no day file, an empty part at the start.
@@ -174,16 +162,10 @@ pub fn line<'a>(file: &'a [u8], number: usize) -> &'a [u8]
     ensures result_value { result.now ≡ numbered (lines_in version1 file.now) number }
     ensures ref_ptr_value { result.ref_ptr ≡ starts_at file.entry.ref_ptr (place_of (lines_in version1 file.now) number) }
 {
-    let Ok(day) = open(file) else {
-        return &file[..0];
-    };
-    if number == 0 {
-        return &file[..0];
+    match open(file) {
+        Ok(day) if 0 < number && number <= day.lines => known_line(file, day, number),
+        _ => &file[..0],
     }
-    if number > day.lines {
-        return &file[..0];
-    }
-    known_line(file, day, number)
 }
 
 // 24: as many lines as there may be, or a byte too far.
@@ -191,13 +173,7 @@ fn is_full(most: usize, place: Place, line: &[u8]) -> bool
     requires { length line.now ≤ 2048 }
     ensures { result ≡ is_full most place line.now }
 {
-    if place.count >= most {
-        return true;
-    }
-    if place.at >= TOO_FAR {
-        return true;
-    }
-    place.at + line.len() + 1 >= TOO_FAR
+    place.count >= most || place.at >= TOO_FAR - (line.len() + 1)
 }
 
 // Keeps a line in a buffer that is the file from its byte `base` on, of at most so many lines.
@@ -228,16 +204,15 @@ pub fn keep_from(
     if !has_room(n + 1, out.len(), at) {
         return Err(NotKept::NoRoom);
     }
-    let count = place.count;
-    if count >= offsets.len() {
+    if place.count >= offsets.len() {
         return Err(NotKept::NoRoom);
     }
     let _ = put_bytes(line, out, at);
     out[at + n] = LINE_FEED;
-    offsets[count] = place.at as u32;
+    offsets[place.count] = place.at as u32;
     Ok(Place {
         at: place.at + n + 1,
-        count: count + 1,
+        count: place.count + 1,
     })
 }
 

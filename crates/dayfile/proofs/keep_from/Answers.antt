@@ -27,9 +27,9 @@ returns-then-not-has_room c =
     let both = no_place _ _ _ _ _ _ c.if-line-gt-LONGEST_LINE.false c.find_far.ensures c.if-find_far-line.false c.is_full.ensures c.if-is_full.false c.has_room.ensures c.if-not-has_room.true-raw in
     record { value = both.0; out_after = both.1.0; offsets_after = both.1.1 }
 
-pub returns-then-count-offsets : goal.returns-then-count-offsets
-returns-then-count-offsets c =
-    let both = no_run _ _ _ _ _ _ c.if-line-gt-LONGEST_LINE.false c.find_far.ensures c.if-find_far-line.false c.is_full.ensures c.if-is_full.false c.if-count-offsets.true in
+pub returns-then-place-offsets : goal.returns-then-place-offsets
+returns-then-place-offsets c =
+    let both = no_run _ _ _ _ _ _ c.if-line-gt-LONGEST_LINE.false c.find_far.ensures c.if-find_far-line.false c.is_full.ensures c.if-is_full.false c.if-place-offsets.true in
     record { value = both.0; out_after = both.1.0; offsets_after = both.1.1 }
 
 pub overflow_add-out : goal.overflow_add-out
@@ -51,5 +51,5 @@ overflow_add-result-2 c = omega (arith, not_far _ _ _ c.is_full.ensures c.if-is_
 
 pub returns : goal.returns
 returns c =
-    let both = kept_next _ _ _ _ _ _ c.if-line-gt-LONGEST_LINE.false c.find_far.ensures c.if-find_far-line.false c.is_full.ensures c.if-is_full.false c.has_room.ensures c.if-not-has_room.false-raw c.if-count-offsets.false c.put_bytes.ensures.out_after in
+    let both = kept_next _ _ _ _ _ _ c.if-line-gt-LONGEST_LINE.false c.find_far.ensures c.if-find_far-line.false c.is_full.ensures c.if-is_full.false c.has_room.ensures c.if-not-has_room.false-raw c.if-place-offsets.false c.put_bytes.ensures.out_after in
     record { value = both.0; out_after = both.1.0; offsets_after = both.1.1 }

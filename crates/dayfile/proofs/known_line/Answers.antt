@@ -17,8 +17,8 @@ overflow_add-at c =
     let has : Has version1 c.args.file.now c.args.day c.args.number = record { opened = record { told = c.requires.file_value }; some = c.requires.number_nonzero; there = c.requires.number_le_lines } in
     omega (arith, offset_inside has)
 
-pub overflow_add-after : goal.overflow_add-after
-overflow_add-after c =
+pub overflow_add-at-2 : goal.overflow_add-at-2
+overflow_add-at-2 c =
     let has : Has version1 c.args.file.now c.args.day c.args.number = record { opened = record { told = c.requires.file_value }; some = c.requires.number_nonzero; there = c.requires.number_le_lines } in
     omega (arith, offset_inside has)
 
@@ -48,14 +48,14 @@ slice_bounds-line_size-end c =
     let has : Has version1 c.args.file.now c.args.day c.args.number = record { opened = record { told = c.requires.file_value }; some = c.requires.number_nonzero; there = c.requires.number_le_lines } in
     omega (arith, offset_inside has)
 
-pub overflow_add-end : goal.overflow_add-end
-overflow_add-end c =
+pub overflow_add-result : goal.overflow_add-result
+overflow_add-result c =
     let has : Has version1 c.args.file.now c.args.day c.args.number = record { opened = record { told = c.requires.file_value }; some = c.requires.number_nonzero; there = c.requires.number_le_lines } in
     let inside : (1 ≤ c.line_size-size.result) × (c.read_number-from.result + c.line_size-size.result ≤ c.args.day.start) = line_inside has _ c.read_number-from.ensures.value _ c.line_size-size.ensures in
     omega (arith, inside, offset_inside has)
 
-pub overflow_sub-end : goal.overflow_sub-end
-overflow_sub-end c =
+pub overflow_sub-result : goal.overflow_sub-result
+overflow_sub-result c =
     let has : Has version1 c.args.file.now c.args.day c.args.number = record { opened = record { told = c.requires.file_value }; some = c.requires.number_nonzero; there = c.requires.number_le_lines } in
     let inside : (1 ≤ c.line_size-size.result) × (c.read_number-from.result + c.line_size-size.result ≤ c.args.day.start) = line_inside has _ c.read_number-from.ensures.value _ c.line_size-size.ensures in
     omega (arith, inside)

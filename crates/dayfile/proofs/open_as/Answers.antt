@@ -5,6 +5,7 @@ use lib.Seq.{length-take-le}
 use Rattle.std.proofs.lemmas.Result.{err_from_is_err_and}
 use Rattle.dayfile.proofs.Opening.{by_tail, no_day, day_inside, other_lines, other_used, same_lines}
 use Rattle.dayfile.proofs.open_as.Goals as goal
+use Rattle.dayfile.proofs.open_as.Goals.{then-walked-day-via-then-walked-day, then-walked-day-via-else-walked-day+then-walked-day-2}
 
 pub returns-in_err-day : goal.returns-in_err-day
 returns-in_err-day c =
@@ -35,14 +36,12 @@ slice_bounds-walk-end-2 c =
 pub returns-then-walked-day : goal.returns-then-walked-day
 returns-then-walked-day c =
     let told = by_tail _ _ _ _ c.trailer_size-width.ensures c.last.ensures c.in_ok-day.ensures in
-    other_lines told _ refl c.walk-walked.ensures c.if-walked-day.true
-
-pub returns-then-walked-start : goal.returns-then-walked-start
-returns-then-walked-start c =
-    let told = by_tail _ _ _ _ c.trailer_size-width.ensures c.last.ensures c.in_ok-day.ensures in
-    other_used told _ refl c.walk-walked.ensures c.if-walked-start.true
+    elim c.then-walked-day.branch [
+      | then-walked-day-via-then-walked-day w ↦ other_lines told _ refl c.walk-walked.ensures w.if-walked-day.true
+      | then-walked-day-via-else-walked-day+then-walked-day-2 w ↦ other_used told _ refl c.walk-walked.ensures w.if-walked-day-2.true
+    ]
 
 pub returns : goal.returns
 returns c =
     let told = by_tail _ _ _ _ c.trailer_size-width.ensures c.last.ensures c.in_ok-day.ensures in
-    same_lines told _ refl c.walk-walked.ensures c.if-walked-day.false c.if-walked-start.false
+    same_lines told _ refl c.walk-walked.ensures c.if-walked-day.false c.if-walked-day-2.false

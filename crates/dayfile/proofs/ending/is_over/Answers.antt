@@ -1,9 +1,11 @@
 -- `ending::is_over` meets its contract. Assumes nothing.
+use mathlib.Core.Path.{◌∙◌}
+use borrow.Author.Tests.{lt-ltb}
 use Rattle.dayfile.proofs.Keeps.{over_many, over_by}
 use Rattle.dayfile.proofs.ending.is_over.Goals as goal
 
 pub returns-then-place-trailer : goal.returns-then-place-trailer
-returns-then-place-trailer c = over_many _ _ c.if-place-trailer.true
+returns-then-place-trailer c = lt-ltb _ _ c.if-place-trailer.true ∙ over_many c.args.trailer c.args.place c.if-place-trailer.true
 
-pub returns : goal.returns
-returns c = over_by _ _ c.if-place-trailer.false
+pub returns-else-place-trailer : goal.returns-else-place-trailer
+returns-else-place-trailer c = over_by c.args.trailer c.args.place c.if-place-trailer.false
