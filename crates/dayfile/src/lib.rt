@@ -89,7 +89,7 @@ pub enum NotEnded {
     NoRoom,
 }
 
-// "number of lines (2), version 1 (2)"
+// "number of lines (2), version 1 (2)". A function and not a constant: a constant has no clause that says which trailer it is.
 pub fn version_1() -> Trailer
     ensures { result ≡ version1 }
 {
