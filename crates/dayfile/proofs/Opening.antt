@@ -48,16 +48,15 @@ pub record LongEnough (t : Trailer) (size : ℕ) (tail : List ℕ) : Type 0 wher
   pub long : length tail ≡ 4 + t.wide + 2
   pub least : trailer_size t ≤ size
 
-pub long_enough : (t : Trailer) (size : ℕ) (tail : List ℕ) (width : ℕ) → Sound t → (trailer_size t ≤ size → length tail ≡ trailer_size t) → width ≡ trailer_size t
+-- what is asked of `u` is known of `t`, the same by its parts
+pub long_enough : {t u : Trailer} {size : ℕ} {tail : List ℕ} {width : ℕ} → t ≡ u → Sound t → (trailer_size u ≤ size → length tail ≡ trailer_size u) → width ≡ trailer_size u
     → width ≤ size → LongEnough t size tail
 unfolding trailer_size
-long_enough t size tail width s k e h = record { wide = s.0; long = k (omega arith); least = omega arith }
+long_enough {t = t} {u = u} e s k w h =
+    let same : trailer_size t ≡ trailer_size u = ap trailer_size e in
+    record { wide = s.0; long = k (omega (arith, w, h)) ∙ sym same; least = omega (arith, w, h, same) }
 
 module _ {t : Trailer} {size : ℕ} {tail : List ℕ} (v : LongEnough t size tail) where
-  pub width_few : {width : ℕ} → width ≡ trailer_size t → width ≤ 10
-  unfolding trailer_size
-  width_few e = omega (arith, v.wide)
-
   -- the numbers there
   abbrev version_part : List ℕ
   version_part = take (length tail - (4 + t.wide)) (drop (4 + t.wide) tail)

@@ -1,3 +1,4 @@
+pub mod Parts
 pub mod DayFile
 pub mod Opening
 pub mod Keeping

@@ -1,7 +1,7 @@
 // A file is ended: after the lines that were kept come its index and its trailer, where these lines and their offsets agree.
 ghost use Rattle.std.specs.Prelude.{◌≡◌, false, ◌+◌, ◌≤◌, length};
 ghost use Rattle.text.specs.Text.{spliced};
-ghost use Rattle.dayfile.specs.DayFile.{version1, Sound, trailer_size, trailer_of};
+ghost use Rattle.dayfile.specs.DayFile.{version1, trailer_size, trailer_of};
 ghost use Rattle.dayfile.specs.Keeping.{is_agreed, is_over, ended_of, out_ended};
 
 use crate::numbers::{put_index, put_number};
@@ -28,7 +28,6 @@ fn is_over(trailer: Trailer, place: Place) -> bool
 
 // Puts the trailer from place `from`, where there is room.
 pub fn put_trailer(trailer: Trailer, place: Place, out: &mut [u8], from: usize)
-    requires sound { Sound trailer }
     requires place_value { is_over trailer place ≡ false }
     requires trailer_in_bounds { from + trailer_size trailer ≤ length out.old }
     ensures { out.new ≡ spliced out.old from (trailer_of trailer place.at place.count) }
@@ -45,7 +44,6 @@ fn end_as(
     offsets: &[u32],
     place: Place,
 ) -> Result<usize, NotEnded>
-    requires { Sound trailer }
     ensures value { result ≡ ended_of trailer out.old offsets.now place }
     ensures out_after { out.new ≡ out_ended result trailer out.old offsets.now place }
 {

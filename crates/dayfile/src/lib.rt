@@ -9,7 +9,7 @@ pub mod walking;
 
 ghost use Rattle.std.specs.Prelude.{◌≡◌, ◌-◌, ◌≤◌, ◌<◌, length, drop, Ok};
 ghost use Rattle.shapes.specs.Picture.{starts_at};
-ghost use Rattle.dayfile.specs.DayFile.{version1, Sound, trailer_size};
+ghost use Rattle.dayfile.specs.DayFile.{version1, trailer_size};
 ghost use Rattle.dayfile.specs.Opening.{open_by, open_of, lines_in, numbered, place_of};
 ghost use Rattle.dayfile.specs.Keeping.{is_full, kept_of, out_after, run_after};
 
@@ -17,6 +17,7 @@ use crate::numbers::read_number;
 use crate::walking::{line_size, walk};
 use rules::{LINE_FEED, LONGEST_LINE};
 use shapes::sweeps::find_far;
+use std::marker::Model;
 use text::writing::{has_room, put_bytes};
 
 // "at most 65,535 of them"
@@ -31,6 +32,21 @@ pub struct Trailer {
     pub wide: usize,
     pub version: usize,
     pub most: usize,
+}
+
+// Its numbers fit the bytes that it has for them: so of every trailer, and no function asks it.
+impl Model for Trailer {
+    ghost use Rattle.dayfile.specs.Parts.{Parts};
+
+    ghost Value = { Parts };
+
+    ghost use Rattle.dayfile.specs.DayFile.{Sound};
+
+    ghost view = { λ t. record { wide = t.wide; version = t.version; most = t.most } };
+
+    ghost invariant = { λ t. Sound (record { wide = t.wide; version = t.version; most = t.most }) };
+
+    ghost inverse = { λ p. record { wide = p.wide; version = p.version; most = p.most } };
 }
 
 // How many lines a file has, and where its index starts.
@@ -73,7 +89,7 @@ pub enum NotEnded {
     NoRoom,
 }
 
-// "number of lines (2), version 1 (2)"
+// "number of lines (2), version 1 (2)". A function and not a constant: a constant has no clause that says which trailer it is.
 pub fn version_1() -> Trailer
     ensures { result ≡ version1 }
 {
@@ -86,15 +102,14 @@ pub fn version_1() -> Trailer
 
 // Its start, its number of lines and its version.
 pub fn trailer_size(trailer: Trailer) -> usize
-    requires { Sound trailer }
-    ensures { result ≡ trailer_size trailer }
+    ensures value { result ≡ trailer_size trailer }
+    ensures upper_bound { result ≤ 10 }
 {
     4 + trailer.wide + 2
 }
 
 // 20 to 22: what the size of a file and its last bytes tell.
 pub fn open_tail(trailer: Trailer, size: usize, tail: &[u8]) -> Result<Contents, NotOpened>
-    requires sound { Sound trailer }
     requires tail_len { trailer_size trailer ≤ size → length tail.now ≡ trailer_size trailer }
     ensures { result ≡ open_by trailer size tail.now }
 {
@@ -123,7 +138,6 @@ fn last<'a>(n: usize, s: &'a [u8]) -> &'a [u8]
 
 // A file with this trailer: 20 to 22, and then 23, in one pass over its lines beside its index.
 fn open_as(trailer: Trailer, file: &[u8]) -> Result<Contents, NotOpened>
-    requires { Sound trailer }
     ensures { result ≡ open_of trailer file.now }
 {
     let width = trailer_size(trailer);
@@ -227,6 +241,5 @@ pub fn keep_line(
     ensures out_after { out.new ≡ out_after result 0 line.now out.old place }
     ensures offsets_after { offsets.new ≡ run_after result offsets.old place }
 {
-    let trailer = version_1();
-    keep_from(trailer.most, 0, line, out, offsets, place)
+    keep_from(MOST_LINES, 0, line, out, offsets, place)
 }

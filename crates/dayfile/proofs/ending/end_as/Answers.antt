@@ -26,11 +26,11 @@ overflow_add-after c = let w = agreed_within _ _ _ c.is_agreed.ensures c.if-not-
 pub overflow_add-size : goal.overflow_add-size
 unfolding trailer_size
 overflow_add-size c =
-    omega (arith, c.trailer_size.ensures, c.requires.0, (not_over _ _ (sym c.is_over.ensures ∙ c.if-is_over.false)).1, (agreed_within _ _ _ c.is_agreed.ensures c.if-not-is_agreed.false-raw).1)
+    omega (arith, c.trailer_size.ensures.value, c.trailer_size.ensures.upper_bound, (not_over _ _ (sym c.is_over.ensures ∙ c.if-is_over.false)).1, (agreed_within _ _ _ c.is_agreed.ensures c.if-not-is_agreed.false-raw).1)
 
 pub returns-then-size-out : goal.returns-then-size-out
 returns-then-size-out c =
-    let both = ended_full _ _ _ _ c.is_agreed.ensures c.if-not-is_agreed.false-raw c.is_over.ensures c.if-is_over.false c.trailer_size.ensures c.if-size-out.true in
+    let both = ended_full _ _ _ _ c.is_agreed.ensures c.if-not-is_agreed.false-raw c.is_over.ensures c.if-is_over.false c.trailer_size.ensures.value c.if-size-out.true in
     record { value = both.0; out_after = both.1 }
 
 pub slice_bounds-put_index-end : goal.slice_bounds-put_index-end
@@ -42,12 +42,11 @@ put_index-requires c = simp length-take (omega (arith, c.if-size-out.false))
 pub put_trailer-requires : goal.put_trailer-requires
 put_trailer-requires c =
     record {
-      sound = c.requires;
       place_value = sym c.is_over.ensures ∙ c.if-is_over.false;
-      trailer_in_bounds = omega (arith, c.if-size-out.false, c.trailer_size.ensures, c.put_index.auto.out);
+      trailer_in_bounds = omega (arith, c.if-size-out.false, c.trailer_size.ensures.value, c.put_index.auto.out);
     }
 
 pub returns : goal.returns
 returns c =
-    let both = ended_whole _ _ _ _ c.is_agreed.ensures c.if-not-is_agreed.false-raw c.is_over.ensures c.if-is_over.false c.trailer_size.ensures c.if-size-out.false c.put_index.ensures c.put_trailer.ensures in
+    let both = ended_whole _ _ _ _ c.is_agreed.ensures c.if-not-is_agreed.false-raw c.is_over.ensures c.if-is_over.false c.trailer_size.ensures.value c.if-size-out.false c.put_index.ensures c.put_trailer.ensures in
     record { value = both.0; out_after = both.1 }

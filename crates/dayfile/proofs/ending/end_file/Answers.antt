@@ -1,9 +1,5 @@
 -- `ending::end_file` meets its contract. Assumes nothing.
-use Rattle.dayfile.proofs.Files.{sound_1}
 use Rattle.dayfile.proofs.ending.end_file.Goals as goal
-
-pub end_as-requires : goal.end_as-requires
-end_as-requires c = rw c.version_1.ensures sound_1
 
 pub returns : goal.returns
 returns c = record { value = rw c.version_1.ensures at c.end_as.ensures.value; out_after = rw c.version_1.ensures at c.end_as.ensures.out_after }

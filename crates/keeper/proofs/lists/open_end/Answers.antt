@@ -6,7 +6,7 @@ use Rattle.keeper.proofs.lists.open_end.Goals as goal
 pub open_tail-requires : goal.open_tail-requires
 open_tail-requires c =
     let both = end_long _ c.version_1.ensures _ c.args.tail.now c.requires.tail_len in
-    record { sound = both.0; tail_len = both.1 }
+    record { tail_len = both.1 }
 
 pub returns : goal.returns
 returns c = end_told _ c.version_1.ensures _ _ _ refl c.open_tail.ensures

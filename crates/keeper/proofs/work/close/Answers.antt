@@ -29,7 +29,7 @@ overflow_mul-count c = omega (arith, few _ c.args.work c.requires)
 pub put_trailer-requires : goal.put_trailer-requires
 put_trailer-requires c =
     let both = trailer_ready _ c.args.work c.requires _ c.version_1.ensures _ (c.put_index.auto.out ∙ length-replicate {A = ℕ} 262148 0) in
-    record { sound = both.0; place_value = both.1.0; trailer_in_bounds = both.1.1 }
+    record { place_value = both.1.0; trailer_in_bounds = both.1.1 }
 
 pub slice_bounds-closing-end : goal.slice_bounds-closing-end
 slice_bounds-closing-end c = omega (arith, few _ c.args.work c.requires)
