@@ -22,18 +22,18 @@ pub const MOST_ROWS: usize = 256;
 
 pub const WORDS_OF_A_BOARD: usize = 1 + WORDS_OF_A_ROW * MOST_ROWS;
 
-// Where a key stands, or the place where it would go.
+// Where a key stands, or the place where it would go. (No Result: neither is a failure, and both are places.)
 #[derive(Clone, Copy)]
 pub enum Found {
     At(usize),
     Gap(usize),
 }
 
-// What `listing::write` answers: 0, 12.
+// Why `listing::write` writes nothing: 12.
 #[derive(Clone, Copy, PartialEq, Eq)]
 pub struct Full;
 
-// What `listing::strike` answers: 0, 14.
+// Why `listing::strike` strikes nothing: 14.
 #[derive(Clone, Copy, PartialEq, Eq)]
 pub struct NotListed;
 

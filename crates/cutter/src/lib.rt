@@ -19,7 +19,8 @@ pub enum Begun {
     Overlong,
 }
 
-// What `cut` answers: 0 and no line ended; 0 and the line that ended, so many bytes of the buffer or of the part; 2; 13.
+// What `cut` answers: 0 and no line ended; 0 and the line that ended, so many bytes of the buffer or of the part; 2; 13. (No
+// Result: three of the five are no refusals, and 2 uses up its bytes as they do.)
 #[derive(Clone, Copy)]
 pub enum CutAnswer {
     Taken,
@@ -36,7 +37,7 @@ pub struct AfterCut {
     pub begun: Begun,
 }
 
-// What `end` answers: 0, 17, 13.
+// What `end` answers: 0, 17, 13. (No Result: after 17 too the state is a new one, a line's start.)
 #[derive(Clone, Copy)]
 pub enum EndAnswer {
     AtStart,

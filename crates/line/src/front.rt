@@ -26,6 +26,7 @@ pub(crate) fn kind_of(rule: Rule, letters: &[u8]) -> Option<MessageType>
     ensures { result ≡ type_by rule letters.now }
 {
     let kind = MessageType::read(letters)?;
+    // (an `if`: over `filter` the proof did not close)
     if !table::has_type(rule, kind) {
         return None;
     }

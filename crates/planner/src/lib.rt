@@ -25,7 +25,7 @@ use fields::flight::Key;
 use fields::words::Worded;
 use line::Refusal;
 
-// What `apply` answers: 0; the line's own answer; 13; 12.
+// Why `apply` leaves the board as it is: the line's own answer; 13; 12.
 #[derive(Clone, Copy, PartialEq, Eq)]
 pub enum NotTaken {
     Line(Refusal),
@@ -33,7 +33,7 @@ pub enum NotTaken {
     Full,
 }
 
-// What `strike` answers: 0; 9 with place 1; 13; 14.
+// Why `strike` leaves the board as it is: 9 with place 1; 13; 14.
 #[derive(Clone, Copy, PartialEq, Eq)]
 pub enum NotStruck {
     NoKey,

@@ -17,7 +17,7 @@ use board::{WORDS_OF_A_ROW, is_allowed};
 use text::writing::{has_room, put_bytes};
 use text::{NotWritten, decimals};
 
-// What `print` answers: 0 with the place after the text; 15; 13.
+// Why `print` writes nothing: 15; 13. Else it answers the place after the text.
 #[derive(Clone, Copy, PartialEq, Eq)]
 pub enum NotPrinted {
     NoRoom,

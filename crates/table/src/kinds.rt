@@ -142,7 +142,7 @@ impl From<Value> for Aircraft {
     }
 }
 
-// A field that is read; one without a reading (answer 9); a number that is none of the eight or came before (10).
+// Why a field is not read: it has no reading (answer 9); its number is none of the eight or came before (10).
 #[derive(Clone, Copy, PartialEq, Eq)]
 pub enum NotRead {
     Nothing,
