@@ -1,47 +1,30 @@
 -- The report in a buffer: written where it has room, and nothing else counts as one. Assumes nothing.
-use Rattle.std.specs.Prelude.{Err, Ok, Result}
+use Rattle.std.specs.Prelude.{Ok, Result}
 use mathlib.Core.Path.{◌≡◌, sym, ◌∙◌}
 use mathlib.Core.Bool.{true}
-use mathlib.Core.List.{List, [], ◌∷◌}
+use mathlib.Core.List.{List}
 use Prim.Native.Nat.{ℕ, ◌+◌, ◌≤◌}
 use native.Mathlib.Omega.{arith}
 use lib.ListN.{length}
-use denote.Enum.Declared.{tag_of}
-use types.Run.{OneOf, miss}
 use Rattle.text.specs.Text.{spliced}
-use Rattle.text.specs.contracts.Written.{the_type as the_written}
 use Rattle.text.proofs.Wrote.{next_inside}
 use Rattle.printer.specs.Text.{counts_text}
 use Rattle.printer.specs.Print.{text_in}
-use Rattle.printer.specs.contracts.Printed.{the_type as the-printed}
 use Rattle.reports.specs.Report.{most_lines, report_of}
 use Rattle.reports.specs.Run.{Prints, Counts}
 use Rattle.reports.proofs.Theorems.{report_printed}
 use Rattle.reports.proofs.Sizes.{report_size}
 use Rattle.intake.specs.Day.{ReadTo, longest_report, Fills}
 use Rattle.intake.specs.declared.Day.{Day}
-use Rattle.printer.specs.declared.NotPrinted.TheVariants.{NoRoom, NotAllowed}
-use Rattle.text.specs.declared.NotWritten.TheVariants.{NoRoom, NoText}
 use Rattle.printer.specs.declared.NotPrinted.{NotPrinted}
 use Rattle.text.specs.declared.NotWritten.{NotWritten}
-
--- where nothing was written, the code tells only the variant's number
-no_print : (r : Result ℕ NotPrinted) → OneOf (1 ∷ 2 ∷ []) (tag_of the-printed r) → (n : ℕ) → r ≡ Ok n → ⊥
-no_print (Ok m) h n e = miss (1 ∷ 2 ∷ []) 0 tt h
-no_print (Err NoRoom) h n e = let z : ◌≡◌ {A = ℕ} 0 1 = cc in omega arith
-no_print (Err NotAllowed) h n e = let z : ◌≡◌ {A = ℕ} 0 1 = cc in omega arith
-
-no_count : (w : Result ℕ NotWritten) → OneOf (1 ∷ 2 ∷ []) (tag_of the_written w) → (n : ℕ) → w ≡ Ok n → ⊥
-no_count (Ok m) h n e = miss (1 ∷ 2 ∷ []) 0 tt h
-no_count (Err NoRoom) h n e = let z : ◌≡◌ {A = ℕ} 0 1 = cc in omega arith
-no_count (Err NoText) h n e = let z : ◌≡◌ {A = ℕ} 0 1 = cc in omega arith
 
 module _ (board : List ℕ) (d : Day) (out : List ℕ) (big : longest_report ≤ length out) (r : Result ℕ NotPrinted) (out₁ : List ℕ) (p : Prints board out 0 r out₁) where
   room : (feed : List ℕ) → 0 + length (report_of most_lines feed) ≤ length out
   room feed = omega (arith, report_size most_lines feed)
 
-  pub fills_nothing : OneOf (1 ∷ 2 ∷ []) (tag_of the-printed r) → Fills board d out 0 out₁
-  fills_nothing h feed held q = absurd (no_print r h _ (report_printed most_lines q out 0 (room feed) r out₁ p).0)
+  pub fills_nothing : ((n : ℕ) → r ≡ Ok n → ⊥) → Fills board d out 0 out₁
+  fills_nothing h feed held q = absurd (h _ (report_printed most_lines q out 0 (room feed) r out₁ p).0)
 
   module _ (n : ℕ) (e : r ≡ Ok n) (w : Result ℕ NotWritten) (out₂ : List ℕ) (k : Counts d.lines d.taken out₁ n w out₂) where
     whole : (feed held : List ℕ) → ReadTo feed board held d
@@ -52,8 +35,8 @@ module _ (board : List ℕ) (d : Day) (out : List ℕ) (big : longest_report ≤
         let y : n ≡ 0 + length (text_in board) = cc in
         f.1 w out₂ (rw y at k)
 
-    pub fills_none : OneOf (1 ∷ 2 ∷ []) (tag_of the_written w) → Fills board d out 0 out₂
-    fills_none h feed held q = absurd (no_count w h _ (whole feed held q).0)
+    pub fills_none : ((n : ℕ) → w ≡ Ok n → ⊥) → Fills board d out 0 out₂
+    fills_none h feed held q = absurd (h _ (whole feed held q).0)
 
     pub fills_all : (m : ℕ) → w ≡ Ok m → Fills board d out m out₂
     fills_all m g feed held q =

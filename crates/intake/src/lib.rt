@@ -129,12 +129,10 @@ fn fill(board: &[u64], day: Day, out: &mut [u8; LONGEST_REPORT]) -> usize
     ensures upper_bound { result ≤ length out.new }
     ensures fills { Fills board.now day out.old result out.new }
 {
-    let printed = print(board, out, 0);
-    let Ok(n) = printed else {
+    let Ok(n) = print(board, out, 0) else {
         return 0;
     };
-    let counted = print_counts(day.lines as u32, day.taken as u32, out, n);
-    let Ok(m) = counted else {
+    let Ok(m) = print_counts(day.lines as u32, day.taken as u32, out, n) else {
         return 0;
     };
     m

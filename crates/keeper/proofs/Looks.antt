@@ -2,20 +2,17 @@
 use Rattle.std.specs.Prelude.{Err, Ok, Result}
 use mathlib.Core.Path.{◌≡◌, refl, sym, ap, ◌∙◌}
 use mathlib.Core.Bool.{Bool, true, false, cond}
-use mathlib.Core.List.{List, [], ◌∷◌, ◌++◌}
+use mathlib.Core.List.{List, ◌++◌}
 use Prim.Native.Nat.{ℕ, ◌-◌, ◌≤◌, ◌<◌}
 use native.Mathlib.Omega.{arith}
 use lib.Dec.{ltb}
 use lib.ListN.{length, replicate, length-append, length-replicate}
 use lib.Seq.{drop_at}
 use borrow.Author.Tests.{ltb-true, ltb-false}
-use denote.Enum.Declared.{tag_of}
-use types.Run.{OneOf}
 use Rattle.dayfile.specs.DayFile.{version1, Sound, trailer_size}
 use Rattle.dayfile.specs.Opening.{offsets_in, open_by, agree, lines_part, index_part, or_wrong_lines, tail_of, open_of}
 use Rattle.dayfile.specs.declared.Trailer.{Trailer}
 use Rattle.dayfile.specs.declared.Contents.{Contents}
-use Rattle.dayfile.specs.contracts.Opened.{the_type}
 use Rattle.dayfile.proofs.Files.{sound_1, eight_bytes}
 use Rattle.dayfile.proofs.Opening.{too_short, no_day}
 use Rattle.keeper.specs.Lists.{Judged, Told}
@@ -53,7 +50,7 @@ told_by_lem {r = r} size tail e told = go (ltb size 8) refl
         record { file = file; sized = same; tells = told ∙ ap (λ (n : ℕ). open_by version1 n tail) (sym same) ∙ ap (open_by version1 (length file)) (sym last) }
 
 -- 20 to 22 are `open`'s answers
-pub told_judged : {size : ℕ} {r : (Result Contents NotOpened)} → Told size r → OneOf (1 ∷ 2 ∷ 3 ∷ 4 ∷ []) (tag_of the_type r) → Judged size r
+pub told_judged : {size : ℕ} {r : (Result Contents NotOpened)} {e : NotOpened} → Told size r → r ≡ Err e → Judged size r
 told_judged t h = record { file = t.file; sized = t.sized; answer = no_day (record { by = t.tells }) h }
 
 -- what opens is told by its last bytes
@@ -65,7 +62,7 @@ module _ {size : ℕ} {c : Contents} (j : Judged size (Ok c)) where
       go : (o : Result Contents NotOpened) → Ok c ≡ or_wrong_lines o j.file → Ok c ≡ o
       go (Ok d) e = by (agree (lines_part d j.file) (offsets_in (index_part d j.file))) e
         where
-          by : (b : Bool) → Ok c ≡ cond b (Ok d) (Err WrongLines) → Ok c ≡ Ok d
+          by : (b : Bool) → ◌≡◌ {A = Result Contents NotOpened} (Ok c) (cond b (Ok d) (Err WrongLines)) → ◌≡◌ {A = Result Contents NotOpened} (Ok c) (Ok d)
           by true q = q
           by false q = cc
       go (Err TooShort) e = cc

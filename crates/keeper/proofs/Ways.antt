@@ -20,7 +20,6 @@ use Rattle.cutter.specs.declared.CutAnswer.TheVariants as cut
 use Rattle.cutter.specs.contracts.CutAnswer as cut-answer
 use Rattle.dayfile.specs.Keeping.{kept_of, out_after, run_after}
 use Rattle.dayfile.specs.declared.Place.{Place}
-use Rattle.dayfile.specs.contracts.Kept as kept-answer
 use Rattle.dayfile.proofs.Puts.{then_put}
 use Rattle.keeper.specs.Keep.{counted_line, told_left, TakesUp}
 use Rattle.keeper.specs.Work.{is_on}
@@ -36,14 +35,16 @@ module _ (a : Result Place NotKept) (k : Keep) where
   unfolding counted_line
   counted_next q e = rw e
 
-pub counted_full : (a : Result Place NotKept) (k : Keep) → OneOf (1 ∷ 2 ∷ 3 ∷ 4 ∷ []) (tag_of kept-answer.the_type a)
-    → record { begun = k.begun; lines = k.lines + 1; place = k.place; full = true } ≡ counted_line a k
+full_line : (e : NotKept) (k : Keep) → record { begun = k.begun; lines = k.lines + 1; place = k.place; full = true } ≡ counted_line (Err e) k
 unfolding counted_line
-counted_full (Ok q) k h = absurd (miss (1 ∷ 2 ∷ 3 ∷ 4 ∷ []) 0 tt h)
-counted_full (Err TooLong) k h = refl
-counted_full (Err LineFeed) k h = refl
-counted_full (Err TooMany) k h = refl
-counted_full (Err NoRoom) k h = refl
+full_line TooLong k = refl
+full_line LineFeed k = refl
+full_line TooMany k = refl
+full_line NoRoom k = refl
+
+pub counted_full : {e : NotKept} (a : Result Place NotKept) (k : Keep) → a ≡ Err e
+    → record { begun = k.begun; lines = k.lines + 1; place = k.place; full = true } ≡ counted_line a k
+counted_full {e} a k is = rw is (full_line e k)
 
 -- ---- `take_up`
 

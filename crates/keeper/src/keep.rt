@@ -5,7 +5,7 @@ ghost use Rattle.cutter.specs.Cases.{told_by};
 ghost use Rattle.keeper.specs.Keep.{counted_line, TakesUp, Roomy, GoesOn, Steps};
 
 use cutter::{Begun, CutAnswer, cut, line};
-use dayfile::{NotKept, MOST_LINES, Place, keep_from};
+use dayfile::{MOST_LINES, NotKept, Place, keep_from};
 use intake::STANDARD_ERROR;
 
 // What is kept from block to block: the cutter's state, how many lines were looked at, how far the file is, and whether a line did not fit.
@@ -39,7 +39,7 @@ fn count_line(keep: Keep, kept: Result<Place, NotKept>) -> Keep
             place: next,
             full: false,
         },
-        _ => Keep {
+        Err(_) => Keep {
             begun,
             lines: keep.lines + 1,
             place,
