@@ -17,7 +17,7 @@ use Rattle.checks.specs.declared.Asked.{Asked}
 use Rattle.checks.proofs.Joins.{feeds_told}
 use Rattle.intake.specs.Desk.{Next, More, Last}
 use Rattle.intake.specs.declared.checking.Work.{Work}
-use Rattle.intake.proofs.output.hand_over.Reads as hand-over
+use Rattle.intake.proofs.output.Output.hand_over.Reads as hand-over
 use Rattle.intake.proofs.checking.check_feed.Reads as check-feed
 
 -- ---- EACH PIECE STANDS IN ITS PLACE: after so many bytes, the text is what stands there in what is said of a feed of as many bytes as came

@@ -8,11 +8,11 @@ use Rattle.text.specs.Text.{spliced}
 use Rattle.text.proofs.Logic.{same_test, not_fails}
 use Rattle.intake.specs.declared.input.Input.{Input}
 use Rattle.intake.proofs.Options.{asks_one}
-use Rattle.intake.proofs.input.is_barren.Reads as is-barren
-use Rattle.intake.proofs.input.is_live.Reads as is_live
-use Rattle.intake.proofs.input.next.Reads as next
-use Rattle.intake.proofs.input.start.Reads as start
-use Rattle.intake.proofs.input.total.Reads as total
+use Rattle.intake.proofs.input.Input.is_barren.Reads as is-barren
+use Rattle.intake.proofs.input.Input.is_live.Reads as is_live
+use Rattle.intake.proofs.input.Input.next.Reads as next
+use Rattle.intake.proofs.input.Input.start.Reads as start
+use Rattle.intake.proofs.input.Input.total.Reads as total
 use Rattle.intake.proofs.is_torn.Reads as is-torn
 use Rattle.intake.proofs.report.Reads as report
 use Rattle.intake.proofs.words.is_help.Reads as is-help

@@ -5,10 +5,10 @@ ghost use Rattle.rules.specs.Frame.{longest_line};
 ghost use Rattle.checks.specs.Part.{longest_saying};
 ghost use Rattle.intake.specs.Desk.{Kept, Works, is_on, Whole, Done};
 
+use crate::STANDARD_ERROR;
 use crate::ends::{Source, Target};
 use crate::input::Input;
-use crate::output::{Output, hand_over};
-use crate::{STANDARD_ERROR, input, output};
+use crate::output::Output;
 use checks::{Asked, LONGEST_SAYING, Sums, check};
 use cutter::Begun;
 use rules::LONGEST_LINE;
@@ -28,12 +28,7 @@ pub struct Work {
 fn is_on(work: Work) -> bool
     ensures { result ≡ is_on work }
 {
-    let input = work.input;
-    if !input::is_live(input) {
-        return false;
-    }
-    let output = work.output;
-    output::is_live(output)
+    work.input.is_live() && work.output.is_live()
 }
 
 // One read, what is said of what came, and that handed over.
@@ -52,18 +47,13 @@ fn check_block(
     requires block_in_bounds { longest_saying * length block.old ≤ length out.old }
     ensures { Works asked work (length block.new) held.new result }
 {
-    let before = work.input;
-    let sums = work.sums;
-    let output = work.output;
-    let input = input::next(before, name, block, source);
-    let n = input::total(input) - input::total(before);
-    let said = check(held, asked, sums, &block[..n], out);
-    let size = said.size;
-    let sums = said.sums;
-    let output = hand_over(output, input, asked, &out[..size], to);
+    let input = work.input.next(name, block, source);
+    let n = input.total() - work.input.total();
+    let said = check(held, asked, work.sums, &block[..n], out);
+    let output = work.output.hand_over(input, asked, &out[..said.size], to);
     Work {
         input,
-        sums,
+        sums: said.sums,
         output,
     }
 }
@@ -82,22 +72,19 @@ fn check_all(
     requires block_in_bounds { longest_saying * length block.old ≤ length out.old }
     ensures { Whole asked held.new result }
 {
-    let input = input::start(source.number());
-    let output = output::start();
     let sums = Sums {
         begun: Begun::Held(0),
         lines: 0,
         read: 0,
     };
     let mut work = Work {
-        input,
+        input: Input::start(source.number()),
         sums,
-        output,
+        output: Output::start(),
     };
-    let mut on = true;
-    while on {
+    // how often it turns, what comes decides
+    while is_on(work) {
         work = check_block(name, asked, block, held, out, work, source, to);
-        on = is_on(work);
     }
     work
 }
@@ -108,19 +95,12 @@ fn finish(asked: Asked, held: &[u8], out: &mut [u8], work: Work, to: &Target) ->
     requires longest_saying_in_bounds { longest_saying ≤ length out.old }
     ensures { Done asked result }
 {
-    let input = work.input;
-    let sums = work.sums;
-    let output = work.output;
-    if !output::is_live(output) {
+    if !work.output.is_live() {
         return work;
     }
-    let size = checks::end(held, sums, out);
-    let output = hand_over(output, input, asked, &out[..size], to);
-    Work {
-        input,
-        sums,
-        output,
-    }
+    let size = checks::end(held, work.sums, out);
+    let output = work.output.hand_over(work.input, asked, &out[..size], to);
+    Work { output, ..work }
 }
 
 // Reads the feed that the source gives, to its end or to a read that fails, and hands over what is said of each of its lines.
@@ -145,8 +125,7 @@ fn tell(name: &[u8], n: usize, after: &[u8]) {
 // nothing to sum up.
 pub fn run(source: &Source, name: &[u8], asked: Asked, to: &Target) {
     let work = check_feed(source, name, asked, to);
-    let input = work.input;
-    if input::is_barren(input) {
+    if work.input.is_barren() {
         return;
     }
     let sums = work.sums;

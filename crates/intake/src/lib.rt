@@ -56,11 +56,7 @@ pub struct Reported {
 fn is_more(day: Day) -> bool
     ensures { result ≡ is_more day }
 {
-    let input = day.input;
-    if !input::is_live(input) {
-        return false;
-    }
-    day.lines < MOST_LINES
+    day.input.is_live() && day.lines < MOST_LINES
 }
 
 // A block of the feed, taken in as a whole.
@@ -68,12 +64,10 @@ fn take_in(board: &mut [u64], held: &mut [u8], day: Day, input: Input, block: &[
     requires { Kept board.old held.old day }
     ensures { (result.input ≡ input) × TakesIn board.old held.old day block.now board.new held.new result }
 {
-    let begun = day.begun;
-    let fed = feed_allowed(board, held, begun, MOST_LINES - day.lines, block);
-    let begun = fed.begun;
+    let fed = feed_allowed(board, held, day.begun, MOST_LINES - day.lines, block);
     Day {
         input,
-        begun,
+        begun: fed.begun,
         lines: day.lines + fed.lines,
         taken: day.taken + fed.taken,
     }
@@ -91,9 +85,8 @@ fn read_block(
     requires { Kept board.old held.old day }
     ensures { Reads board.old held.old day block.new board.new held.new result }
 {
-    let before = day.input;
-    let input = input::next(before, name, block, source);
-    let n = input::total(input) - input::total(before);
+    let input = day.input.next(name, block, source);
+    let n = input.total() - day.input.total();
     take_in(board, held, day, input, &block[..n])
 }
 
@@ -108,17 +101,15 @@ fn read_all(
     requires { AtStart board.old held.old }
     ensures { ReadWhole board.new held.new result }
 {
-    let input = input::start(source.number());
     let mut day = Day {
-        input,
+        input: Input::start(source.number()),
         begun: Begun::Held(0),
         lines: 0,
         taken: 0,
     };
-    let mut more = true;
-    while more {
+    // how often it turns, what comes decides
+    while is_more(day) {
         day = read_block(name, block, board, held, day, source);
-        more = is_more(day);
     }
     day
 }
@@ -142,9 +133,7 @@ fn fill(board: &[u64], day: Day, out: &mut [u8; LONGEST_REPORT]) -> usize
 pub fn is_torn(held: &[u8], begun: Begun) -> bool
     ensures { result ≡ is_torn held.now begun }
 {
-    let end = cutter::end(held, begun);
-    let answer = end.answer;
-    match answer {
+    match cutter::end(held, begun).answer {
         EndAnswer::InsideLine => true,
         EndAnswer::AtStart => false,
         EndAnswer::NotAllowed => false,
@@ -163,8 +152,7 @@ pub fn report(source: &Source, name: &[u8], out: &mut [u8; LONGEST_REPORT]) -> R
     let mut block = io::large_buffer();
     let day = read_all(source, name, &mut block, &mut board, &mut held);
     let size = fill(&board, day, out);
-    let begun = day.begun;
-    let torn = is_torn(&held, begun);
+    let torn = is_torn(&held, day.begun);
     Reported { day, size, torn }
 }
 
@@ -180,9 +168,7 @@ pub fn say(name: &[u8], word: &[u8]) {
 pub fn run(source: &Source, name: &[u8], to: &Target) {
     let mut out = [0u8; LONGEST_REPORT];
     let reported = report(source, name, &mut out);
-    let day = reported.day;
-    let input = day.input;
-    if input::is_barren(input) {
+    if reported.day.input.is_barren() {
         return;
     }
     if reported.torn {
@@ -191,6 +177,5 @@ pub fn run(source: &Source, name: &[u8], to: &Target) {
             b"the last line has no line feed, so it is no line (answer 17)",
         );
     }
-    let size = reported.size;
-    hand_report(reported, &out[..size], to);
+    hand_report(reported, &out[..reported.size], to);
 }

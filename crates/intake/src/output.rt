@@ -26,51 +26,47 @@ pub struct Output {
     live: bool,
 }
 
-pub(crate) fn start() -> Output
-    ensures { (result.total ≡ 0) × (result.live ≡ true) }
-{
-    Output {
-        total: 0,
-        live: true,
+impl Output {
+    pub(crate) fn start() -> Output
+        ensures { (result.total ≡ 0) × (result.live ≡ true) }
+    {
+        Output {
+            total: 0,
+            live: true,
+        }
     }
-}
 
-// A write failed, or more bytes than any output has.
-fn closed(output: Output) -> Output
-    ensures { result.live ≡ false }
-{
-    Output {
-        total: output.total,
-        live: false,
+    // A write failed, or more bytes than any self has.
+    fn closed(self) -> Output
+        ensures { result.live ≡ false }
+    {
+        Output {
+            total: self.total,
+            live: false,
+        }
     }
-}
 
-// What is said next of what came in, and nothing else.
-pub(crate) fn hand_over(
-    output: Output,
-    input: Input,
-    asked: Asked,
-    text: &[u8],
-    to: &Target,
-) -> Output
-    requires { Next asked input.total output.total text.now }
-    ensures { Handed output (length text.now) result }
-{
-    if text.len() > usize::MAX - output.total {
-        return closed(output);
+    // What is said next of what came in, and nothing else.
+    pub(crate) fn hand_over(self, input: Input, asked: Asked, text: &[u8], to: &Target) -> Output
+        requires { Next asked input.total self.total text.now }
+        ensures { Handed self (length text.now) result }
+    {
+        if text.len() > usize::MAX - self.total {
+            return self.closed();
+        }
+        if let Err(error) = to.write(STANDARD_OUTPUT, text) {
+            fail(b"standard output", &error);
+            return self.closed();
+        }
+        Output {
+            total: self.total + text.len(),
+            live: true,
+        }
     }
-    if let Err(error) = to.write(STANDARD_OUTPUT, text) {
-        fail(b"standard output", &error);
-        return closed(output);
-    }
-    Output {
-        total: output.total + text.len(),
-        live: true,
-    }
-}
 
-pub(crate) fn is_live(output: Output) -> bool
-    ensures { result ≡ output.live }
-{
-    output.live
+    pub(crate) fn is_live(self) -> bool
+        ensures { result ≡ self.live }
+    {
+        self.live
+    }
 }

@@ -17,8 +17,8 @@ use Rattle.dayfile.specs.DayFile.{version1, trailer_size, lines_text, starts_fro
 use Rattle.dayfile.specs.Opening.{open_by, open_of}
 use Rattle.keeper.specs.Keep.{kept_after, looked_at, kept_in, day_file_of}
 use Rattle.keeper.specs.Work.{Piece, Lines, Closing}
-use Rattle.keeper.proofs.shelf.put_day.Reads as put-day
-use Rattle.keeper.proofs.shelf.put_lines.Reads as put-lines
+use Rattle.keeper.proofs.shelf.Shelf.put_day.Reads as put-day
+use Rattle.keeper.proofs.shelf.Shelf.put_lines.Reads as put-lines
 use Rattle.keeper.proofs.work.keep_feed.Reads as keep-feed
 use Rattle.keeper.proofs.lists.look.Reads as look
 use Rattle.dayfile.specs.declared.NotOpened.TheVariants.{TooShort}

@@ -27,7 +27,7 @@ use Rattle.keeper.specs.declared.work.Outcome.{Outcome}
 use Rattle.keeper.proofs.Kept.{goes_on, stops, grows, kept_run}
 use Rattle.keeper.proofs.Parts.{more_lines}
 use Rattle.keeper.proofs.Wholes.{wholes, the_first, keeps_all, texts_run}
-use Rattle.keeper.proofs.shelf.put_day.Reads as put-day
+use Rattle.keeper.proofs.shelf.Shelf.put_day.Reads as put-day
 use Rattle.keeper.proofs.work.keep_feed.Reads as keep-feed
 
 -- ---- what comes later changes nothing of what is kept already

@@ -22,7 +22,7 @@ use Rattle.dayfile.proofs.Windows.{swept_first, swept_size, swept_all}
 use Rattle.keeper.specs.Lists.{ReadFrom, Turns, lines_window, index_window, goes_on, verdict_of, Over, begun, turned}
 use Rattle.keeper.specs.declared.pass.Pass.{Pass}
 use Rattle.keeper.proofs.Passes.{too_few, last_told, day_end, goes_no_further}
-use Rattle.keeper.proofs.shelf.put_lines.Reads as put-lines
+use Rattle.keeper.proofs.shelf.Shelf.put_lines.Reads as put-lines
 use Rattle.keeper.proofs.lists.open_end.Reads as open-end
 use Rattle.keeper.proofs.lists.look_at_end.Reads as look-at-end
 use Rattle.keeper.proofs.pass.judge.Reads as judge

@@ -7,7 +7,6 @@ ghost use Rattle.keeper.specs.Lists.{ReadFrom, Judged, verdict_of};
 
 use crate::pass::{Pass, go_over};
 use crate::volume::{Filled, Volume};
-use crate::{shelf, volume};
 use dayfile::{Contents, NotOpened, open_tail, version_1};
 use intake::ends::Target;
 use intake::files::open;
@@ -37,15 +36,15 @@ pub(crate) fn look_at_end(volume: Volume, name: &[u8], tail: &mut [u8], file: &F
     requires tail_len { length tail.old ≡ 8 }
     ensures { result.read ≡ true → result.opened ≡ open_by version1 volume.size tail.new }
 {
-    let size = volume::size(volume);
+    let size = volume.size();
     if size < 8 {
         return Looked {
             opened: Err(NotOpened::TooShort),
             read: true,
         };
     }
-    let end = volume::fill(volume, name, size - 8, tail, file);
-    if !volume::is_filled(end) {
+    let end = volume.fill(name, size - 8, tail, file);
+    if !end.is_filled() {
         return Looked {
             opened: Err(NotOpened::TooShort),
             read: false,
@@ -100,14 +99,12 @@ pub(crate) fn list(volume: Volume, name: &[u8], day: Contents, file: &File, to: 
     if !pass.read {
         return;
     }
-    let shelf = pass.shelf;
-    if !shelf::is_live(shelf) {
+    if !pass.shelf.is_live() {
         return;
     }
-    let again = verdict(day, pass);
-    let Ok(_) = again else {
-        return say(name, b"it was changed while it was read");
-    };
+    if verdict(day, pass).is_err() {
+        say(name, b"it was changed while it was read");
+    }
 }
 
 // The lines of a file that opens; the number and the sentence of one that does not.
@@ -118,8 +115,7 @@ fn answer(volume: Volume, name: &[u8], file: &File, to: &Target)
     if !looked.read {
         return;
     }
-    let opened = looked.opened;
-    match opened {
+    match looked.opened {
         Ok(day) => list(volume, name, day, file, to),
         Err(NotOpened::TooShort) => say(name, b"no day file: under eight bytes (answer 20)"),
         Err(NotOpened::UnknownVersion) => say(name, b"no day file: unknown version (answer 21)"),
@@ -137,8 +133,8 @@ fn answer(volume: Volume, name: &[u8], file: &File, to: &Target)
 // Writes the lines of the day file that is named to standard output, which the caller brings.
 pub fn run<R: Files<File = File>>(rt: &R, name: &[u8], to: &Target) {
     if let Some(file) = open(rt, name) {
-        let volume = volume::measure(&file, name);
-        if volume::is_whole(volume) {
+        let volume = Volume::measure(&file, name);
+        if volume.is_whole() {
             answer(volume, name, &file, to);
         }
     }

@@ -5,7 +5,6 @@ ghost use Rattle.keeper.specs.Lists.{LinesPiece, AfterLines, Puts, ReadFrom, Tol
 
 use crate::shelf::Shelf;
 use crate::volume::{Filled, Volume};
-use crate::{shelf, volume};
 use dayfile::Contents;
 use dayfile::walking::{Sweep, least, sweep_on};
 use intake::STANDARD_OUTPUT;
@@ -17,7 +16,8 @@ const LINES: usize = 65536;
 
 const INDEX: usize = 8192;
 
-// How far a pass came, where its lines were put, and whether each window could be read.
+// How far a pass came, where its lines were put, and whether each window could be read. A test and no Option: `Turns` and `Passed` promise how far
+// it came, and what it put away, where a window could not be read too.
 #[derive(Clone, Copy)]
 pub struct Pass {
     pub sweep: Sweep,
@@ -33,7 +33,7 @@ fn put(writes: bool, shelf: Shelf, text: &[u8], to: &Target) -> Shelf
     if !writes {
         return shelf;
     }
-    shelf::put_lines(shelf, b"standard output", text, to)
+    shelf.put_lines(b"standard output", text, to)
 }
 
 // How far two windows that were read bring the pass, and their lines put away.
@@ -53,11 +53,9 @@ pub(crate) fn judge(
     requires after_lines { writes ≡ true → AfterLines pass.shelf.total }
     ensures { Judges day writes pass lines.now index.now result }
 {
-    let sweep = pass.sweep;
-    let shelf = pass.shelf;
-    let next = sweep_on(day, sweep, lines, index);
-    let used = next.at - sweep.at;
-    let shelf = put(writes, shelf, &lines[..used], to);
+    let next = sweep_on(day, pass.sweep, lines, index);
+    let used = next.at - pass.sweep.at;
+    let shelf = put(writes, pass.shelf, &lines[..used], to);
     Pass {
         sweep: next,
         shelf,
@@ -69,12 +67,9 @@ pub(crate) fn judge(
 fn unread(pass: Pass) -> Pass
     ensures { result ≡ unread_of pass }
 {
-    let sweep = pass.sweep;
-    let shelf = pass.shelf;
     Pass {
-        sweep,
-        shelf,
         read: false,
+        ..pass
     }
 }
 
@@ -97,14 +92,14 @@ pub(crate) fn turn(
 {
     let sweep = pass.sweep;
     let n = least(day.start - sweep.at, lines.len());
-    let shown = volume::fill(volume, name, sweep.at, &mut lines[..n], file);
-    if !volume::is_filled(shown) {
+    let shown = volume.fill(name, sweep.at, &mut lines[..n], file);
+    if !shown.is_filled() {
         return unread(pass);
     }
     let m = least(4 * (day.lines - sweep.lines), index.len());
     let place = day.start + 4 * sweep.lines;
-    let beside = volume::fill(volume, name, place, &mut index[..m], file);
-    if !volume::is_filled(beside) {
+    let beside = volume.fill(name, place, &mut index[..m], file);
+    if !beside.is_filled() {
         return unread(pass);
     }
     judge(
@@ -126,8 +121,7 @@ fn is_on(day: Contents, before: usize, pass: Pass) -> bool
     if !pass.read {
         return false;
     }
-    let shelf = pass.shelf;
-    if !shelf::is_live(shelf) {
+    if !pass.shelf.is_live() {
         return false;
     }
     let sweep = pass.sweep;
@@ -154,7 +148,7 @@ fn go_on(
     ensures { Passed volume.size day writes result }
 {
     let sweep = Sweep { at: 0, lines: 0 };
-    let shelf = shelf::start(STANDARD_OUTPUT);
+    let shelf = Shelf::start(STANDARD_OUTPUT);
     let mut pass = Pass {
         sweep,
         shelf,
@@ -162,8 +156,7 @@ fn go_on(
     };
     let mut on = day.lines > 0;
     while on {
-        let sweep = pass.sweep;
-        let before = sweep.lines;
+        let before = pass.sweep.lines;
         pass = turn(volume, name, day, writes, pass, lines, index, file, to);
         on = is_on(day, before, pass);
     }

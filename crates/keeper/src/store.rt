@@ -5,12 +5,12 @@ ghost use Rattle.text.specs.Bytes.{bytes};
 ghost use Rattle.keeper.specs.Work.{Done};
 
 use crate::keep::tell;
-use crate::shelf;
+use crate::shelf::Shelf;
 use crate::work::{Outcome, keep_feed};
 use intake::ends::{Source, Target};
 use intake::failure::fail;
 use intake::files::path_of;
-use intake::{STANDARD_ERROR, input, say};
+use intake::{STANDARD_ERROR, say};
 use std::fs;
 use std::fs::{File, OpenOptions};
 use std::io::{ErrorKind, Result};
@@ -20,18 +20,28 @@ use text::writing::put_bytes;
 // A path has at most so many bytes.
 const LONGEST_NAME: usize = 4095;
 
+// A file by what people call it, and by its path.
+#[derive(Clone, Copy)]
+struct Named<'a> {
+    name: &'a [u8],
+    path: &'a str,
+}
+
 // Whether no file has this name. Where one has it, or that cannot be seen, it says so.
-fn is_free<R: Files>(rt: &R, name: &[u8], path: &str) -> bool {
-    match fs::open(rt, path) {
+fn is_free<R: Files>(rt: &R, file: Named<'_>) -> bool {
+    match fs::open(rt, file.path) {
         Ok(_) => {
-            say(name, b"there is such a file already; it stays as it is");
+            say(
+                file.name,
+                b"there is such a file already; it stays as it is",
+            );
             false
         }
         Err(error) => {
             if error.kind() == ErrorKind::NotFound {
                 return true;
             }
-            fail(name, &error);
+            fail(file.name, &error);
             false
         }
     }
@@ -57,9 +67,7 @@ fn unended(outcome: Outcome) -> usize
     if !outcome.torn {
         return 0;
     }
-    let work = outcome.work;
-    let keep = work.keep;
-    if keep.full {
+    if outcome.work.keep.full {
         return 0;
     }
     1
@@ -69,14 +77,12 @@ fn unended(outcome: Outcome) -> usize
 fn tell_torn(outcome: Outcome)
     requires { Done outcome }
 {
-    let work = outcome.work;
-    let keep = work.keep;
     let n = unended(outcome);
     if n == 0 {
         return;
     }
     tell(
-        keep.lines + n,
+        outcome.work.keep.lines + n,
         b" has no line feed, so it is no line and is not kept (answer 17)\n",
     );
 }
@@ -85,36 +91,28 @@ fn tell_torn(outcome: Outcome)
 fn tell_sums(outcome: Outcome)
     requires { Done outcome }
 {
-    let work = outcome.work;
-    let keep = work.keep;
-    let place = keep.place;
-    let lost = keep.lines - place.count + unended(outcome);
+    let keep = outcome.work.keep;
+    let kept = keep.place.count;
+    let lost = keep.lines - kept + unended(outcome);
     io::write_all(STANDARD_ERROR, b"KEPT ");
-    io::print_decimal(STANDARD_ERROR, place.count as u64);
+    io::print_decimal(STANDARD_ERROR, kept as u64);
     io::write_all(STANDARD_ERROR, b" NOT KEPT ");
     io::print_decimal(STANDARD_ERROR, lost as u64);
     io::write_all(STANDARD_ERROR, b"\n");
 }
 
 // Flushes the part to the disk and gives it its name; whether it has it.
-fn settle<R: Files>(
-    rt: &R,
-    target: Target,
-    name: &[u8],
-    path: &str,
-    part: &[u8],
-    part_path: &str,
-) -> bool {
+fn settle<R: Files>(rt: &R, target: Target, file: Named<'_>, part: Named<'_>) -> bool {
     if let Err(error) = target.settle() {
-        fail(part, &error);
+        fail(part.name, &error);
         return false;
     }
     drop(target);
-    if !is_free(rt, name, path) {
+    if !is_free(rt, file) {
         return false;
     }
-    if let Err(error) = fs::rename(rt, part_path, path) {
-        fail(name, &error);
+    if let Err(error) = fs::rename(rt, part.path, file.path) {
+        fail(file.name, &error);
         return false;
     }
     true
@@ -129,36 +127,26 @@ fn create<R: Files>(rt: &R, path: &str) -> Result<R::File> {
 }
 
 // Keeps the feed in the part. One without a byte, because a read failed, leaves none; one that was not written whole stays as it is.
-fn keep_in<R: Files<File = File>>(
-    rt: &R,
-    source: &Source,
-    name: &[u8],
-    path: &str,
-    part: &[u8],
-    part_path: &str,
-) {
-    let target = match create(rt, part_path) {
-        Ok(file) => Target::Named(file),
-        Err(error) => return fail(part, &error),
+fn keep_in<R: Files<File = File>>(rt: &R, source: &Source, file: Named<'_>, part: Named<'_>) {
+    let target = match create(rt, part.path) {
+        Ok(opened) => Target::Named(opened),
+        Err(error) => return fail(part.name, &error),
     };
-    let outcome = keep_feed(source, part, shelf::start(target.number()), &target);
+    let outcome = keep_feed(source, part.name, Shelf::start(target.number()), &target);
     tell_torn(outcome);
-    let work = outcome.work;
-    let input = work.input;
-    let shelf = work.shelf;
-    if input::is_barren(input) {
+    if outcome.work.input.is_barren() {
         drop(target);
-        let _ = fs::remove_file(rt, part_path);
+        let _ = fs::remove_file(rt, part.path);
         return;
     }
-    if !shelf::is_live(shelf) {
+    if !outcome.work.shelf.is_live() {
         return say(
-            part,
+            part.name,
             b"holds what was written before that, and is no day file",
         );
     }
-    if !settle(rt, target, name, path, part, part_path) {
-        return say(part, b"holds what was kept");
+    if !settle(rt, target, file, part) {
+        return say(part.name, b"holds what was kept");
     }
     tell_sums(outcome);
 }
@@ -174,7 +162,8 @@ pub fn run<R: Files<File = File>>(rt: &R, source: &Source, name: &[u8]) {
     let Some(path) = path_of(name) else {
         return;
     };
-    if !is_free(rt, name, path) {
+    let file = Named { name, path };
+    if !is_free(rt, file) {
         return;
     }
     let mut part = io::buffer();
@@ -182,5 +171,9 @@ pub fn run<R: Files<File = File>>(rt: &R, source: &Source, name: &[u8]) {
     let Some(part_path) = path_of(&part[..n]) else {
         return;
     };
-    keep_in(rt, source, name, path, &part[..n], part_path);
+    let part = Named {
+        name: &part[..n],
+        path: part_path,
+    };
+    keep_in(rt, source, file, part);
 }

@@ -18,60 +18,13 @@ const TOO_LARGE: i32 = 27;
 
 const NOT_OPEN: i32 = 9;
 
-// A file, how many bytes it has, and whether these can be read from any place.
+// A file, by its number, how many bytes it has, and whether these can be read from any place. The file itself is lent to each read: what the specs
+// say of a window speaks of sizes, and a file that is borrowed here would give it a lifetime for one test that goes.
 #[derive(Clone, Copy)]
 pub struct Volume {
     fd: i32,
     size: usize,
     whole: bool,
-}
-
-// A file that cannot be read from any place.
-fn unmeasured(fd: i32, name: &[u8], error: &Error) -> Volume
-    ensures { result.size < 2 ^ 63 }
-{
-    fail(name, error);
-    Volume {
-        fd,
-        size: 0,
-        whole: false,
-    }
-}
-
-// How long the file is. One that has no places, as a pipe, or no bytes, as a directory, says so by its first byte.
-pub(crate) fn measure(file: &File, name: &[u8]) -> Volume
-    ensures { result.size < 2 ^ 63 }
-{
-    let fd = file.as_raw_fd();
-    let mut first = [0u8; 1];
-    if let Err(error) = file.read_at(&mut first, 0) {
-        return unmeasured(fd, name, &error);
-    }
-    let mut places = file;
-    let end = match places.seek(SeekFrom::End(0)) {
-        Ok(end) => end,
-        Err(error) => return unmeasured(fd, name, &error),
-    };
-    if end > LONGEST_FILE {
-        return unmeasured(fd, name, &Error::from_raw_os_error(TOO_LARGE));
-    }
-    Volume {
-        fd,
-        size: end as usize,
-        whole: true,
-    }
-}
-
-pub(crate) fn size(volume: Volume) -> usize
-    ensures { result ≡ volume.size }
-{
-    volume.size
-}
-
-pub(crate) fn is_whole(volume: Volume) -> bool
-    ensures { result ≡ volume.whole }
-{
-    volume.whole
 }
 
 // A window that was read: from which place of the file on, how many bytes, and whether all came. Nothing outside this file can make one.
@@ -82,10 +35,12 @@ pub struct Filled {
     whole: bool,
 }
 
-pub(crate) fn is_filled(filled: Filled) -> bool
-    ensures { result ≡ filled.whole }
-{
-    filled.whole
+impl Filled {
+    pub(crate) fn is_filled(self) -> bool
+        ensures { result ≡ self.whole }
+    {
+        self.whole
+    }
 }
 
 // One read of the descriptor from a place. A file that has another descriptor is not open here.
@@ -99,45 +54,88 @@ fn read_from(file: &File, fd: i32, window: &mut [u8], place: u64) -> Result<usiz
     file.read_at(window, place)
 }
 
-// Fills the window with the file's bytes from place `from` on. Where they cannot be read, or are not there any more, it says so.
-pub(crate) fn fill(
-    volume: Volume,
-    name: &[u8],
-    from: usize,
-    window: &mut [u8],
-    file: &File,
-) -> Filled
-    requires { from + length window.old < 2 ^ 63 }
-    ensures { (result.from ≡ from) × (result.size ≡ length window.old) }
-{
-    let fd = volume.fd;
-    let size = window.len();
-    let mut done: usize = 0;
-    while done < size {
-        let n = match read_from(file, fd, &mut window[done..], (from + done) as u64) {
-            Ok(n) => n,
-            Err(error) => {
-                fail(name, &error);
+impl Volume {
+    // A file that cannot be read from any place.
+    fn unmeasured(fd: i32, name: &[u8], error: &Error) -> Volume
+        ensures { result.size < 2 ^ 63 }
+    {
+        fail(name, error);
+        Volume {
+            fd,
+            size: 0,
+            whole: false,
+        }
+    }
+
+    // How long the file is. One that has no places, as a pipe, or no bytes, as a directory, says so by its first byte.
+    pub(crate) fn measure(file: &File, name: &[u8]) -> Volume
+        ensures { result.size < 2 ^ 63 }
+    {
+        let fd = file.as_raw_fd();
+        let mut first = [0u8; 1];
+        if let Err(error) = file.read_at(&mut first, 0) {
+            return Volume::unmeasured(fd, name, &error);
+        }
+        let mut places = file;
+        let end = match places.seek(SeekFrom::End(0)) {
+            Ok(end) => end,
+            Err(error) => return Volume::unmeasured(fd, name, &error),
+        };
+        if end > LONGEST_FILE {
+            return Volume::unmeasured(fd, name, &Error::from_raw_os_error(TOO_LARGE));
+        }
+        Volume {
+            fd,
+            size: end as usize,
+            whole: true,
+        }
+    }
+
+    pub(crate) fn size(self) -> usize
+        ensures { result ≡ self.size }
+    {
+        self.size
+    }
+
+    pub(crate) fn is_whole(self) -> bool
+        ensures { result ≡ self.whole }
+    {
+        self.whole
+    }
+
+    // Fills the window with the file's bytes from place `from` on. Where they cannot be read, or are not there any more, it says so.
+    pub(crate) fn fill(self, name: &[u8], from: usize, window: &mut [u8], file: &File) -> Filled
+        requires { from + length window.old < 2 ^ 63 }
+        ensures { (result.from ≡ from) × (result.size ≡ length window.old) }
+    {
+        let size = window.len();
+        let mut done: usize = 0;
+        while done < size {
+            let n = match read_from(file, self.fd, &mut window[done..], (from + done) as u64) {
+                Ok(n) => n,
+                Err(error) => {
+                    fail(name, &error);
+                    return Filled {
+                        from,
+                        size,
+                        whole: false,
+                    };
+                }
+            };
+            if n == 0 {
+                intake::say(name, b"it ended while it was read");
                 return Filled {
                     from,
                     size,
                     whole: false,
                 };
             }
-        };
-        if n == 0 {
-            intake::say(name, b"it ended while it was read");
-            return Filled {
-                from,
-                size,
-                whole: false,
-            };
+            done += n;
         }
-        done += n;
-    }
-    Filled {
-        from,
-        size,
-        whole: true,
+        Filled {
+            from,
+            size,
+            whole: true,
+        }
     }
 }

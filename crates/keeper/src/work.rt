@@ -4,14 +4,12 @@ ghost use Rattle.rules.specs.Frame.{longest_line};
 ghost use Rattle.keeper.specs.Work.{is_on, IsStored, Works, Whole, Led, Closes, Done};
 
 use crate::keep::{Keep, keep_part};
-use crate::shelf;
-use crate::shelf::{Shelf, put_day};
+use crate::shelf::Shelf;
 use cutter::Begun;
 use dayfile::ending::put_trailer;
 use dayfile::numbers::put_index;
 use dayfile::{MOST_LINES, Place, version_1};
 use intake::ends::{Source, Target};
-use intake::input;
 use intake::input::Input;
 use rules::LONGEST_LINE;
 
@@ -40,16 +38,13 @@ pub struct Work {
 fn is_on(work: Work) -> bool
     ensures { result ≡ is_on work }
 {
-    let input = work.input;
-    if !input::is_live(input) {
+    if !work.input.is_live() {
         return false;
     }
-    let shelf = work.shelf;
-    if !shelf::is_live(shelf) {
+    if !work.shelf.is_live() {
         return false;
     }
-    let keep = work.keep;
-    !keep.full
+    !work.keep.full
 }
 
 // One read, what came kept, and that put away.
@@ -69,17 +64,11 @@ fn keep_block(
     requires offsets_len { length offsets.old ≡ 65535 }
     ensures { Works work (length block.new) held.new offsets.new result }
 {
-    let before = work.input;
-    let keep = work.keep;
-    let shelf = work.shelf;
-    let place = keep.place;
-    let base = place.at;
-    let input = input::next(before, b"standard input", block, source);
-    let n = input::total(input) - input::total(before);
-    let keep = keep_part(held, keep, &block[..n], out, offsets);
-    let place = keep.place;
-    let size = place.at - base;
-    let shelf = put_day(shelf, name, input, &out[..size], to);
+    let input = work.input.next(b"standard input", block, source);
+    let n = input.total() - work.input.total();
+    let keep = keep_part(held, work.keep, &block[..n], out, offsets);
+    let size = keep.place.at - work.keep.place.at;
+    let shelf = work.shelf.put_day(name, input, &out[..size], to);
     Work { input, keep, shelf }
 }
 
@@ -100,19 +89,20 @@ fn keep_all(
     requires total_value { (shelf.total ≡ 0) × (shelf.live ≡ true) }
     ensures { Whole held.new offsets.new result }
 {
-    let input = input::start(source.number());
-    let place = Place { at: 0, count: 0 };
     let keep = Keep {
         begun: Begun::Held(0),
         lines: 0,
-        place,
+        place: Place { at: 0, count: 0 },
         full: false,
     };
-    let mut work = Work { input, keep, shelf };
-    let mut on = true;
-    while on {
+    let mut work = Work {
+        input: Input::start(source.number()),
+        keep,
+        shelf,
+    };
+    // how often it turns, what comes decides
+    while is_on(work) {
         work = keep_block(name, block, held, out, offsets, work, source, to);
-        on = is_on(work);
     }
     work
 }
@@ -122,19 +112,16 @@ fn close(name: &[u8], offsets: &[u32], work: Work, to: &Target) -> Shelf
     requires { Led offsets.now work }
     ensures { Closes offsets.now work result }
 {
-    let input = work.input;
-    let keep = work.keep;
-    let shelf = work.shelf;
-    if !shelf::is_live(shelf) {
-        return shelf;
+    if !work.shelf.is_live() {
+        return work.shelf;
     }
-    let place = keep.place;
+    let place = work.keep.place;
     let count = place.count;
     let size = 4 * count + 8;
     let mut closing = [0u8; CLOSING];
     put_index(&offsets[..count], &mut closing, 0);
     put_trailer(version_1(), place, &mut closing, 4 * count);
-    put_day(shelf, name, input, &closing[..size], to)
+    work.shelf.put_day(name, work.input, &closing[..size], to)
 }
 
 // Keeps the feed that the source gives, to its end, to a read that fails or to a line that does not fit, and puts its day file on the shelf.
@@ -156,13 +143,10 @@ pub(crate) fn keep_feed(source: &Source, name: &[u8], shelf: Shelf, to: &Target)
         shelf,
         to,
     );
-    let keep = work.keep;
-    let begun = keep.begun;
-    let torn = intake::is_torn(&held, begun);
-    let input = work.input;
+    let torn = intake::is_torn(&held, work.keep.begun);
     let shelf = close(name, &offsets, work, to);
     Outcome {
-        work: Work { input, keep, shelf },
+        work: Work { shelf, ..work },
         torn,
     }
 }

@@ -4,4 +4,4 @@ use borrow.Author.Tests.{not-false}
 use Rattle.keeper.proofs.store.unended.Goals as goal
 
 pub returns : goal.returns
-returns c = omega (arith, c.requires.after c.if-keep.false (not-false _ c.if-not-outcome.false))
+returns c = omega (arith, c.requires.after c.if-outcome.false (not-false _ c.if-not-outcome.false))

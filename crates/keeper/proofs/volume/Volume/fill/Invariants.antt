@@ -2,7 +2,7 @@
 use mathlib.Core.Path.{◌≡◌}
 use Prim.Native.Nat.{◌-◌, ◌≤◌}
 use lib.ListN.{length}
-use Rattle.keeper.proofs.volume.fill.Given as goal
+use Rattle.keeper.proofs.volume.Volume.fill.Given as goal
 
 abbrev pub invariant-loop-done : goal.invariant-loop-done
 invariant-loop-done l = (l.done ≤ length l.window) × (length l.window ≡ length l.initial.window) × (l.size ≡ length l.initial.window)

@@ -4,10 +4,10 @@ use mathlib.Core.Bool.{true, false}
 use native.Mathlib.Omega.{arith}
 use borrow.Author.Rules.{rules}
 use Rattle.intake.proofs.Edges.{none_came, some_came}
-use Rattle.intake.proofs.input.next.Goals as goal
+use Rattle.intake.proofs.input.Input.next.Goals as goal
 
-pub returns-then-block-input-clause-came : goal.returns-then-block-input-clause-came
-returns-then-block-input-clause-came c = none_came _ _ _ false (λ q. refl) c.closed.ensures
+pub returns-then-block-self-clause-came : goal.returns-then-block-self-clause-came
+returns-then-block-self-clause-came c = none_came _ _ _ false (λ q. refl) c.closed.ensures
 
 pub returns-in-Err-clause-came : goal.returns-in-Err-clause-came
 returns-in-Err-clause-came c = none_came _ _ _ true (λ q. absurd (omega arith)) c.closed-in-Err.ensures
