@@ -1,4 +1,5 @@
-// A row as its eleven words: read from the words that hold it, and written into them.
+// A row as its eleven words: read from the words that hold it, and written into them. (A row is named by the place of its first word: the words are
+// lent, and the definitions speak of what stands from there on.)
 ghost use Rattle.std.specs.Prelude.{◌≡◌, ◌+◌, ◌≤◌, length, get_or, drop};
 ghost use Rattle.text.specs.Text.{spliced};
 ghost use Rattle.board.specs.Row.{arrival_words, track_words, row_words, arrival_of, track_of, row_of};

@@ -1,4 +1,6 @@
-// A flight found on an allowed board, its row looked at, written and struck off.
+// A flight found on an allowed board, its row looked at, written and struck off. (That the board is allowed is said by each function here, and in
+// `planner` and `feeding`, and not by a type: the public calls take the words that the caller lends, so that a type over them would be made and taken
+// apart at each call.)
 ghost use Rattle.std.specs.Prelude.{◌≡◌, true, ◌+◌, ◌*◌, ◌-◌, ◌≤◌, ◌<◌, length, get_or};
 ghost use Rattle.board.specs.Row.{is_row};
 ghost use Rattle.board.specs.Rows.{find_in, look_row};

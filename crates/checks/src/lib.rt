@@ -40,6 +40,7 @@ pub struct Sums {
 }
 
 // What is said of a line but for its number: document 01's answer and place, and the words of its type and its flight's key, 0 where there is none.
+// (Numbers and words, since as such they are written; the refusal itself is `line::Refusal`.)
 #[derive(Clone, Copy)]
 pub struct Verdict {
     pub answer: u64,
@@ -67,6 +68,7 @@ pub struct Said {
 fn type_word(kind: MessageType) -> u64
     ensures { result ≡ packed (type_text kind) }
 {
+    // a fixed room: nothing is put on the heap
     let mut letters = [0u8; 2];
     let _ = kind.put(&mut letters, 0);
     pack_known(&letters)

@@ -1,5 +1,5 @@
 // Lines out of the bytes of a feed that comes in parts cut anywhere (document 01, "Cutting"). The bytes of a begun line
-// stand at the start of a buffer that the caller lends.
+// stand at the start of a buffer that the caller lends. (Buffer and state are two arguments and no struct: the one is lent, the other handed on by value.)
 #![tactic(auto)]
 
 ghost use Rattle.std.specs.Prelude.{◌≡◌, take};

@@ -21,6 +21,7 @@ pub fn read(kind: u8, s: &[u8]) -> Option<u64>
 pub fn holds(kind: u8, t: u64) -> bool
     ensures { result ≡ is_word kind t }
 {
+    // a fixed room: nothing is put on the heap
     let mut room = [0u8; 12];
     match writing::put(t, &mut room, 0) {
         Ok(n) => rules::is_form(kind, &room[..n]),

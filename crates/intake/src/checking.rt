@@ -108,6 +108,7 @@ pub(crate) fn check_feed(source: &Source, name: &[u8], asked: Asked, to: &Target
     ensures { Done asked result }
 {
     let mut block = io::buffer();
+    // fixed rooms, whatever the feed: nothing is put on the heap
     let mut held = [0u8; LONGEST_LINE];
     let mut out = [0u8; LONGEST_SAID];
     let work = check_all(source, name, asked, &mut block, &mut held, &mut out, to);

@@ -19,6 +19,7 @@ ghost use Rattle.intake.specs.Day.{Kept, TakesIn, Reads, is_more, ReadWhole, Led
 use crate::ends::{Source, Target};
 use crate::input::Input;
 use crate::output::hand_report;
+use board::WORDS_OF_A_BOARD;
 use cutter::{Begun, EndAnswer};
 use feeding::feed_allowed;
 use printer::{print, print_counts};
@@ -147,7 +148,8 @@ pub fn report(source: &Source, name: &[u8], out: &mut [u8; LONGEST_REPORT]) -> R
     ensures reports { Reports result (take result.size out.new) }
     ensures out_after { out.new ≡ spliced out.old 0 (take result.size out.new) }
 {
-    let mut board = [0u64; 2817];
+    // fixed rooms, whatever the feed: nothing is put on the heap
+    let mut board = [0u64; WORDS_OF_A_BOARD];
     let mut held = [0u8; LONGEST_LINE];
     let mut block = io::large_buffer();
     let day = read_all(source, name, &mut block, &mut board, &mut held);
@@ -166,6 +168,7 @@ pub fn say(name: &[u8], word: &[u8]) {
 
 // Reads the feed and hands its report to standard output, which the caller brings. Where a read fails before a byte came, there is nothing to report.
 pub fn run(source: &Source, name: &[u8], to: &Target) {
+    // a fixed room: no report is longer
     let mut out = [0u8; LONGEST_REPORT];
     let reported = report(source, name, &mut out);
     if reported.day.input.is_barren() {

@@ -176,6 +176,7 @@ pub(crate) fn go_over(
     requires told { Told volume.size (Ok day) }
     ensures { Passed volume.size day writes result }
 {
+    // fixed rooms, whatever the file: nothing is put on the heap
     let mut lines = [0u8; LINES];
     let mut index = [0u8; INDEX];
     go_on(volume, name, day, writes, &mut lines, &mut index, file, to)

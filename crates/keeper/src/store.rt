@@ -59,7 +59,7 @@ fn put_part(name: &[u8], out: &mut [u8]) -> usize
     n + 5
 }
 
-// 1 where the feed ended inside a line that was looked for, else 0.
+// 1 where the feed ended inside a line that was looked for, else 0. (What is known of an outcome is the clause of `keep_feed`, which makes the only one.)
 fn unended(outcome: Outcome) -> usize
     requires { Done outcome }
     ensures { outcome.work.keep.lines + result < 2 ^ 64 }

@@ -118,6 +118,7 @@ fn close(name: &[u8], offsets: &[u32], work: Work, to: &Target) -> Shelf
     let place = work.keep.place;
     let count = place.count;
     let size = 4 * count + 8;
+    // a fixed room: no index is longer
     let mut closing = [0u8; CLOSING];
     put_index(&offsets[..count], &mut closing, 0);
     put_trailer(version_1(), place, &mut closing, 4 * count);
@@ -130,6 +131,7 @@ pub(crate) fn keep_feed(source: &Source, name: &[u8], shelf: Shelf, to: &Target)
     ensures { Done result }
 {
     let mut block = io::large_buffer();
+    // fixed rooms, whatever the feed: nothing is put on the heap
     let mut held = [0u8; LONGEST_LINE];
     let mut out = [0u8; BROUGHT];
     let mut offsets = [0u32; MOST_LINES];

@@ -76,6 +76,7 @@ fn moment_of(s: &[u8]) -> Option<Moment>
 pub fn stamp_moment(stamp: Stamp) -> Option<Moment>
     ensures { result ≡ moment_in stamp.0 }
 {
+    // a fixed room: nothing is put on the heap
     let mut room = [0u8; 12];
     let n = show(stamp.0, &mut room);
     moment_of(&room[..n])
@@ -118,6 +119,7 @@ fn minutes_of(s: &[u8]) -> Option<(i64, i64)>
 pub fn position_minutes(position: Position) -> Option<(i64, i64)>
     ensures { result ≡ minutes_in position.0 }
 {
+    // a fixed room: nothing is put on the heap
     let mut room = [0u8; 12];
     let n = show(position.0, &mut room);
     minutes_of(&room[..n])
@@ -143,6 +145,7 @@ pub fn level_numbers(level: Level) -> Option<Levels>
     ensures value { result ≡ levels_in level.0 }
     ensures tells_in { TellsIn level.0 result }
 {
+    // a fixed room: nothing is put on the heap
     let mut room = [0u8; 12];
     let n = show(level.0, &mut room);
     levels_of(&room[..n])

@@ -1,4 +1,5 @@
-// The line of one row of the board: how long it is, and written.
+// The line of one row of the board: how long it is, and written. (That a word is a text's is said by each function: it comes out of the lent board, where
+// no word has a type.)
 ghost use Rattle.std.specs.Prelude.{◌≡◌, true, [], ◌∷◌, ◌++◌, ◌+◌, ◌≤◌, length, drop};
 ghost use Rattle.text.specs.Text.{is_packed, spliced};
 ghost use Rattle.board.specs.Row.{row_of, is_row_words};

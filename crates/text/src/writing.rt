@@ -99,6 +99,7 @@ pub fn put_bytes(s: &[u8], out: &mut [u8], at: usize) -> Result<usize, NotWritte
 pub fn join(a: u64, b: u64) -> Option<u64>
     ensures { result ≡ join_of a b }
 {
+    // a fixed room: nothing is put on the heap
     let mut room = [0u8; 12];
     let Ok(n) = put(a, &mut room, 0) else {
         return None;

@@ -54,6 +54,7 @@ fn size_field(kind: u8, trace: u8, marks: u8, v: Value, route: &[u8]) -> Option<
     if kinds::plain(kind, trace) == ROUTE {
         return size_route(kind, trace, marks, v, route);
     }
+    // a fixed room: nothing is put on the heap
     let mut room = [0u8; 12];
     let written = put_field(kind, trace, v, route, &mut room, 0);
     match written {
