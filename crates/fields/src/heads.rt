@@ -11,7 +11,7 @@ use text::writing::put_bytes;
 fn joined(a: u8, b: u8, c: u8, d: u8) -> u32
     ensures { result ≡ a * 16777216 + b * 65536 + c * 256 + d }
 {
-    (a as u32) * 16777216 + (b as u32) * 65536 + (c as u32) * 256 + (d as u32)
+    u32::from_be_bytes([a, b, c, d])
 }
 
 // No four bytes make a greater number.
@@ -36,13 +36,7 @@ impl Facility {
         requires { self.0 < 256 ^ 4 }
         ensures { result ≡ facility_text self.0 }
     {
-        let n = self.0;
-        [
-            (n / 16777216 % 256) as u8,
-            (n / 65536 % 256) as u8,
-            (n / 256 % 256) as u8,
-            (n % 256) as u8,
-        ]
+        (self.0 as u32).to_be_bytes()
     }
 
     pub fn holds(self) -> bool
@@ -79,25 +73,25 @@ pub enum MessageType {
 }
 
 // The two letters of each type, as a number to the base 256.
-const AF: u32 = 0x4146;
+const AF: u16 = 0x4146;
 
-const AZ: u32 = 0x415A;
+const AZ: u16 = 0x415A;
 
-const DZ: u32 = 0x445A;
+const DZ: u16 = 0x445A;
 
-const FZ: u32 = 0x465A;
+const FZ: u16 = 0x465A;
 
-const RZ: u32 = 0x525A;
+const RZ: u16 = 0x525A;
 
-const TZ: u32 = 0x545A;
+const TZ: u16 = 0x545A;
 
-const UZ: u32 = 0x555A;
+const UZ: u16 = 0x555A;
 
-const RT: u32 = 0x5254;
+const RT: u16 = 0x5254;
 
-const TO: u32 = 0x544F;
+const TO: u16 = 0x544F;
 
-const HB: u32 = 0x4842;
+const HB: u16 = 0x4842;
 
 // (Not `TryFrom` and `From`: what they promise would stand in a ghost member and not at the function, and `read` is promised by its name.)
 impl MessageType {
@@ -107,7 +101,7 @@ impl MessageType {
         if s.len() != 2 {
             return None;
         }
-        let letters = joined(0, 0, s[0], s[1]);
+        let letters = u16::from_be_bytes([s[0], s[1]]);
         match letters {
             AF => Some(MessageType::Af),
             AZ => Some(MessageType::Az),
@@ -123,7 +117,7 @@ impl MessageType {
         }
     }
 
-    fn letters(self) -> u32
+    fn letters(self) -> u16
         ensures { result ≡ type_number self }
     {
         match self {
@@ -145,8 +139,7 @@ impl MessageType {
         ensures value { result ≡ written_next true (type_text self) out.old at }
         ensures out_after { out.new ≡ written_bytes true (type_text self) out.old at }
     {
-        let n = self.letters();
-        let letters = [(n / 256 % 256) as u8, (n % 256) as u8];
+        let letters = self.letters().to_be_bytes();
         put_bytes(&letters, out, at)
     }
 }

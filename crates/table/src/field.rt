@@ -15,7 +15,9 @@ use crate::kinds::{
 };
 use fields::aircraft::Aircraft;
 use fields::idents::Ident;
+use fields::plan::Time;
 use fields::words;
+use fields::words::Worded;
 use text::NotWritten;
 use text::writing::put_bytes;
 
@@ -91,14 +93,17 @@ fn read_number(marks: u8, s: &[u8]) -> Result<Value, NotRead>
     Ok(Value::word(mark as u64))
 }
 
-// The time of FZ and UZ: the E rule, and its own form.
+// The time of FZ and UZ: its own form first, then the E rule.
 fn read_plan_time(trace: u8, s: &[u8]) -> Result<Value, NotRead>
     ensures { result ≡ read_in PLAN_TIME trace 0 s.now }
 {
+    let Some(time) = Time::read(s) else {
+        return Err(NotRead::Nothing);
+    };
     if !kinds::follows(PLAN_TIME, trace, 0, s) {
         return Err(NotRead::Nothing);
     }
-    read_word(rules::TIME, s)
+    Ok(Value::word(time.0))
 }
 
 // A field after the trace of the one before it, and the marks set so far.
