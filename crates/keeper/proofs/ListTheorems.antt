@@ -125,7 +125,7 @@ pub judges_silently : (κs : _) (a : _) (r : _) (s : _) → go-over.Post κs a r
 judges_silently κs a r s p e = (p.passing.silent e).0
 
 pub lists_what_opens : (κs : _) (a : _) → list.Pre κs a → (file : List ℕ) × (length file ≡ a.0.size) × (open_of version1 file ≡ Ok a.1.1.0)
-lists_what_opens κs a p = let j = p.1 in (j.file, j.sized, sym j.answer)
+lists_what_opens κs a p = let j = p in (j.file, j.sized, sym j.answer)
 
 -- ---- IF ALL WAS READ AND PUT AWAY, and judged as it was before, as many bytes went out as the lines have of a file of this size that opens
 

@@ -1,6 +1,6 @@
 // The work of `desk lines NAME`: first a pass over the file's windows that judges it as `dayfile::open` would; then, if it opens, a second one that judges again and
 // puts the lines away.
-ghost use Rattle.std.specs.Prelude.{◌≡◌, true, ◌-◌, ◌^◌, ◌≤◌, ◌<◌, length, Ok};
+ghost use Rattle.std.specs.Prelude.{◌≡◌, true, ◌-◌, ◌≤◌, length, Ok};
 ghost use Rattle.dayfile.specs.DayFile.{version1};
 ghost use Rattle.dayfile.specs.Opening.{open_by};
 ghost use Rattle.keeper.specs.Lists.{ReadFrom, Judged, verdict_of};
@@ -32,8 +32,7 @@ pub(crate) fn open_end(size: usize, end: Filled, tail: &[u8]) -> Result<Contents
 
 // What a file's size and its last bytes tell: 20 to 22. The bytes are left in `tail`.
 pub(crate) fn look_at_end(volume: Volume, name: &[u8], tail: &mut [u8], file: &File) -> Looked
-    requires size_bound { volume.size < 2 ^ 63 }
-    requires tail_len { length tail.old ≡ 8 }
+    requires { length tail.old ≡ 8 }
     ensures { result.read ≡ true → result.opened ≡ open_by version1 volume.size tail.new }
 {
     let size = volume.size();
@@ -70,7 +69,6 @@ fn verdict(day: Contents, pass: Pass) -> Result<Contents, NotOpened>
 
 // What `dayfile::open` answers to the whole file, by its windows.
 pub(crate) fn look(volume: Volume, name: &[u8], file: &File, to: &Target) -> Looked
-    requires { volume.size < 2 ^ 63 }
     ensures { result.read ≡ true → Judged volume.size result.opened }
 {
     let mut tail = [0u8; 8];
@@ -92,8 +90,7 @@ pub(crate) fn look(volume: Volume, name: &[u8], file: &File, to: &Target) -> Loo
 
 // Puts the lines of a file that opens away, each judged again as it is read.
 pub(crate) fn list(volume: Volume, name: &[u8], day: Contents, file: &File, to: &Target)
-    requires size_bound { volume.size < 2 ^ 63 }
-    requires judged { Judged volume.size (Ok day) }
+    requires { Judged volume.size (Ok day) }
 {
     let pass = go_over(volume, name, day, true, file, to);
     if !pass.read {
@@ -108,9 +105,7 @@ pub(crate) fn list(volume: Volume, name: &[u8], day: Contents, file: &File, to: 
 }
 
 // The lines of a file that opens; the number and the sentence of one that does not.
-fn answer(volume: Volume, name: &[u8], file: &File, to: &Target)
-    requires { volume.size < 2 ^ 63 }
-{
+fn answer(volume: Volume, name: &[u8], file: &File, to: &Target) {
     let looked = look(volume, name, file, to);
     if !looked.read {
         return;

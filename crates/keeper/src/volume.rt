@@ -25,6 +25,7 @@ pub struct Volume {
     fd: i32,
     size: usize,
     whole: bool,
+    ghost fits: { size < 2 ^ 63 },
 }
 
 // A window that was read: from which place of the file on, how many bytes, and whether all came. Nothing outside this file can make one.
@@ -56,9 +57,7 @@ fn read_from(file: &File, fd: i32, window: &mut [u8], place: u64) -> Result<usiz
 
 impl Volume {
     // A file that cannot be read from any place.
-    fn unmeasured(fd: i32, name: &[u8], error: &Error) -> Volume
-        ensures { result.size < 2 ^ 63 }
-    {
+    fn unmeasured(fd: i32, name: &[u8], error: &Error) -> Volume {
         fail(name, error);
         Volume {
             fd,
@@ -68,9 +67,7 @@ impl Volume {
     }
 
     // How long the file is. One that has no places, as a pipe, or no bytes, as a directory, says so by its first byte.
-    pub(crate) fn measure(file: &File, name: &[u8]) -> Volume
-        ensures { result.size < 2 ^ 63 }
-    {
+    pub(crate) fn measure(file: &File, name: &[u8]) -> Volume {
         let fd = file.as_raw_fd();
         let mut first = [0u8; 1];
         if let Err(error) = file.read_at(&mut first, 0) {

@@ -5,4 +5,4 @@ use Rattle.keeper.proofs.lists.answer.Goals as goal
 pub list-requires : goal.list-requires
 list-requires c =
     let l = c.look-looked in
-    record { size_bound = c.requires; judged = rw c.in-Ok.is at (l.ensures (not-false _ c.if-not-looked.false)) }
+    rw c.in-Ok.is at (l.ensures (not-false _ c.if-not-looked.false))

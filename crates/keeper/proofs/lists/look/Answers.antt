@@ -15,7 +15,7 @@ returns-in_default c = λ e. let l = c.look_at_end-told in told_judged (told_by_
 pub go_over-pass-requires : goal.go_over-pass-requires
 go_over-pass-requires c =
     let l = c.look_at_end-told in
-    record { size_bound = c.requires; told = told_by_lem _ l.new.tail l.auto.tail (sym c.in-Ok.is ∙ l.ensures (not-false _ c.if-not-told.false)) }
+    told_by_lem _ l.new.tail l.auto.tail (sym c.in-Ok.is ∙ l.ensures (not-false _ c.if-not-told.false))
 
 pub returns : goal.returns
 returns c = λ e. let g = c.go_over-pass in rw c.verdict-opened.ensures (pass_judged g.result g.ensures e)

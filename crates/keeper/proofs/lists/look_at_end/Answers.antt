@@ -17,7 +17,7 @@ open_end-opened-requires c = let f = c.fill-end in
     let k = f.auto.window in
     record {
       le_size = (omega arith, (f.ensures.0, f.ensures.1 ∙ sym k, so c.is_filled.ensures c.if-not-is_filled.false-raw));
-      tail_len = k ∙ c.requires.tail_len;
+      tail_len = k ∙ c.requires;
     }
 
 pub returns : goal.returns
