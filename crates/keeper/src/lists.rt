@@ -118,8 +118,7 @@ fn answer(volume: Volume, name: &[u8], file: &File, to: &Target) {
 // Writes the lines of the day file that is named to standard output, which the caller brings.
 pub fn run<R: Files<File = File>>(rt: &R, name: &[u8], to: &Target) {
     if let Some(file) = open(rt, name) {
-        let volume = Volume::measure(&file, name);
-        if volume.is_whole() {
+        if let Some(volume) = Volume::measure(&file, name) {
             answer(volume, name, &file, to);
         }
     }
