@@ -1,6 +1,7 @@
 -- What the promises of `keeper` require on feeds and files written out, and so wrong files and answers that they do not allow. `Pre` is what `shelf::put_day` and
 -- `shelf::put_lines` ask for, `Post` what `work::keep_feed` and `lists::look` promise. Assumes nothing.
-use Rattle.std.specs.Prelude.{Err}
+use Rattle.std.specs.Prelude.{Err, IfSome}
+use Rattle.std.proofs.lemmas.Option.{IfSome_then}
 use Prim.Native.Nat.{ℕ}
 use mathlib.Core.Bool.{true}
 use mathlib.Core.List.{List, [], ◌∷◌, ◌++◌}
@@ -72,8 +73,8 @@ short : (file : List ℕ) → length file ≡ 7 → open_of version1 file ≡ Er
 unfolding open_of open_by trailer_size
 short file e = rw e
 
-pub opens_seven_bytes : (κs : _) (a : _) (r : _) (s : _) → look.Post κs a r s → r.read ≡ true → a.0.size ≡ 7 → r.opened ≡ Err TooShort
-opens_seven_bytes κs a r s p e f = let j = p e in j.answer ∙ short j.file (j.sized ∙ f)
+pub opens_seven_bytes : (κs : _) (a : _) (r : _) (s : _) → look.Post κs a r s → a.0.size ≡ 7 → IfSome r (λ o. o ≡ Err TooShort)
+opens_seven_bytes κs a r s p f = IfSome_then r p (λ o j. j.answer ∙ short j.file (j.sized ∙ f))
 
 -- ---- only whole lines are put away
 

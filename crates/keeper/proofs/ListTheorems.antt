@@ -1,6 +1,7 @@
 -- THE THEOREMS OF A DAY FILE'S LINES, about the promises as they stand in the source: `Pre` is what `shelf::put_lines`, `open_end`, `judge` and `list` ask for,
 -- `Post` what `look`, `look_at_end`, `turn` and `go_over` promise. The numbers in the statements are document 02's. Assumes nothing.
-use Rattle.std.specs.Prelude.{Ok, Result}
+use Rattle.std.specs.Prelude.{Ok, Result, IfSome}
+use Rattle.std.proofs.lemmas.Option.{IfSome_then}
 use mathlib.Core.Path.{◌≡◌, sym, ap, ◌∙◌}
 use mathlib.Core.Bool.{Bool, true, false}
 use mathlib.Core.List.{List, []}
@@ -40,15 +41,13 @@ pub record Answered (size : ℕ) (r : Result Contents NotOpened) : Type 0 where
   pub answer : r ≡ open_of version1 file
   pub number : OpenCase version1 file (open_number r)
 
-pub answered : (κs : _) (a : _) (r : _) (s : _) → look.Post κs a r s → r.read ≡ true → Answered a.0.size r.opened
-answered κs a r s p e =
-    let j = p e in
-    record { file = j.file; sized = j.sized; answer = j.answer; number = rw j.answer (open_case version1 j.file) }
+pub answered : (κs : _) (a : _) (r : _) (s : _) → look.Post κs a r s → IfSome r (λ o. Answered a.0.size o)
+answered κs a r s p = IfSome_then r p (λ o j. record { file = j.file; sized = j.sized; answer = j.answer; number = rw j.answer (open_case version1 j.file) })
 
 -- the last eight bytes, as they were left in the buffer: any file that ends in them is told so
-pub end_told : (κs : _) (a : _) (r : _) (s : _) → look-at-end.Post κs a r s → r.read ≡ true
-    → (file : List ℕ) → length file ≡ a.0.size → tail_of version1 file ≡ s.1.1.0.now → r.opened ≡ open_by version1 (length file) (tail_of version1 file)
-end_told κs a r s p e file n t = p e ∙ ap (λ (m : ℕ). open_by version1 m s.1.1.0.now) (sym n) ∙ ap (open_by version1 (length file)) (sym t)
+pub end_told : (κs : _) (a : _) (r : _) (s : _) → look-at-end.Post κs a r s
+    → (file : List ℕ) → length file ≡ a.0.size → tail_of version1 file ≡ s.1.1.0.now → IfSome r (λ o. o ≡ open_by version1 (length file) (tail_of version1 file))
+end_told κs a r s p file n t = IfSome_then r p (λ o e. e ∙ ap (λ (m : ℕ). open_by version1 m s.1.1.0.now) (sym n) ∙ ap (open_by version1 (length file)) (sym t))
 
 -- ---- EACH WINDOW THAT IS JUDGED WAS READ FROM ITS PLACE: the last bytes; the lines from where the pass stands; the index from its next offset
 
@@ -125,7 +124,7 @@ pub judges_silently : (κs : _) (a : _) (r : _) (s : _) → go-over.Post κs a r
 judges_silently κs a r s p e = (p.passing.silent e).0
 
 pub lists_what_opens : (κs : _) (a : _) → list.Pre κs a → (file : List ℕ) × (length file ≡ a.0.size) × (open_of version1 file ≡ Ok a.1.1.0)
-lists_what_opens κs a p = let j = p.1 in (j.file, j.sized, sym j.answer)
+lists_what_opens κs a p = let j = p in (j.file, j.sized, sym j.answer)
 
 -- ---- IF ALL WAS READ AND PUT AWAY, and judged as it was before, as many bytes went out as the lines have of a file of this size that opens
 

@@ -1,5 +1,5 @@
 // A pass over the windows of a day file, lines and index side by side: each is judged as it is read, and its lines are put away where the pass writes.
-ghost use Rattle.std.specs.Prelude.{◌≡◌, true, ◌+◌, ◌*◌, ◌^◌, ◌<◌, length, Ok};
+ghost use Rattle.std.specs.Prelude.{◌≡◌, true, ◌+◌, ◌*◌, ◌<◌, length, Ok};
 ghost use Rattle.dayfile.specs.Windows.{Wide};
 ghost use Rattle.keeper.specs.Lists.{LinesPiece, AfterLines, Puts, ReadFrom, Told, Passing, unread_of, Judges, Turns, goes_on, Passed};
 
@@ -86,7 +86,7 @@ pub(crate) fn turn(
     to: &Target,
 ) -> Pass
     requires passing { Passing volume.size day writes pass }
-    requires size_bound { (volume.size < 2 ^ 63) × (pass.shelf.live ≡ true) × (pass.sweep.lines < day.lines) }
+    requires to_go { (pass.shelf.live ≡ true) × (pass.sweep.lines < day.lines) }
     requires lines_len { (length lines.old ≡ 65536) × (length index.old ≡ 8192) }
     ensures { Turns volume.size day writes pass lines.new index.new result }
 {
@@ -142,7 +142,6 @@ fn go_on(
     file: &File,
     to: &Target,
 ) -> Pass
-    requires size_bound { volume.size < 2 ^ 63 }
     requires told { Told volume.size (Ok day) }
     requires lines_len { (length lines.old ≡ 65536) × (length index.old ≡ 8192) }
     ensures { Passed volume.size day writes result }
@@ -172,8 +171,7 @@ pub(crate) fn go_over(
     file: &File,
     to: &Target,
 ) -> Pass
-    requires size_bound { volume.size < 2 ^ 63 }
-    requires told { Told volume.size (Ok day) }
+    requires { Told volume.size (Ok day) }
     ensures { Passed volume.size day writes result }
 {
     // fixed rooms, whatever the file: nothing is put on the heap

@@ -18,13 +18,13 @@ const TOO_LARGE: i32 = 27;
 
 const NOT_OPEN: i32 = 9;
 
-// A file, by its number, how many bytes it has, and whether these can be read from any place. The file itself is lent to each read: what the specs
-// say of a window speaks of sizes, and a file that is borrowed here would give it a lifetime for one test that goes.
+// A file that can be read from any place, by its number, and how many bytes it has. The file itself is lent to each read: what the specs say of a window
+// speaks of sizes, and a file that is borrowed here would give it a lifetime for one test that goes.
 #[derive(Clone, Copy)]
 pub struct Volume {
     fd: i32,
     size: usize,
-    whole: bool,
+    ghost fits: { size < 2 ^ 63 },
 }
 
 // A window that was read: from which place of the file on, how many bytes, and whether all came. Nothing outside this file can make one.
@@ -55,52 +55,35 @@ fn read_from(file: &File, fd: i32, window: &mut [u8], place: u64) -> Result<usiz
 }
 
 impl Volume {
-    // A file that cannot be read from any place.
-    fn unmeasured(fd: i32, name: &[u8], error: &Error) -> Volume
-        ensures { result.size < 2 ^ 63 }
-    {
-        fail(name, error);
-        Volume {
-            fd,
-            size: 0,
-            whole: false,
-        }
-    }
-
-    // How long the file is. One that has no places, as a pipe, or no bytes, as a directory, says so by its first byte.
-    pub(crate) fn measure(file: &File, name: &[u8]) -> Volume
-        ensures { result.size < 2 ^ 63 }
-    {
-        let fd = file.as_raw_fd();
+    // How long the file is. One that has no places, as a pipe, or no bytes, as a directory, says so by its first byte: None, and that is told.
+    pub(crate) fn measure(file: &File, name: &[u8]) -> Option<Volume> {
         let mut first = [0u8; 1];
         if let Err(error) = file.read_at(&mut first, 0) {
-            return Volume::unmeasured(fd, name, &error);
+            fail(name, &error);
+            return None;
         }
         let mut places = file;
         let end = match places.seek(SeekFrom::End(0)) {
             Ok(end) => end,
-            Err(error) => return Volume::unmeasured(fd, name, &error),
+            Err(error) => {
+                fail(name, &error);
+                return None;
+            }
         };
         if end > LONGEST_FILE {
-            return Volume::unmeasured(fd, name, &Error::from_raw_os_error(TOO_LARGE));
+            fail(name, &Error::from_raw_os_error(TOO_LARGE));
+            return None;
         }
-        Volume {
-            fd,
+        Some(Volume {
+            fd: file.as_raw_fd(),
             size: end as usize,
-            whole: true,
-        }
+        })
     }
 
     pub(crate) fn size(self) -> usize
         ensures { result ≡ self.size }
     {
         self.size
-    }
-
-    pub(crate) fn is_whole(self) -> bool
-        ensures { result ≡ self.whole }
-    {
-        self.whole
     }
 
     // Fills the window with the file's bytes from place `from` on. Where they cannot be read, or are not there any more, it says so.

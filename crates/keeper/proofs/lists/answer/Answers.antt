@@ -1,8 +1,5 @@
 -- `answer` meets its contract. Assumes nothing.
-use borrow.Author.Tests.{not-false}
 use Rattle.keeper.proofs.lists.answer.Goals as goal
 
 pub list-requires : goal.list-requires
-list-requires c =
-    let l = c.look-looked in
-    record { size_bound = c.requires; judged = rw c.in-Ok.is at (l.ensures (not-false _ c.if-not-looked.false)) }
+list-requires c = rw c.in-Ok.is at c.in-Some.ensures

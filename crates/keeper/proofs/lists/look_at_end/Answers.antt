@@ -1,24 +1,21 @@
 -- `look_at_end` meets its contract. Assumes nothing.
 use mathlib.Core.Path.{refl, sym, ◌∙◌}
 use native.Mathlib.Omega.{arith}
-use Rattle.text.proofs.Logic.{so, true_false}
+use Rattle.text.proofs.Logic.{so}
 use Rattle.dayfile.specs.DayFile.{version1}
 use Rattle.keeper.proofs.Looks.{end_short, end_told}
 use Rattle.keeper.proofs.lists.look_at_end.Goals as goal
 
 pub returns-then-size-lt8 : goal.returns-then-size-lt8
-returns-then-size-lt8 c = λ e. end_short _ _ (omega arith)
+returns-then-size-lt8 c = end_short _ _ (omega arith)
 
-pub returns-then-not-is_filled : goal.returns-then-not-is_filled
-returns-then-not-is_filled c = λ e. true_false e refl
-
-pub open_end-opened-requires : goal.open_end-opened-requires
-open_end-opened-requires c = let f = c.fill-end in
+pub open_end-requires : goal.open_end-requires
+open_end-requires c = let f = c.fill-end in
     let k = f.auto.window in
     record {
       le_size = (omega arith, (f.ensures.0, f.ensures.1 ∙ sym k, so c.is_filled.ensures c.if-not-is_filled.false-raw));
-      tail_len = k ∙ c.requires.tail_len;
+      tail_len = k ∙ c.requires;
     }
 
 pub returns : goal.returns
-returns c = λ e. end_told version1 refl _ _ _ c.size-size.ensures c.open_end-opened.ensures
+returns c = end_told version1 refl _ _ _ c.size-size.ensures c.open_end.ensures

@@ -12,7 +12,7 @@ turn-pass-requires c =
     let a = l.0.ahead c.loop-on-test.true in
     record {
       passing = l.0.passing;
-      size_bound = (c.requires.size_bound, a.0, a.1);
+      to_go = a;
       lines_len = (l.1 ∙ c.requires.lines_len.0, l.2 ∙ c.requires.lines_len.1);
     }
 

@@ -14,19 +14,19 @@ pub fill-shown-requires : goal.fill-shown-requires
 fill-shown-requires c =
     let a = c.least-n in
     let v = c.requires.passing in
-    omega (arith, a.ensures, length-take-le a.result c.args.lines.now (omega (arith, a.ensures)), v.swept.inside, pass_size v, c.requires.size_bound)
+    omega (arith, a.ensures, length-take-le a.result c.args.lines.now (omega (arith, a.ensures)), v.swept.inside, pass_size v, c.args.volume.fits)
 
 pub returns-then-not-is_filled : goal.returns-then-not-is_filled
 returns-then-not-is_filled c = turn_unread c.requires.passing _ _ c.unread.ensures
 
 pub overflow_mul-day : goal.overflow_mul-day
-overflow_mul-day c = omega (arith, pass_size c.requires.passing, c.requires.size_bound)
+overflow_mul-day c = omega (arith, pass_size c.requires.passing, c.args.volume.fits)
 
 pub overflow_mul-place : goal.overflow_mul-place
-overflow_mul-place c = omega (arith, pass_size c.requires.passing, c.requires.passing.swept.fewer, c.requires.size_bound)
+overflow_mul-place c = omega (arith, pass_size c.requires.passing, c.requires.passing.swept.fewer, c.args.volume.fits)
 
 pub overflow_add-place : goal.overflow_add-place
-overflow_add-place c = omega (arith, pass_size c.requires.passing, c.requires.passing.swept.fewer, c.requires.size_bound)
+overflow_add-place c = omega (arith, pass_size c.requires.passing, c.requires.passing.swept.fewer, c.args.volume.fits)
 
 pub slice_bounds-fill-end-4 : goal.slice_bounds-fill-end-4
 slice_bounds-fill-end-4 c = sym (length-take-le _ _ (omega (arith, c.least-m.ensures)))
@@ -34,7 +34,7 @@ slice_bounds-fill-end-4 c = sym (length-take-le _ _ (omega (arith, c.least-m.ens
 pub fill-beside-requires : goal.fill-beside-requires
 fill-beside-requires c =
     let b = c.least-m in
-    omega (arith, b.ensures, length-take-le b.result c.args.index.now (omega (arith, b.ensures)), pass_size c.requires.passing, c.requires.size_bound)
+    omega (arith, b.ensures, length-take-le b.result c.args.index.now (omega (arith, b.ensures)), pass_size c.requires.passing, c.args.volume.fits)
 
 pub returns-then-not-is_filled-2 : goal.returns-then-not-is_filled-2
 returns-then-not-is_filled-2 c = turn_unread c.requires.passing _ _ c.unread-then-not-is_filled-2.ensures
@@ -54,10 +54,10 @@ judge-requires c =
     let x = f.new.window in
     let y = g.new.window in
     record {
-      wide = windows_wide c.requires.passing c.args.lines.now c.args.index.now x y a.result b.result a.ensures b.ensures f.auto.window g.auto.window c.requires.size_bound.0 c.requires.size_bound.2 c.requires.lines_len.0 c.requires.lines_len.1;
+      wide = windows_wide c.requires.passing c.args.lines.now c.args.index.now x y a.result b.result a.ensures b.ensures f.auto.window g.auto.window c.args.volume.fits c.requires.to_go.1 c.requires.lines_len.0 c.requires.lines_len.1;
       read_from = (f.ensures.0, f.ensures.1 ∙ s_same c.requires.passing c.args.lines.now c.args.index.now x y a.result b.result a.ensures b.ensures f.auto.window g.auto.window, so c.is_filled.ensures c.if-not-is_filled.false-raw);
       read_from_2 = (g.ensures.0, g.ensures.1 ∙ i_same c.requires.passing c.args.lines.now c.args.index.now x y a.result b.result a.ensures b.ensures f.auto.window g.auto.window, so c.is_filled-2.ensures c.if-not-is_filled-2.false-raw);
-      after_lines = after_lines c.requires.passing c.requires.size_bound.1;
+      after_lines = after_lines c.requires.passing c.requires.to_go.0;
     }
 
 pub shape_of-lines : goal.shape_of-lines
@@ -71,4 +71,4 @@ returns c =
     let b = c.least-m in
     let x = f.new.window in
     let y = g.new.window in
-    turn_read c.requires.passing c.args.lines.now c.args.index.now x y a.result b.result a.ensures b.ensures f.auto.window g.auto.window c.requires.size_bound.1 c.judge.result c.judge.ensures
+    turn_read c.requires.passing c.args.lines.now c.args.index.now x y a.result b.result a.ensures b.ensures f.auto.window g.auto.window c.requires.to_go.0 c.judge.result c.judge.ensures
