@@ -1,4 +1,5 @@
-// A key looked for among rows by halves (request k): a look at the middle row leaves half of the rows, until one is left.
+// A key looked for among rows by halves (request k): a look at the middle row leaves half of the rows, until one is left. (Not by the library's search:
+// it wants the keys side by side, and these stand eleven words apart.)
 ghost use Rattle.std.specs.Prelude.{◌≡◌, true, ◌+◌, ◌*◌, ◌≤◌, ◌<◌, length, get_or};
 ghost use Rattle.board.specs.Board.{W, is_allowed};
 ghost use Rattle.board.specs.Halving.{half_from, Left};

@@ -28,7 +28,7 @@ fn arrival_at(words: &[u64], p: usize) -> Option<Arrival>
     })
 }
 
-// The track whose four words stand from p on; zeros are none.
+// The track whose four words stand from p on; zeros are none. (As for an arrival, but each part has a type of its own.)
 #[tactic(auto, unfolding(crate::specs::Row::track_of))]
 fn track_at(words: &[u64], p: usize) -> Option<Track>
     requires { p + 4 ≤ length words.now }

@@ -40,7 +40,7 @@ pub fn look(board: &[u64], key: Key) -> Row
     requires { is_allowed board.now ≡ true }
     ensures { result ≡ look_row key.0 (rows_of board.now) }
 {
-    let found = find(board, Key(key.0));
+    let found = find(board, key);
     match found {
         Found::At(i) => row_at(board, 1 + WORDS_OF_A_ROW * i),
         Found::Gap(_) => Row {
@@ -85,7 +85,7 @@ pub fn write(board: &mut [u64], row: Row) -> Result<(), Full>
     requires { (is_allowed board.old ≡ true) × (is_row row ≡ true) }
     ensures { Wrote board.old row result board.new }
 {
-    let found = find(board, Key(row.key.0));
+    let found = find(board, row.key);
     match found {
         Found::At(i) => {
             put_row(board, 1 + WORDS_OF_A_ROW * i, row);

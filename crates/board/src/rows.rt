@@ -54,7 +54,7 @@ fn is_arrival_at(words: &[u64], p: usize) -> bool
         && Stamp(words[p + 3]).holds()
 }
 
-// Four words of a track such as a line could give, or of none.
+// Four words of a track such as a line could give, or of none. (As for an arrival, but each part has a type of its own.)
 #[tactic(auto, unfolding(crate::specs::Row::is_track_words))]
 fn is_track_at(words: &[u64], p: usize) -> bool
     requires { p + 4 ≤ length words.now }

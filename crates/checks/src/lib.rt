@@ -108,7 +108,7 @@ fn judge_new(line: &[u8]) -> Verdict
     }
 }
 
-// The same of a line of the old feed.
+// The same of a line of the old feed. (Two functions: the messages are of two types.)
 fn judge_old(line: &[u8]) -> Verdict
     ensures { result ≡ verdict_by (read_by Old line.now) }
 {
@@ -226,6 +226,7 @@ pub fn check(held: &mut [u8], asked: Asked, sums: Sums, part: &[u8], out: &mut [
     let mut now = sums;
     let mut rest = part;
     let mut at = 0;
+    // how far a turn comes its line decides, so it is a `while`
     while !rest.is_empty() {
         let turn = step(held, asked, now, rest, out, at);
         now = turn.sums;

@@ -12,7 +12,8 @@ use shapes::find;
 use shapes::sweeps::find_far;
 use text::writing::put_bytes;
 
-// How much of the buffer is the begun line; or the mark that it is overlong, which stands in place of its bytes.
+// How much of the buffer is the begun line; or the mark that it is overlong, which stands in place of its bytes. (No
+// Option: an overlong line is begun too, and is told as 2 when it ends.)
 #[derive(Clone, Copy)]
 pub enum Begun {
     Held(usize),

@@ -42,7 +42,7 @@ pub fn put(kind: u8, t: u64, out: &mut [u8], at: usize) -> Result<usize, NotWrit
 }
 
 // A type whose values are the words of one kind. It says which kind, and how a value and its word are made of each other;
-// what is asked of all such types alike is written here.
+// what is asked of all such types alike is written here. (The `impl` at each type is alike but for the kind; one that a macro writes has no ghost members.)
 pub trait Worded: Copy {
     const KIND: u8;
 

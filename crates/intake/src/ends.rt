@@ -17,6 +17,7 @@ pub enum Source {
     Named(File),
 }
 
+// (An enum of its own: what is read is no target, and what is written no source.)
 #[derive(Drop)]
 pub enum Target {
     Standard(Stdout),

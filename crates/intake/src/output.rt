@@ -36,7 +36,7 @@ impl Output {
         }
     }
 
-    // A write failed, or more bytes than any self has.
+    // A write failed, or more bytes than any output has.
     fn closed(self) -> Output
         ensures { result.live ≡ false }
     {

@@ -49,6 +49,7 @@ fn read_new_head(line: &[u8]) -> Result<Head, Refusal>
     })
 }
 
+// (A function for each rule: the heads have other parts.)
 fn read_old_head(line: &[u8]) -> Result<Head, Refusal>
     requires { head_length Old ≤ length line.now }
     ensures { result ≡ head_of Old line.now }

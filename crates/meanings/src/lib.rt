@@ -91,6 +91,7 @@ fn in_minutes(n: u64) -> u64
     n / 100 * 60 + n % 100
 }
 
+// (The flag is the sign, and chooses nothing else.)
 fn signed(positive: bool, n: u64) -> i64
     requires { n ≤ 10899 }
     ensures { result ≡ signed_by positive n }

@@ -24,6 +24,7 @@ fn amendment(number: Value, content: Value) -> Amendment
     }
 }
 
+// (A function for each type of body: they differ in which fields there are, and are nothing else.)
 fn af_from(marks: u8, w: [Value; 19]) -> Af
     ensures { result ≡ af_from marks w }
 {

@@ -57,7 +57,7 @@ impl From<NotListed> for NotStruck {
     }
 }
 
-// A DZ writes the arrival entry and empties the track.
+// A DZ writes the arrival entry and empties the track. (Three functions for three types of line: each writes another part of the row, and says so.)
 fn put_dz(board: &mut [u64], key: Key, entry: Arrival) -> Result<(), NotTaken>
     requires board_value { is_allowed board.old ≡ true }
     requires key_value { is_word KEY key.0 ≡ true }

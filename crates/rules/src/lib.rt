@@ -22,7 +22,7 @@ pub enum Rule {
     Old,
 }
 
-// The kinds of fields that are held as their text. (B, H, I, J, R, W and Z are left for what is no such field.)
+// The kinds of fields that are held as their text, each a letter and no enum: the definitions speak of lists of letters, the rows of document 01's table. (B, H, I, J, R, W and Z are left for what is no such field.)
 pub const SEQUENCE: u8 = b'Q';
 
 pub const STAMP: u8 = b'D';

@@ -31,7 +31,7 @@ pub const OLD_AIRCRAFT: u8 = b'z';
 
 pub const OLD_CONTENT: u8 = b'w';
 
-// The marks of the eight numbers of an amendment, a bit each.
+// The marks of the eight numbers of an amendment, a bit each: together they are a set in one byte, whose ones are counted.
 pub const MARK_02: u8 = 1;
 
 pub const MARK_03: u8 = 2;

@@ -100,6 +100,7 @@ fn put_new_head(sequence: u64, stamp: u64, facility: u64, kind: MessageType, out
     let _ = kind.put(&mut out[TYPE_AT..], 0);
 }
 
+// (A function for each rule: the heads have other parts.)
 fn put_old_head(sequence: u64, stamp: u64, center: u64, kind: MessageType, out: &mut [u8])
     requires { HeadAsks Old sequence stamp center out.old }
     ensures { out.new ≡ spliced out.old 0 (head_text Old sequence stamp center kind) }

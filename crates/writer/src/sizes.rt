@@ -144,6 +144,7 @@ fn holds_new(sequence: u64, stamp: u64, facility: u64) -> bool
     Sequence(sequence).holds() && Stamp(stamp).holds() && Facility(facility).holds()
 }
 
+// (A function for each rule: the heads have other parts.)
 fn holds_old(sequence: u64, stamp: u64, center: u64) -> bool
     ensures { result ≡ ((sequence_in Old).held sequence && (stamp_in Old).held stamp && (facility_in Old).held center) }
 {
