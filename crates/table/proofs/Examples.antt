@@ -32,6 +32,9 @@ use Rattle.table.specs.Read.{answer_of, answers, counted, answer_from, route_in,
 use Rattle.table.specs.Spacing.{ended, fields_of}
 use Rattle.table.specs.Table.{is_count, table_by, dotted, kinds_of, count_in, answer_by, route_by, count_with}
 use Rattle.table.specs.declared.walk.Fault.TheVariants.{Spacing, Field, Number}
+use Rattle.table.specs.declared.kinds.Value.{Value}
+use Rattle.table.proofs.kinds.Value.is_one.Reads as value-is-one
+use Rattle.table.proofs.kinds.Value.word.Reads as value-word
 use Rattle.table.proofs.field.put_field.Reads as put-field
 use Rattle.table.proofs.field_count.Reads as field-count
 use Rattle.table.proofs.has_fields.Reads as has-fields
@@ -318,3 +321,12 @@ pub route_any_bytes : (κs : _) (l : _) (x : _) (y : _) (n : _) (r : _) (s : _) 
     → x.now ≡ bytes "A B" → r ≡ Err NoText
 unfolding written_next is_value is_kind_value plain is_route all is_of
 route_any_bytes κs l x y n r s p e = p.0 ∙ ap (λ b. written_next (is_value ROUTE l b (valued 0 0 0)) (shown ROUTE l b (valued 0 0 0)) y.now n) e
+
+-- ---- values
+
+pub word_in_the_second_part : (κs : _) (r : _) (s : _) → value-word.Post κs (7, tt) r s → (r.a ≡ 7) × (r.b ≡ 0)
+word_in_the_second_part κs r s p = (ap (λ (v : Value). v.a) p, ap (λ (v : Value). v.b) p)
+
+pub pair_taken_for_one : (κs : _) (r : _) (s : _) → value-is-one.Post κs (record { a = 1; b = 2; c = 0 }, tt) r s → r ≡ false
+unfolding is_one
+pair_taken_for_one κs r s p = p

@@ -12,6 +12,8 @@ use Rattle.table.proofs.kinds.follows.Reads as follows
 use Rattle.table.proofs.kinds.trace.Reads as trace
 use Rattle.table.proofs.kinds.marks_after.Reads as marks_after
 use Rattle.table.proofs.kinds.plain.Reads as plain
+use Rattle.table.proofs.kinds.Value.is_one.Reads as value-is-one
+use Rattle.table.proofs.kinds.Value.word.Reads as value-word
 use Rattle.table.proofs.kinds_of.Reads as kinds-of
 use Rattle.table.proofs.read.Reads as read
 use Rattle.table.proofs.route.Reads as route
@@ -65,3 +67,11 @@ follows_one κs a r r' s s' p q = p ∙ sym q
 -- the answer, and every byte of the buffer
 pub put_field_one : (κs : _) (a : _) (r r' : _) (s s' : _) → put-field.Post κs a r s → put-field.Post κs a r' s' → (r ≡ r') × (s.1.1.1.1.0.now ≡ s'.1.1.1.1.0.now)
 put_field_one κs a r r' s s' p q = (p.0 ∙ sym q.0, p.1 ∙ sym q.1)
+
+-- ---- values
+
+pub value_word_one : (κs : _) (a : _) (r r' : _) (s s' : _) → value-word.Post κs a r s → value-word.Post κs a r' s' → r ≡ r'
+value_word_one κs a r r' s s' p q = p ∙ sym q
+
+pub value_is_one_one : (κs : _) (a : _) (r r' : _) (s s' : _) → value-is-one.Post κs a r s → value-is-one.Post κs a r' s' → r ≡ r'
+value_is_one_one κs a r r' s s' p q = p ∙ sym q
