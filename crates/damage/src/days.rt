@@ -34,6 +34,7 @@ fn widen(offsets: &[u32], words: &mut [u64]) {
 
 // Number, place and count after the line, the offsets, the buffer. The words are the offsets.
 pub(crate) fn keep_line(line: &[u8], out: &mut [u8], words: &mut [u64], at: usize, count: usize) {
+    // no heap: a fixed room
     let mut room = [0u32; 4096];
     let Some(offsets) = room.get_mut(..words.len()) else {
         return;
@@ -63,6 +64,7 @@ fn say_ended(ended: Result<usize, NotEnded>) {
 
 // Number, the file's length, the buffer. The words are the offsets.
 pub(crate) fn end_file(out: &mut [u8], words: &[u64], at: usize, count: usize) {
+    // no heap: a fixed room
     let mut room = [0u32; 4096];
     let Some(offsets) = room.get_mut(..words.len()) else {
         return;
@@ -83,6 +85,7 @@ fn count_up(offsets: &mut [u32], shifted: usize) {
 // So many empty lines, more than a case could bring, and room after them; the offset at one place is one too many. Number, the file's
 // length, the bytes after the lines.
 pub(crate) fn end_many(lines: usize, room: usize, shifted: usize) {
+    // no heap: fixed rooms
     let mut bytes = [10u8; 393216];
     let mut run = [0u32; 65537];
     if room > 327679 {

@@ -43,6 +43,7 @@ fn from_numbers(n: [u64; 8]) -> Asked {
 }
 
 fn read_words(given: usize, words: &mut [u64]) {
+    // no heap: a fixed room
     let mut room = [0u8; 32768];
     if given > 4096 {
         return;
@@ -77,6 +78,7 @@ fn call(asked: Asked, words: &mut [u64], first: &mut [u8], second: &mut [u8]) {
 
 // A case that is larger than these rooms is none.
 fn turn(asked: Asked) {
+    // no heap: fixed rooms
     let mut words = [0u64; 4096];
     let mut first = [0u8; 32768];
     let mut second = [0u8; 32768];
@@ -97,6 +99,7 @@ fn turn(asked: Asked) {
 
 // Whether there was one more.
 fn read_case() -> bool {
+    // no heap: fixed rooms
     let mut head = [0u8; 64];
     if io::read_full(STANDARD_INPUT, &mut head) < 64 {
         return false;

@@ -161,6 +161,7 @@ pub(crate) fn keep_part(
     let base = place.at;
     let mut now = keep;
     let mut used: usize = 0;
+    // how far a turn comes its line decides, so it is a `while`
     while used < part.len() {
         let turn = step(held, now, base, &part[used..], out, offsets);
         tell_turn(turn);

@@ -25,7 +25,7 @@ pub struct Pass {
     pub read: bool,
 }
 
-// A pass that only judges puts nothing away.
+// A pass that only judges puts nothing away. (A flag and no closure: the promises of both passes say by it what they put away.)
 fn put(writes: bool, shelf: Shelf, text: &[u8], to: &Target) -> Shelf
     requires { writes ≡ true → LinesPiece shelf.total text.now }
     ensures { Puts writes shelf (length text.now) result }
@@ -154,6 +154,7 @@ fn go_on(
         read: true,
     };
     let mut on = day.lines > 0;
+    // how many windows there are the lines decide, so it is a `while`
     while on {
         let before = pass.sweep.lines;
         pass = turn(volume, name, day, writes, pass, lines, index, file, to);

@@ -92,6 +92,7 @@ fn writes_back<F: FnOnce(&[u8], &mut [u8]) -> Result<usize, NotWritten>>(
 
 fn show(rule: Rule, body: Body, as_it_was: bool) {
     let kind = type_in(body);
+    // no heap: a fixed room
     let mut letters = [0u8; 2];
     answer(0, 0, b" ");
     let _ = kind.put(&mut letters, 0);
