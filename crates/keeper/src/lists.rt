@@ -37,10 +37,7 @@ pub(crate) fn look_at_end(
     if size < 8 {
         return Some(Err(NotOpened::TooShort));
     }
-    let end = volume.fill(name, size - 8, tail, file);
-    if !end.is_filled() {
-        return None;
-    }
+    let end = volume.fill(name, size - 8, tail, file)?;
     Some(open_end(size, end, &tail[..]))
 }
 

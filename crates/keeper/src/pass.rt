@@ -92,16 +92,14 @@ pub(crate) fn turn(
 {
     let sweep = pass.sweep;
     let n = least(day.start - sweep.at, lines.len());
-    let shown = volume.fill(name, sweep.at, &mut lines[..n], file);
-    if !shown.is_filled() {
+    let Some(shown) = volume.fill(name, sweep.at, &mut lines[..n], file) else {
         return unread(pass);
-    }
+    };
     let m = least(4 * (day.lines - sweep.lines), index.len());
     let place = day.start + 4 * sweep.lines;
-    let beside = volume.fill(name, place, &mut index[..m], file);
-    if !beside.is_filled() {
+    let Some(beside) = volume.fill(name, place, &mut index[..m], file) else {
         return unread(pass);
-    }
+    };
     judge(
         day,
         writes,

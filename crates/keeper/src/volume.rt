@@ -1,6 +1,6 @@
 // THE EDGE where a day file is read, by windows: the kit's contract of `read_at` says how many bytes came, and not which. That they are those of the file at that
 // place is its word, and these few lines are what is left to the eye. Nothing outside this file can make a `Volume`.
-ghost use Rattle.std.specs.Prelude.{◌≡◌, ◌+◌, ◌^◌, ◌<◌, length, IsOk};
+ghost use Rattle.std.specs.Prelude.{◌≡◌, ◌+◌, ◌^◌, ◌<◌, length, IsOk, IfSome};
 ghost use Rattle.std.specs.Fd.{file_raw_fd};
 ghost use Rattle.std.specs.Io.{ReadsAtMost};
 
@@ -27,20 +27,11 @@ pub struct Volume {
     ghost fits: { size < 2 ^ 63 },
 }
 
-// A window that was read: from which place of the file on, how many bytes, and whether all came. Nothing outside this file can make one.
+// A window that was read: from which place of the file on, and how many bytes, which all came. Nothing outside this file can make one.
 #[derive(Clone, Copy)]
 pub struct Filled {
     from: usize,
     size: usize,
-    whole: bool,
-}
-
-impl Filled {
-    pub(crate) fn is_filled(self) -> bool
-        ensures { result ≡ self.whole }
-    {
-        self.whole
-    }
 }
 
 // One read of the descriptor from a place. A file that has another descriptor is not open here.
@@ -86,39 +77,34 @@ impl Volume {
         self.size
     }
 
-    // Fills the window with the file's bytes from place `from` on. Where they cannot be read, or are not there any more, it says so.
-    pub(crate) fn fill(self, name: &[u8], from: usize, window: &mut [u8], file: &File) -> Filled
+    // Fills the window with the file's bytes from place `from` on. Where they cannot be read, or are not there any more, it says so: None.
+    pub(crate) fn fill(
+        self,
+        name: &[u8],
+        from: usize,
+        window: &mut [u8],
+        file: &File,
+    ) -> Option<Filled>
         requires { from + length window.old < 2 ^ 63 }
-        ensures { (result.from ≡ from) × (result.size ≡ length window.old) }
+        ensures { IfSome result (λ f. (f.from ≡ from) × (f.size ≡ length window.old)) }
     {
         let size = window.len();
-        let mut done: usize = 0;
-        while done < size {
-            let n = match read_from(file, self.fd, &mut window[done..], (from + done) as u64) {
+        let mut rest = &mut window[..];
+        while !rest.is_empty() {
+            let place = from + (size - rest.len());
+            let n = match read_from(file, self.fd, rest, place as u64) {
                 Ok(n) => n,
                 Err(error) => {
                     fail(name, &error);
-                    return Filled {
-                        from,
-                        size,
-                        whole: false,
-                    };
+                    return None;
                 }
             };
             if n == 0 {
                 intake::say(name, b"it ended while it was read");
-                return Filled {
-                    from,
-                    size,
-                    whole: false,
-                };
+                return None;
             }
-            done += n;
+            rest = &mut rest[n..];
         }
-        Filled {
-            from,
-            size,
-            whole: true,
-        }
+        Some(Filled { from, size })
     }
 }
