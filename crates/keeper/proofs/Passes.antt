@@ -245,47 +245,38 @@ module _ (c : Contents) (p : Pass) (s i : List ℕ) (w : Sweep) (k : Sweeps c p.
       let e : length (take (w.at - p.sweep.at) s) ≡ w.at - p.sweep.at = length-take-le (w.at - p.sweep.at) s used_inside in
       record { sweeps = k; puts = rw e at a; read = refl }
 
--- ---- window after window, as long as `on` says
+-- ---- window after window, until one brings no line more
 
-pub record Going (size : ℕ) (c : Contents) (writes : Bool) (p : Pass) (on : Bool) : Type 0 where
+-- before each turn
+pub record Going (size : ℕ) (c : Contents) (writes : Bool) (p : Pass) : Type 0 where
   pub passing : Passing size c writes p
-  pub ahead : on ≡ true → (p.shelf.live ≡ true) × (p.sweep.lines < c.lines)
-  pub ended : on ≡ false → p.read ≡ true → p.shelf.live ≡ true → (p.sweep.lines ≡ c.lines) ⊎ Judged size (Err WrongLines)
-
--- how many windows of each may still come, at most
-pub to_go : Contents → Pass → Bool → ℕ
-to_go c p on = cond on (suc (c.lines - p.sweep.lines)) 0
+  pub to_go : (p.shelf.live ≡ true) × (p.sweep.lines < c.lines)
 
 module _ {size : ℕ} {c : Contents} {writes : Bool} where
-  pub going_first : (s : Shelf) → Told size (Ok c) → (s.total ≡ 0) × (s.live ≡ true)
-      → Going size c writes (record { sweep = record { at = 0; lines = 0 }; shelf = s; read = true }) (ltb 0 c.lines)
-  going_first s t e = record {
-    passing = pass_first writes s t e;
-    ahead = λ q. (e.1, ltb-true 0 c.lines q);
-    ended = λ q r l. inl (omega (arith, ltb-false 0 c.lines q));
-  }
+  module _ (s : Shelf) (t : Told size (Ok c)) (e : (s.total ≡ 0) × (s.live ≡ true)) where
+    pub going_first : 0 < c.lines → Going size c writes (record { sweep = record { at = 0; lines = 0 }; shelf = s; read = true })
+    going_first h = record { passing = pass_first writes s t e; to_go = (e.1, h) }
 
-  module _ (p : Pass) {lines index : List ℕ} (p' : Pass) (t : Turns size c writes p lines index p') (on : Bool) (o : on ≡ goes_on c p.sweep.lines p') where
-    pub going_on : Going size c writes p' on
-    going_on = record {
+    -- a file of no lines takes no turn
+    pub pass_none : c.lines ≡ 0 → Passed size c writes (record { sweep = record { at = 0; lines = 0 }; shelf = s; read = true })
+    pass_none z = record { passing = pass_first writes s t e; ended = λ r l. inl (sym z) }
+
+  module _ (p : Pass) {lines index : List ℕ} (p' : Pass) (t : Turns size c writes p lines index p') where
+    module _ (on : goes_on c p.sweep.lines p' ≡ true) where
+      pub going_on : Going size c writes p'
+      going_on = let g = goes_on_lem c p.sweep.lines p' on in record { passing = t.passing; to_go = (g.live, g.short) }
+
+      pub less_to_go : c.lines - p'.sweep.lines < c.lines - p.sweep.lines
+      less_to_go =
+          let g = goes_on_lem c p.sweep.lines p' on in
+          let n : p.sweep.lines < p'.sweep.lines = lt_of_le_of_ne t.more (λ e. g.further (sym e)) in
+          omega (arith, g.short)
+
+    pub pass_ended : goes_on c p.sweep.lines p' ≡ false → Passed size c writes p'
+    pass_ended off = record {
       passing = t.passing;
-      ahead = λ e. let g = goes_on_lem c p.sweep.lines p' (sym o ∙ e) in (g.live, g.short);
-      ended = λ e r l. ⊎_elim (λ q. inr (t.stuck r q)) (λ q. inl (omega (arith, t.passing.swept.fewer))) (goes_no_further c p.sweep.lines p' (sym o ∙ e) r l);
+      ended = λ r l. ⊎_elim (λ q. inr (t.stuck r q)) (λ q. inl (omega (arith, t.passing.swept.fewer))) (goes_no_further c p.sweep.lines p' off r l);
     }
-
-    pub less_to_go : (was : Bool) → was ≡ true → to_go c p' on < to_go c p was
-    unfolding to_go
-    less_to_go was e = rw e (go on refl)
-      where
-        go : (b : Bool) → on ≡ b → cond on (suc (c.lines - p'.sweep.lines)) 0 < suc (c.lines - p.sweep.lines)
-        go true q =
-            let g = goes_on_lem c p.sweep.lines p' (sym o ∙ q) in
-            let n : p.sweep.lines < p'.sweep.lines = lt_of_le_of_ne t.more (λ e. g.further (sym e)) in
-            rw q (omega (arith, g.short))
-        go false q = rw q (omega arith)
-
-pub pass_ended : {size : ℕ} {c : Contents} {writes : Bool} {p : Pass} {on : Bool} → Going size c writes p on → on ≡ false → Passed size c writes p
-pass_ended g e = record { passing = g.passing; ended = g.ended e }
 
 -- ---- the answer
 

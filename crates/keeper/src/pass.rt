@@ -151,14 +151,16 @@ fn go_on(
         shelf,
         read: true,
     };
-    let mut on = day.lines > 0;
-    // how many windows there are the lines decide, so it is a `while`
-    while on {
+    if day.lines == 0 {
+        return pass;
+    }
+    loop {
         let before = pass.sweep.lines;
         pass = turn(volume, name, day, writes, pass, lines, index, file, to);
-        on = is_on(day, before, pass);
+        if !is_on(day, before, pass) {
+            return pass;
+        }
     }
-    pass
 }
 
 // The whole file in windows of its own.
