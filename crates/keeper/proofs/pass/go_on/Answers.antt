@@ -1,5 +1,5 @@
 -- `go_on` meets its contract: window after window, the pass stands where a file of that size would have it. Assumes nothing.
-use mathlib.Core.Path.{refl, sym, ◌∙◌}
+use mathlib.Core.Path.{refl, ◌∙◌}
 use native.Mathlib.Omega.{arith}
 use Rattle.text.proofs.Logic.{so, not_so}
 use Rattle.keeper.proofs.Passes.{going_first, going_on, less_to_go, pass_none, pass_ended}
