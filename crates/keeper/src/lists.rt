@@ -81,10 +81,7 @@ pub(crate) fn list(volume: Volume, name: &[u8], day: Contents, file: &File, to: 
     requires { Judged volume.size (Ok day) }
 {
     let pass = go_over(volume, name, day, true, file, to);
-    if !pass.read {
-        return;
-    }
-    if !pass.shelf.is_live() {
+    if !pass.read || !pass.shelf.is_live() {
         return;
     }
     if verdict(day, pass).is_err() {
