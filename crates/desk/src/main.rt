@@ -116,6 +116,8 @@ fn one_file<F: FnOnce(&[u8])>(rt: &HostRuntime, word: &[u8], help: &[u8], no_opt
     work(name);
 }
 
+// Its rooms are large: the other words run without them.
+#[inline(never)]
 fn keep(rt: &HostRuntime) {
     one_file(
         rt,

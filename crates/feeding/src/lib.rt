@@ -14,7 +14,7 @@ ghost use Rattle.feeding.specs.Cases.{FeedCase, outcome_of};
 
 use board::is_allowed;
 use cutter::{Begun, CutAnswer, cut, line};
-use planner::apply_allowed;
+use planner::{NotTaken, apply_allowed};
 
 // Why `feed` reads nothing: 13, the board or the state of the cutter is not allowed.
 #[derive(Clone, Copy, PartialEq, Eq)]
@@ -52,6 +52,7 @@ fn apply_line(board: &mut [u64], line: &[u8]) -> usize
     let answer = apply_allowed(board, line);
     match answer {
         Ok(()) => 1,
+        Err(NotTaken::Line(_)) => 0,
         Err(_) => 0,
     }
 }

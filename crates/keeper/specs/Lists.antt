@@ -32,9 +32,9 @@ pub record Puts (writes : Bool) (s : Shelf) (size : ℕ) (s' : Shelf) : Type 0 w
   pub still : writes ≡ false → s' ≡ s
   pub away : writes ≡ true → PutAway s size s'
 
--- the window s was read, from this place of the file on: a `Filled` is one whose bytes all came
+-- the window s was read, from this place of the file on, and all its bytes came
 abbrev pub ReadFrom : ℕ → List ℕ → Filled → Type 0
-ReadFrom place s f = (f.from ≡ place) × (f.size ≡ length s)
+ReadFrom place s f = (f.from ≡ place) × (f.size ≡ length s) × (f.came ≡ f.size)
 
 -- ---- the answer: that of `open` on a file of this size, whose windows were read
 pub record Judged (size : ℕ) (r : Result Contents NotOpened) : Type 0 where

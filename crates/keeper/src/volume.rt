@@ -27,11 +27,12 @@ pub struct Volume {
     ghost fits: { size < 2 ^ 63 },
 }
 
-// A window that was read: from which place of the file on, and how many bytes, which all came. Nothing outside this file can make one.
+// A window that was read: from which place of the file on, how many bytes it has, and how many came. Nothing outside this file can make one.
 #[derive(Clone, Copy)]
 pub struct Filled {
     from: usize,
     size: usize,
+    came: usize,
 }
 
 // One read of the descriptor from a place. A file that has another descriptor is not open here.
@@ -86,7 +87,7 @@ impl Volume {
         file: &File,
     ) -> Option<Filled>
         requires { from + length window.old < 2 ^ 63 }
-        ensures { IfSome result (λ f. (f.from ≡ from) × (f.size ≡ length window.old)) }
+        ensures { IfSome result (λ f. (f.from ≡ from) × (f.size ≡ length window.old) × (f.came ≡ f.size)) }
     {
         let size = window.len();
         let mut rest = &mut window[..];
@@ -105,6 +106,7 @@ impl Volume {
             }
             rest = &mut rest[n..];
         }
-        Some(Filled { from, size })
+        let came = size - rest.len();
+        Some(Filled { from, size, came })
     }
 }

@@ -50,26 +50,26 @@ pub overflow_add-i : goal.overflow_add-i
 overflow_add-i c = omega (arith, flights_few c.args.board.now c.requires.good)
 
 pub slice_bounds-put-count : goal.slice_bounds-put-count
-slice_bounds-put-count c = omega (arith, fits c.requires c.loop-i.auto.out c.loop-i.invariant c.loop-i-test.true)
+slice_bounds-put-count c = omega (arith, fits c.requires c.loop-i.auto.out c.loop-i.invariant (grind arith))
 
 pub slice_bounds-put-start : goal.slice_bounds-put-start
-slice_bounds-put-start c = omega (arith, fits c.requires c.loop-i.auto.out c.loop-i.invariant c.loop-i-test.true)
+slice_bounds-put-start c = omega (arith, fits c.requires c.loop-i.auto.out c.loop-i.invariant (grind arith))
 
 pub put-size-requires : goal.put-size-requires
 put-size-requires c =
     let l = c.args.board.now in
     record {
-      p_in_bounds = row_whole l c.requires.good c.loop-i.i c.loop-i-test.true;
-      board_value = row_good l c.requires.good c.loop-i.i c.loop-i-test.true;
-      board_in_bounds = rest_fits c.requires c.loop-i.auto.out c.loop-i.invariant c.loop-i-test.true;
+      p_in_bounds = row_whole l c.requires.good c.loop-i.i (grind arith);
+      board_value = row_good l c.requires.good c.loop-i.i (grind arith);
+      board_in_bounds = rest_fits c.requires c.loop-i.auto.out c.loop-i.invariant (grind arith);
     }
 
 pub overflow_add-next : goal.overflow_add-next
-overflow_add-next c = omega (arith, c.put-size.ensures.value, fits c.requires c.loop-i.auto.out c.loop-i.invariant c.loop-i-test.true)
+overflow_add-next c = omega (arith, c.put-size.ensures.value, fits c.requires c.loop-i.auto.out c.loop-i.invariant (grind arith))
 
 pub loop-i-preserved : goal.loop-i-preserved
 loop-i-preserved c =
-    again c.requires c.loop-i.auto.out c.loop-i.invariant c.loop-i-test.true c.put-size.ensures.value c.put-size.ensures.out_after
+    again c.requires c.loop-i.auto.out c.loop-i.invariant (grind arith) c.put-size.ensures.value c.put-size.ensures.out_after
 
 pub returns : goal.returns
-returns c = done c.requires c.loop-i.auto.out c.loop-i.invariant c.loop-i-test.false
+returns c = done c.requires c.loop-i.auto.out c.loop-i.invariant (grind arith)

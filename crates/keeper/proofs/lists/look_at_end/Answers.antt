@@ -13,7 +13,7 @@ open_end-requires c =
     let k = c.fill.auto.window in
     let f = c.in_ok-end.ensures in
     record {
-      le_size = (omega arith, (f.0, f.1 ∙ sym k));
+      le_size = (omega arith, (f.0, f.1 ∙ sym k, f.2));
       tail_len = k ∙ c.requires;
     }
 

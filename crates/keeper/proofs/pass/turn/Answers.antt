@@ -54,8 +54,8 @@ judge-requires c =
     let y = g.new.window in
     record {
       wide = windows_wide c.requires.passing c.args.lines.now c.args.index.now x y a.result b.result a.ensures b.ensures f.auto.window g.auto.window c.args.volume.fits c.requires.to_go.1 c.requires.lines_len.0 c.requires.lines_len.1;
-      read_from = (c.in-Some.ensures.0, c.in-Some.ensures.1 ∙ s_same c.requires.passing c.args.lines.now c.args.index.now x y a.result b.result a.ensures b.ensures f.auto.window g.auto.window);
-      read_from_2 = (c.in-Some-fill.ensures.0, c.in-Some-fill.ensures.1 ∙ i_same c.requires.passing c.args.lines.now c.args.index.now x y a.result b.result a.ensures b.ensures f.auto.window g.auto.window);
+      read_from = (c.in-Some.ensures.0, c.in-Some.ensures.1 ∙ s_same c.requires.passing c.args.lines.now c.args.index.now x y a.result b.result a.ensures b.ensures f.auto.window g.auto.window, c.in-Some.ensures.2);
+      read_from_2 = (c.in-Some-fill.ensures.0, c.in-Some-fill.ensures.1 ∙ i_same c.requires.passing c.args.lines.now c.args.index.now x y a.result b.result a.ensures b.ensures f.auto.window g.auto.window, c.in-Some-fill.ensures.2);
       after_lines = after_lines c.requires.passing c.requires.to_go.0;
     }
 
