@@ -59,6 +59,13 @@ pub windows_read : (κs : _) (a : _) → judge.Pre κs a
     × ReadFrom (a.0.start + 4 * a.1.1.0.sweep.lines) a.1.1.1.1.1.1.0.now a.1.1.1.1.1.0
 windows_read κs a p = (p.1.0, p.1.1.0)
 
+-- and as many bytes of it came as it has
+pub end_whole : (κs : _) (a : _) → open-end.Pre κs a → a.1.0.came ≡ a.1.0.size
+end_whole κs a p = p.0.1.2
+
+pub windows_whole : (κs : _) (a : _) → judge.Pre κs a → (a.1.1.1.0.came ≡ a.1.1.1.0.size) × (a.1.1.1.1.1.0.came ≡ a.1.1.1.1.1.0.size)
+windows_whole κs a p = (p.1.0.2, p.1.1.0.2)
+
 -- ---- TURN AFTER TURN, THE WINDOWS ANSWER WHAT `open` ANSWERS ON THE WHOLE FILE, whatever file shows them
 
 pub turn_promise : (κs : _) (a : _) (r : _) (s : _) → turn.Post κs a r s

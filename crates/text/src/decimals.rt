@@ -10,10 +10,11 @@ use crate::writing::has_room;
 pub fn size(n: u64) -> usize
     ensures { result ≡ length (decimal n) }
 {
-    match n.checked_ilog10() {
-        Some(k) => k as usize + 1,
-        None => 1,
+    // most numbers have one digit
+    if n < 10 {
+        return 1;
     }
+    n.ilog10() as usize + 1
 }
 
 // Writes the digits of n from place `at`, the last one first; without room it writes nothing.
